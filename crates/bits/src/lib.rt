@@ -1,0 +1,1 @@
+// Laws of bits, counts and remainders that the kit lacks; the crates above cite them. No code.

@@ -1,0 +1,160 @@
+-- What a signature's bits say, that words with disjoint signatures commute, and how a loop over set bits builds one. Assumes nothing.
+use mathlib.Core.Path.{_≡_, refl, sym, ap, ap₂, _∙_, subst}
+use mathlib.Core.Logic.{_⊎_, ⊎-elim}
+use mathlib.Core.List.{List}
+use Prim.Native.Nat.{ℕ, zero, suc, _+_, _-_, _*_, _/_, _%_, _^_, _≤_, _<_, min, max}
+use native.Mathlib.Nat.{zero-mul, one-mul, add-zero, add-suc, eq-or-lt-of-le, div-lt-iff-lt-mul}
+use native.Mathlib.Omega.{arith}
+use lib.Bits.{bitAnd, bitOr, or-comm, or-zero-r, or-self}
+use lib.Count.{trailingZeros}
+use lib.ListN.{getD}
+use Rattle.bits.specs.Remainder.{lt-or-ge}
+use Rattle.bits.specs.Digit.{Digit, off, on, max-one, min-none}
+use Rattle.bits.specs.Bit.{bit, bit-digit, bit-lt, bit-and, bit-or, bit-ext, bit-high, zero-bit, or-assoc, or-swap, pow-bit, pow-only, pow-other}
+use Rattle.bits.specs.LowestBit.{lowest-bit, trailing-lt}
+use Rattle.pauli.specs.Word.{xWord, zWord, IsWord, cross, common, symplectic}
+use Rattle.pauli.specs.Letter.{letterAt, other, acts}
+use Rattle.pauli.specs.Support.{bucket, signatureTo, signature}
+use Rattle.pauli.specs.ProductLaws.{common-comm, common-none}
+use Rattle.pauli.specs.LetterLaws.{acts-bit}
+
+pub bucket-lt : (l q : ℕ) → 0 < l → q < 64 * l → bucket l q < 64
+bucket-lt l q h b = div-lt-iff-lt-mul h .1 b
+
+other-digit : (c : ℕ) → Digit (other c)
+other-digit zero = off
+other-digit (suc c) = on
+
+-- ---- the bits of a signature
+
+module _ (l : ℕ) (p : List ℕ) where
+  acts-digit : (q : ℕ) → Digit (acts l p q)
+  acts-digit q = other-digit (letterAt l p q)
+
+  -- each qubit that is acted on sets its bucket's bit
+  pub signature-set : (n q : ℕ) → q < n → acts l p q ≡ 1 → bit (signatureTo l p n) (bucket l q) ≡ 1
+  unfolding signatureTo
+  signature-set zero q h a = absurd (omega arith)
+  signature-set (suc n) q h a =
+      bit-or (signatureTo l p n) (acts l p n * 2 ^ (n / l)) (q / l)
+      ∙ ⊎-elim
+      (λ (e : q ≡ n).
+      let one : bit (acts l p n * 2 ^ (n / l)) (q / l) ≡ 1 = rw (← e, a, one-mul) (pow-bit (q / l)) in
+      omega (arith, bit-lt (signatureTo l p n) (q / l)))
+      (λ (b : q < n). omega (arith, signature-set n q b a, bit-lt (acts l p n * 2 ^ (n / l)) (q / l)))
+      (eq-or-lt-of-le {n = q} {m = n} (omega arith))
+
+  -- and nothing else does
+  pub signature-only : (n b : ℕ) → bit (signatureTo l p n) b ≡ 1 → (q : ℕ) × (q < n) × (bucket l q ≡ b) × (acts l p q ≡ 1)
+  unfolding signatureTo
+  signature-only zero b h = absurd (omega (arith, zero-bit b))
+  signature-only (suc n) b h =
+      ⊎-elim
+      (λ (e : bit (signatureTo l p n) b ≡ 1). let r = signature-only n b e in (r .0, omega arith, r .2, r .3))
+      (λ (e : bit (acts l p n * 2 ^ (n / l)) b ≡ 1). here (acts-digit n) refl e)
+      (max-one (bit-digit (signatureTo l p n) b) (bit-digit _ b) (sym (bit-or (signatureTo l p n) (acts l p n * 2 ^ (n / l)) b) ∙ h))
+    where
+      here : {a : ℕ} → Digit a → acts l p n ≡ a → bit (a * 2 ^ (n / l)) b ≡ 1 → (q : ℕ) × (q < suc n) × (bucket l q ≡ b) × (acts l p q ≡ 1)
+      here off z e = let zero-is : bit 0 b ≡ 1 = rw zero-mul at e in absurd (omega (arith, zero-bit b))
+      here on z e = (n, omega arith, sym (pow-only (n / l) b (rw one-mul at e)), z)
+
+-- ---- disjoint signatures
+
+-- a set bit of either plane is a qubit that is acted on
+x-acts : (l : ℕ) (p : List ℕ) (j t : ℕ) → t < 64 → bit (xWord p j) t ≡ 1 → acts l p (64 * j + t) ≡ 1
+x-acts l p j t h e = acts-bit l p j t h ∙ bit-or (xWord p j) (zWord l p j) t ∙ omega (arith, bit-lt (zWord l p j) t)
+
+z-acts : (l : ℕ) (p : List ℕ) (j t : ℕ) → t < 64 → bit (zWord l p j) t ≡ 1 → acts l p (64 * j + t) ≡ 1
+z-acts l p j t h e = acts-bit l p j t h ∙ bit-or (xWord p j) (zWord l p j) t ∙ omega (arith, bit-lt (xWord p j) t)
+
+module _ (l : ℕ) (p q : List ℕ) (word : IsWord l p) (apart : bitAnd (signature l p) (signature l q) ≡ 0) where
+  -- no qubit is acted on by both
+  never : (i : ℕ) → i < 64 * l → acts l p i ≡ 1 → acts l q i ≡ 1 → ⊥
+  unfolding signature
+  never i h a b =
+      let e : bit (bitAnd (signature l p) (signature l q)) (i / l) ≡ 0 = ap (λ (n : ℕ). bit n (i / l)) apart ∙ zero-bit (i / l) in
+      omega (
+        arith,
+        sym (bit-and (signature l p) (signature l q) (i / l)) ∙ e,
+        signature-set l p (64 * l) i h a,
+        signature-set l q (64 * l) i h b,
+      )
+
+  -- two planes whose set bits are acted on have no bit in common
+  plane-none : (f g : ℕ → ℕ) → ((j : ℕ) → f j < 2 ^ 64)
+      → ((j t : ℕ) → t < 64 → bit (f j) t ≡ 1 → acts l p (64 * j + t) ≡ 1)
+      → ((j t : ℕ) → t < 64 → bit (g j) t ≡ 1 → acts l q (64 * j + t) ≡ 1) → common f g l ≡ 0
+  plane-none f g fit af ag =
+      common-none f g l (λ j b. bit-ext _ 0 (λ t. bit-and (f j) (g j) t ∙ ⊎-elim
+      (λ (lt : t < 64). min-none (bit-digit _ t) (bit-digit _ t) (λ u v. never (64 * j + t) (omega arith) (af j t lt u) (ag j t lt v)))
+      (λ (ge : 64 ≤ t). omega (arith, bit-high (f j) 64 t (fit j) ge))
+      (lt-or-ge t 64) ∙ sym (zero-bit t)))
+
+  pub disjoint-commute : symplectic l p q ≡ 0
+  unfolding symplectic
+  disjoint-commute =
+      omega (
+        arith,
+        plane-none (zWord l p) (xWord q) (λ j. word .fits (l + j)) (z-acts l p) (x-acts l q),
+        common-comm (zWord l q) (xWord p) l ∙ plane-none (xWord p) (zWord l q) (word .fits) (x-acts l p) (z-acts l q),
+      )
+
+-- ---- a word's part of a signature, by its set bits
+
+-- the buckets of the set bits among the first n of w, the j-th number of a plane
+unfoldable pub bucketsOf : ℕ → ℕ → ℕ → ℕ → ℕ
+bucketsOf l j w zero = 0
+bucketsOf l j w (suc n) = bitOr (bucketsOf l j w n) (bit w n * 2 ^ ((64 * j + n) / l))
+
+pub buckets-zero : (l j n : ℕ) → bucketsOf l j 0 n ≡ 0
+unfolding bucketsOf
+buckets-zero l j zero = refl
+buckets-zero l j (suc n) = rw (buckets-zero l j n, zero-bit n, zero-mul)
+
+max-mul : {x y : ℕ} (p : ℕ) → Digit x → Digit y → max x y * p ≡ bitOr (x * p) (y * p)
+max-mul p off off = simp zero-mul
+max-mul p off on = simp (zero-mul, one-mul)
+max-mul p on off = simp (zero-mul, one-mul) (sym (or-zero-r p))
+max-mul p on on = simp one-mul (sym (or-self p))
+
+buckets-or : (l j u v n : ℕ) → bucketsOf l j (bitOr u v) n ≡ bitOr (bucketsOf l j u n) (bucketsOf l j v n)
+unfolding bucketsOf
+buckets-or l j u v zero = refl
+buckets-or l j u v (suc n) =
+    rw (buckets-or l j u v n, bit-or u v n, max-mul (2 ^ ((64 * j + n) / l)) (bit-digit u n) (bit-digit v n)) (search or-swap)
+
+buckets-none : (l j t n : ℕ) → n ≤ t → bucketsOf l j (2 ^ t) n ≡ 0
+unfolding bucketsOf
+buckets-none l j t zero h = refl
+buckets-none l j t (suc n) h =
+    let z : bit (2 ^ t) n ≡ 0 = pow-other t n (omega arith) in
+    rw (buckets-none l j t n (omega arith), z, zero-mul)
+
+buckets-pow : (l j t n : ℕ) → t < n → bucketsOf l j (2 ^ t) n ≡ 2 ^ ((64 * j + t) / l)
+unfolding bucketsOf
+buckets-pow l j t zero h = absurd (omega arith)
+buckets-pow l j t (suc n) h =
+    ⊎-elim
+    (λ (e : t ≡ n). rw (← e, buckets-none l j t t (omega arith), pow-bit t, one-mul))
+    (λ (b : t < n). rw (buckets-pow l j t n b, pow-other t n (omega arith), zero-mul) (or-zero-r _))
+    (eq-or-lt-of-le {n = t} {m = n} (omega arith))
+
+-- the lowest set bit's bucket, and those of the others
+pub buckets-clear : (l j w s : ℕ) → 0 < w → w < 2 ^ 64
+    → bitOr (bitOr s (2 ^ ((64 * j + trailingZeros 64 w) / l))) (bucketsOf l j (bitAnd w (w - 1)) 64) ≡ bitOr s (bucketsOf l j w 64)
+buckets-clear l j w s p h =
+    let t = trailingZeros 64 w in
+    let rest = bitAnd w (w - 1) in
+    or-assoc s _ _ ∙ ap (bitOr s)
+    (or-comm _ (bucketsOf l j rest 64)
+    ∙ ap (bitOr (bucketsOf l j rest 64)) (sym (buckets-pow l j t 64 (trailing-lt 64 w p h)))
+    ∙ sym (buckets-or l j rest (2 ^ t) 64)
+    ∙ ap (λ (x : ℕ). bucketsOf l j x 64) (sym (lowest-bit 64 w p h)))
+
+-- a word more of each plane
+pub signature-word : (l : ℕ) (p : List ℕ) (j n : ℕ) → n ≤ 64
+    → signatureTo l p (64 * j + n) ≡ bitOr (signatureTo l p (64 * j)) (bucketsOf l j (bitOr (xWord p j) (zWord l p j)) n)
+unfolding signatureTo bucketsOf
+signature-word l p j zero h = rw (add-zero (64 * j)) (sym (or-zero-r _))
+signature-word l p j (suc n) h =
+    rw (add-suc (64 * j) n, signature-word l p j n (omega arith), acts-bit l p j n (omega arith)) (search or-assoc)

@@ -1,0 +1,1 @@
+// Packed Pauli words: l x-words, then l z-words.

@@ -1,0 +1,97 @@
+-- A loop that writes a slice from the front, one element a turn: after i turns the first i elements are those of the target t,
+-- the others still those of d. `mix t d i` is that list; a loop that goes down has `mix d t i`. Assumes nothing.
+use mathlib.Core.Path.{_≡_, refl, sym, ap, _∙_}
+use Prim.Native.Nat.{ℕ, zero, suc, _+_, _≤_, _<_}
+use native.Mathlib.Omega.{arith}
+use native.Mathlib.Nat.{le-of-suc-le-suc, not-suc-le-zero}
+use native.Mathlib.Numerals.{add-one}
+use mathlib.Core.List.{List, [], _∷_, _++_, append-nil}
+use lib.ListN.{length, getD, set, take, drop, replicate, length-take, length-append, length-drop, drop-of-length-le, length-replicate, getD-replicate}
+use lib.Seq.{take-all}
+
+unfoldable pub mix : List ℕ → List ℕ → ℕ → List ℕ
+mix t d i = take i t ++ drop i d
+
+pub mix-none : (t d : List ℕ) → mix t d 0 ≡ d
+unfolding mix
+mix-none t d = refl
+
+pub mix-all : (t d : List ℕ) (i : ℕ) → length t ≤ i → length d ≤ i → mix t d i ≡ t
+unfolding mix
+mix-all t d i h k = rw (take-all i t h, drop-of-length-le d k) (append-nil t)
+
+pub mix-length : (t d : List ℕ) (i : ℕ) → length t ≡ length d → length (mix t d i) ≡ length d
+unfolding mix
+mix-length t d i e = simp (length-append, length-take, length-drop) (omega arith)
+
+-- ---- what is done, and what is left
+
+pub mix-done : (t d : List ℕ) (i k : ℕ) → length t ≡ length d → k < i → getD (mix t d i) k 0 ≡ getD t k 0
+unfolding mix
+mix-done [] [] (suc i) k e l = refl
+mix-done [] (y ∷ d) (suc i) k e l = absurd (let z : ⊥ = omega arith in z)
+mix-done (x ∷ t) [] (suc i) k e l = absurd (let z : ⊥ = omega arith in z)
+mix-done (x ∷ t) (y ∷ d) (suc i) zero e l = refl
+mix-done (x ∷ t) (y ∷ d) (suc i) (suc k) e l = mix-done t d i k (omega arith) (le-of-suc-le-suc l)
+mix-done t d zero k e l = absurd (not-suc-le-zero l)
+
+pub mix-left : (t d : List ℕ) (i k : ℕ) → length t ≡ length d → i ≤ k → getD (mix t d i) k 0 ≡ getD d k 0
+unfolding mix
+mix-left t d zero k e l = refl
+mix-left [] [] (suc i) k e l = refl
+mix-left [] (y ∷ d) (suc i) k e l = absurd (let z : ⊥ = omega arith in z)
+mix-left (x ∷ t) [] (suc i) k e l = absurd (let z : ⊥ = omega arith in z)
+mix-left (x ∷ t) (y ∷ d) (suc i) zero e l = absurd (not-suc-le-zero l)
+mix-left (x ∷ t) (y ∷ d) (suc i) (suc k) e l = mix-left t d i k (omega arith) (le-of-suc-le-suc l)
+
+-- ---- a turn
+
+one-more : (t d : List ℕ) (i : ℕ) → length t ≡ length d → i < length d → set (mix t d i) i (getD t i 0) ≡ mix t d (suc i)
+unfolding mix
+one-more [] [] i e l = absurd (not-suc-le-zero l)
+one-more [] (y ∷ d) i e l = absurd (let z : ⊥ = omega arith in z)
+one-more (x ∷ t) [] i e l = absurd (not-suc-le-zero l)
+one-more (x ∷ t) (y ∷ d) zero e l = refl
+one-more (x ∷ t) (y ∷ d) (suc i) e l = ap (λ (r : List ℕ). x ∷ r) (one-more t d i (omega arith) (le-of-suc-le-suc l))
+
+pub mix-up : (t d : List ℕ) (i v : ℕ) → length t ≡ length d → i < length d → v ≡ getD t i 0 → set (mix t d i) i v ≡ mix t d (i + 1)
+mix-up t d i v e l p = rw (p, add-one) (one-more t d i e l)
+
+one-less : (d t : List ℕ) (i : ℕ) → length d ≡ length t → i < length d → set (mix d t (suc i)) i (getD t i 0) ≡ mix d t i
+unfolding mix
+one-less [] [] i e l = absurd (not-suc-le-zero l)
+one-less [] (y ∷ t) i e l = absurd (not-suc-le-zero l)
+one-less (x ∷ d) [] i e l = absurd (let z : ⊥ = omega arith in z)
+one-less (x ∷ d) (y ∷ t) zero e l = refl
+one-less (x ∷ d) (y ∷ t) (suc i) e l = ap (λ (r : List ℕ). x ∷ r) (one-less d t i (omega arith) (le-of-suc-le-suc l))
+
+pub mix-down : (d t : List ℕ) (i v : ℕ) → length d ≡ length t → i < length d → v ≡ getD t i 0 → set (mix d t (i + 1)) i v ≡ mix d t i
+mix-down d t i v e l p = rw (p, add-one) (one-less d t i e l)
+
+-- ---- the same, as a loop's invariant hands it over: the list x is known by an equation
+
+pub up : (x t d : List ℕ) (i v : ℕ) → x ≡ mix t d i → length t ≡ length d → i < length d → v ≡ getD t i 0 → set x i v ≡ mix t d (i + 1)
+up x t d i v p e l q = ap (λ (y : List ℕ). set y i v) p ∙ mix-up t d i v e l q
+
+pub down : (x d t : List ℕ) (i v : ℕ) → x ≡ mix d t (i + 1) → length d ≡ length t → i < length d → v ≡ getD t i 0 → set x i v ≡ mix d t i
+down x d t i v p e l q = ap (λ (y : List ℕ). set y i v) p ∙ mix-down d t i v e l q
+
+pub whole : (x t d : List ℕ) (i : ℕ) → x ≡ mix t d i → length t ≡ length d → length d ≤ i → x ≡ t
+whole x t d i p e l = p ∙ mix-all t d i (omega arith) l
+
+-- ---- a fill with one value; shut, so that a use determines what it stands over
+
+unfoldable pub fillTo : List ℕ → ℕ → ℕ → List ℕ
+fillTo d v i = mix (replicate (length d) v) d i
+
+pub fill-none : (d : List ℕ) (v : ℕ) → d ≡ fillTo d v 0
+unfolding fillTo
+fill-none d v = sym (mix-none _ d)
+
+pub fill-more : (x d : List ℕ) (i v : ℕ) → x ≡ fillTo d v i → i < length d → set x i v ≡ fillTo d v (i + 1)
+unfolding fillTo
+fill-more x d i v p l = up x (replicate (length d) v) d i v p (length-replicate (length d) v) l (sym (getD-replicate (length d) i v 0 l))
+
+pub fill-all : (x d : List ℕ) (i v : ℕ) → x ≡ fillTo d v i → length d ≤ i → x ≡ replicate (length d) v
+unfolding fillTo
+fill-all x d i v p l = whole x (replicate (length d) v) d i p (length-replicate (length d) v) l

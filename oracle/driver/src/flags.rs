@@ -1,0 +1,33 @@
+//! The command line.
+
+#[derive(Default)]
+pub struct Flags {
+    /// One job in 01's listing form, answered by 01's listing.
+    pub listing: bool,
+    /// Every tested sum before each answer, in lines that begin with #.
+    pub sums: bool,
+    /// A summary of all jobs on standard error.
+    pub stats: bool,
+    /// No answers.
+    pub quiet: bool,
+    /// Time of each job (both copies and their comparison) on standard error.
+    pub time: bool,
+}
+
+impl Flags {
+    pub fn from_args() -> Self {
+        let mut flags = Self::default();
+        for arg in std::env::args().skip(1) {
+            let flag = match arg.as_str() {
+                "--listing" => &mut flags.listing,
+                "--sums" => &mut flags.sums,
+                "--stats" => &mut flags.stats,
+                "--quiet" => &mut flags.quiet,
+                "--time" => &mut flags.time,
+                _ => panic!("unknown flag {arg}"),
+            };
+            *flag = true;
+        }
+        flags
+    }
+}

@@ -1,0 +1,131 @@
+//! A job's operations.
+
+use super::pool;
+use super::program::Program;
+use super::rng::Rng;
+
+pub struct Operations<'a> {
+    rng: &'a mut Rng,
+    program: &'a mut Program,
+    pool: Vec<i64>,
+    angles: &'static [i64],
+    /// Percent of measurements and of conditional rotations.
+    barriers: usize,
+    measured: Vec<i64>,
+    pub records: Vec<[i64; 6]>,
+}
+
+/// Kinds of jobs: only T, odd, all angles with 0, mostly even.
+const ANGLES: [&[i64]; 4] = [
+    &[1, 7],
+    &[1, 3, 5, 7],
+    &[0, 1, 2, 3, 4, 5, 6, 7],
+    &[1, 2, 4, 6, 2],
+];
+
+impl<'a> Operations<'a> {
+    pub fn new(rng: &'a mut Rng, program: &'a mut Program, pool: Vec<i64>) -> Self {
+        let angles = rng.pick(&ANGLES);
+        let barriers = rng.pick(&[0, 0, 5, 15]);
+        Self {
+            rng,
+            program,
+            pool,
+            angles,
+            barriers,
+            measured: Vec::new(),
+            records: Vec::new(),
+        }
+    }
+
+    /// Up to `most` operations, or a few more, in bursts.
+    pub fn fill(&mut self, acted: &[usize], most: usize) {
+        let count = self.rng.between(0, most);
+        while self.records.len() < count {
+            match self.rng.below(10) {
+                0 => self.echo(),
+                1 if acted.len() > 1 => self.exchange(acted),
+                _ => self.one(),
+            }
+        }
+    }
+
+    fn one(&mut self) {
+        if self.rng.chance(self.barriers) {
+            self.measure();
+        } else if self.rng.chance(self.barriers) && !self.measured.is_empty() {
+            self.conditional();
+        } else {
+            let axis = self.axis();
+            let angle = self.rng.pick(self.angles);
+            let (outcome, target) = (self.unused(), self.unused());
+            self.records.push([1, axis.0, axis.1, angle, outcome, target]);
+        }
+    }
+
+    fn axis(&mut self) -> (i64, i64) {
+        let node = self.rng.pick(&self.pool);
+        let minus = self.rng.chance(25);
+        self.program.signed(node, minus)
+    }
+
+    /// What stands in an outcome or target that is not looked at; a target is never above 65,535.
+    fn unused(&mut self) -> i64 {
+        if self.rng.chance(90) {
+            -1
+        } else {
+            self.rng.below(65_536) as i64
+        }
+    }
+
+    fn measure(&mut self) {
+        let outcome = match self.rng.below(10) {
+            0 => 65_534,
+            1 => self.rng.below(65_535) as i64,
+            _ => self.rng.below(8) as i64,
+        };
+        if self.measured.contains(&outcome) {
+            return;
+        }
+        let axis = self.axis();
+        // Few targets, so that they repeat.
+        let target = self.rng.pick(&[-1, -1, 0, 1, 65_534]);
+        self.measured.push(outcome);
+        let angle = if self.rng.chance(90) { 0 } else { self.rng.below(8) as i64 };
+        self.records.push([2, axis.0, axis.1, angle, outcome, target]);
+    }
+
+    fn conditional(&mut self) {
+        let axis = self.axis();
+        let angle = self.rng.below(8) as i64;
+        let outcome = self.rng.pick(&self.measured);
+        let target = self.unused();
+        self.records.push([3, axis.0, axis.1, angle, outcome, target]);
+    }
+
+    /// The last rotations backwards, turned the other way: merges that open merges.
+    fn echo(&mut self) {
+        let length = self.rng.between(1, 6).min(self.records.len());
+        for i in (self.records.len() - length..self.records.len()).rev() {
+            let [kind, node, phase, angle, ..] = self.records[i];
+            if kind == 1 && !self.rng.chance(15) {
+                let back = (8 - angle) % 8;
+                self.records.push([1, node, phase, back, -1, -1]);
+            }
+        }
+    }
+
+    /// Groups that can be exchanged, most of the time.
+    fn exchange(&mut self, acted: &[usize]) {
+        let [xx, yy, zi, iz] = pool::exchange(self.rng, self.program, acted);
+        let (a, b) = (self.rng.pick(self.angles), self.rng.pick(self.angles));
+        let again = self.rng.pick(&[xx, yy, xx]);
+        for (node, angle) in [(xx, a), (yy, a), (zi, b), (iz, b), (again, a)] {
+            let minus = self.rng.chance(5);
+            let axis = self.program.signed(node, minus);
+            self.records.push([1, axis.0, axis.1, angle, -1, -1]);
+        }
+        // Later operations may meet these axes again.
+        self.pool.extend([xx, yy, zi, iz]);
+    }
+}

@@ -1,0 +1,21 @@
+//! A job's options.
+
+use jobs::{MAX_LIMIT, Options};
+
+use super::rng::Rng;
+
+/// All but the limit, which is the domain's largest.
+pub fn random(rng: &mut Rng) -> Options {
+    Options {
+        limit: MAX_LIMIT,
+        lookback: rng.pick(&[0, 1, 2, 3, 1 << 20, 1 << 20, 1 << 20]),
+        window: if rng.chance(40) { 0 } else { rng.between(1, 6) },
+        candidates: rng.pick(&[0, 1, 2, 3, 5, 8, 16, 16]),
+        rounds: rng.pick(&[0, 1, 1, 2, 2, 3, 4, 6, 8, 8]),
+        clifford_to_frame: rng.chance(75),
+        eager_swaps: rng.chance(60),
+        lazy_cliffords: rng.chance(40),
+        litinski: rng.chance(25),
+        measure_depth: rng.chance(50),
+    }
+}

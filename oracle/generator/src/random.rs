@@ -1,0 +1,113 @@
+//! Random jobs that Checking passes.
+
+use jobs::Job;
+
+use super::operations::Operations;
+use super::program::Program;
+use super::rng::Rng;
+use super::{frame, limit, options, pool};
+
+/// What a job may be like.
+pub struct Shape {
+    pub most_qubits: usize,
+    pub most_operations: usize,
+    /// Percent of jobs on many qubits, and how many.
+    pub wide_percent: usize,
+    pub wide: &'static [usize],
+}
+
+impl Shape {
+    pub const FULL: Self = Self {
+        most_qubits: 6,
+        most_operations: 40,
+        wide_percent: 8,
+        wide: &[0, 64, 64, 65, 65, 130, 130, 1000],
+    };
+
+    pub const SMALL: Self = Self {
+        most_qubits: 3,
+        most_operations: 14,
+        wide_percent: 0,
+        wide: &[],
+    };
+
+    pub const WIDE: Self = Self {
+        most_qubits: 3,
+        most_operations: 8,
+        wide_percent: 100,
+        wide: &[64, 65, 130],
+    };
+}
+
+pub fn job(rng: &mut Rng, shape: &Shape) -> Job {
+    let mut job = unlimited(rng, shape);
+    spoil(rng, &mut job);
+    limit::choose(rng, &mut job);
+    job
+}
+
+/// A job without a spoilt phase, with the largest limit.
+pub fn unlimited(rng: &mut Rng, shape: &Shape) -> Job {
+    let qubits = if rng.chance(shape.wide_percent) {
+        rng.pick(shape.wide)
+    } else {
+        rng.between(1, shape.most_qubits)
+    };
+    let mut program = Program::new(qubits);
+    let acted = acted(rng, qubits);
+    // Rows before or after the axes: their nodes' order decides when slots are free.
+    let rows_first = rng.chance(30).then(|| frame::random(rng, &mut program, &[]));
+    let mut pool = pool::random(rng, &mut program, &acted, 6);
+    if qubits > 6 && rng.chance(10) {
+        pool.push(pool::dense(rng, &mut program));
+    }
+    let most = if rng.chance(80) {
+        shape.most_operations / 2
+    } else {
+        shape.most_operations
+    };
+    let mut operations = Operations::new(rng, &mut program, pool.clone());
+    operations.fill(&acted, most);
+    let operations = operations.records;
+    let rows = rows_first.unwrap_or_else(|| frame::random(rng, &mut program, &pool));
+    Job {
+        qubits,
+        options: options::random(rng),
+        slack: std::array::from_fn(|_| 1000 + rng.pick(&[0, 0, 0, 1, 5])),
+        nodes: program.nodes,
+        operations,
+        rows,
+    }
+}
+
+/// Up to four qubits on which the axes act, the ends of words among them.
+fn acted(rng: &mut Rng, qubits: usize) -> Vec<usize> {
+    let of_interest = [0, 1, 62, 63, 64, 65, 127, 128, 129, qubits.saturating_sub(1)];
+    let mut acted = Vec::new();
+    while acted.len() < qubits.min(4) {
+        let qubit = if qubits > 6 && rng.chance(70) {
+            rng.pick(&of_interest)
+        } else {
+            rng.below(qubits)
+        };
+        if qubit < qubits && !acted.contains(&qubit) {
+            acted.push(qubit);
+        }
+    }
+    // Fewer qubits make more axes meet.
+    acted.truncate(rng.between(1, 4));
+    acted
+}
+
+/// Now and then an odd total phase, in an operation or a row; the row may be no root.
+fn spoil(rng: &mut Rng, job: &mut Job) {
+    let turn = |phase: &mut i64| *phase = (*phase + 1) % 4;
+    if rng.chance(2) && !job.operations.is_empty() {
+        let at = rng.below(job.operations.len());
+        turn(&mut job.operations[at][2]);
+    }
+    if rng.chance(3) && !job.rows.is_empty() {
+        let at = rng.below(job.rows.len());
+        turn(&mut job.rows[at][3]);
+    }
+}

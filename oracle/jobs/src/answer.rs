@@ -1,0 +1,99 @@
+//! Document 01's output of a run, as lines of numbers.
+
+use record::Record;
+
+use super::job::Job;
+use super::seen::{Accepted, Seen};
+use super::word::Word;
+
+/// The driver's text: the first line with all counters and the largest tested sum, the records, `end`.
+pub fn answer(job: &Job, seen: &Seen, record: &Record) -> String {
+    let mut first = vec![0; 14];
+    match seen {
+        Ok(accepted) => {
+            let c = &accepted.counters;
+            first = head(accepted, record);
+            first.extend([c.rotations_before, c.rotations_after]);
+            first.extend([c.t_depth_before, c.t_depth_after]);
+            first.extend([c.weight_before, c.weight_after]);
+        }
+        Err(refusal) => first[0] = refusal.answer(),
+    }
+    first.push(record.peak());
+    let mut lines = vec![first.into_iter().map(|n| n as i64).collect()];
+    lines.extend(body(job, seen, record));
+    let text = |line: Vec<i64>| {
+        let fields: Vec<String> = line.iter().map(i64::to_string).collect();
+        fields.join(" ") + "\n"
+    };
+    lines.into_iter().map(text).collect::<String>() + "end\n"
+}
+
+/// 01's listing: eight fields in the first line, 8 columns each, right-justified.
+pub fn listing(job: &Job, seen: &Seen, record: &Record) -> String {
+    let first = match seen {
+        Ok(accepted) => head(accepted, record),
+        Err(refusal) => [vec![refusal.answer()], vec![0; 7]].concat(),
+    };
+    let mut lines = vec![first.into_iter().map(|n| n as i64).collect()];
+    lines.extend(body(job, seen, record));
+    let text = |line: Vec<i64>| {
+        let fields: String = line.iter().map(|n| format!("{n:8}")).collect();
+        fields + "\n"
+    };
+    lines.into_iter().map(text).collect()
+}
+
+/// answer, T before, T after, merges, swaps, absorbed, operations, axes
+fn head(accepted: &Accepted, record: &Record) -> Vec<usize> {
+    let c = &accepted.counters;
+    let operations = accepted.records.operations.len();
+    let axes = record.axes.len();
+    vec![0, c.t_before, c.t_after, c.merges, c.swaps, c.absorbed, operations, axes]
+}
+
+/// Operations, rows and letters; nothing after a refusal.
+fn body(job: &Job, seen: &Seen, record: &Record) -> Vec<Vec<i64>> {
+    let Ok(accepted) = seen else {
+        return Vec::new();
+    };
+    let mut lines = operations(accepted, record);
+    lines.extend(rows(job, record));
+    lines.extend(letters(job, record));
+    lines
+}
+
+/// Only a measurement keeps its sign; the others have theirs in the angle already.
+fn operations(accepted: &Accepted, record: &Record) -> Vec<Vec<i64>> {
+    let results = accepted.records.operations.iter().zip(&record.operations);
+    results
+        .map(|(&[kind, _, _, angle, outcome, target], &(id, sign))| {
+            let sign = if kind == 2 { i64::from(sign) } else { 1 };
+            vec![kind, i64::from(id), sign, angle, outcome, target]
+        })
+        .collect()
+}
+
+/// A row that was not given is kept.
+fn rows(job: &Job, record: &Record) -> Vec<Vec<i64>> {
+    let mut rows: Vec<Vec<i64>> = (0..2 * job.qubits as i64)
+        .map(|i| vec![i / 2, i % 2, -1, 0])
+        .collect();
+    for &(qubit, is_z, id, sign) in &record.rows {
+        rows[2 * qubit + usize::from(is_z)][2..].copy_from_slice(&[i64::from(id), i64::from(sign)]);
+    }
+    rows
+}
+
+fn letters(job: &Job, record: &Record) -> Vec<Vec<i64>> {
+    let mut lines = Vec::new();
+    for (id, axis) in record.axes.iter().enumerate() {
+        let word = Word::unpacked(job.qubits, axis);
+        for (qubit, &letter) in word.letters.iter().enumerate() {
+            if letter != 0 {
+                lines.push(vec![id as i64, qubit as i64, i64::from(letter)]);
+            }
+        }
+    }
+    lines
+}

@@ -1,0 +1,3 @@
+//! Stands in for drawing; no job reaches it.
+
+pub struct SvgOptions;
