@@ -22,12 +22,18 @@ fn main() {
     let mut root = SHARED.to_string();
     let mut table = String::new();
     for file in wrong_readings() {
-        let name = file.file_stem().expect("a file").to_str().expect("plain letters");
+        let name = file
+            .file_stem()
+            .expect("a file")
+            .to_str()
+            .expect("plain letters");
         layout.pbc(name, &[&insertions, &Edits::replacements(&file)]);
         root += &format!("#[allow(warnings)]\nmod {name} {{ pub mod pbc; }}\n");
         table += &format!("    (\"{name}\", {name}::pbc::PbcCircuit::run_job),\n");
     }
-    root += &format!("/// Name and run of each wrong reading.\nconst WRONG: &[(&str, Run)] = &[\n{table}];\n");
+    root += &format!(
+        "/// Name and run of each wrong reading.\nconst WRONG: &[(&str, Run)] = &[\n{table}];\n"
+    );
     layout.root(&root);
 }
 

@@ -1,4 +1,5 @@
 pub mod Word
+pub mod Product
 pub mod Letter
 pub mod Support
 pub mod ProductLaws

@@ -10,7 +10,10 @@ fn demand(holds: bool, what: &str) -> Check {
 }
 
 pub fn check(job: &Job, unchanged: &Seen, shown: &Seen, record: &Record) -> Check {
-    demand(unchanged == shown, "result, counters, operations, rows or arena")?;
+    demand(
+        unchanged == shown,
+        "result, counters, operations, rows or arena",
+    )?;
     sums(job, unchanged, record)?;
     distinct_axes(record)?;
     match unchanged {
@@ -28,7 +31,10 @@ fn sums(job: &Job, seen: &Seen, record: &Record) -> Check {
     let above = record.sums.iter().position(|&(_, sum)| sum > limit);
     if *seen == Err(Refusal::ExpansionLimit) {
         let last = record.sums.len().checked_sub(1);
-        demand(last.is_some() && above == last, "refusal 10 and the tested sums")
+        demand(
+            last.is_some() && above == last,
+            "refusal 10 and the tested sums",
+        )
     } else {
         demand(above.is_none(), "a sum above the limit went through")
     }
@@ -48,20 +54,32 @@ fn results(job: &Job, accepted: &Accepted, record: &Record) -> Check {
     demand(record.operations.len() == count, "count of operations")?;
     demand(arena_only_grew(job, accepted), "the arena's old nodes")?;
     let mut references: Vec<(i64, i64)> = after.operations.iter().map(|o| (o[1], o[2])).collect();
-    let given = record.rows.iter().map(|&(q, is_z, ..)| 2 * q + usize::from(is_z));
+    let given = record
+        .rows
+        .iter()
+        .map(|&(q, is_z, ..)| 2 * q + usize::from(is_z));
     let given: Vec<usize> = given.collect();
     references.extend(given.iter().map(|&i| (after.rows[i][2], after.rows[i][3])));
     let words = expand(job.qubits, &after.nodes, &references);
     for (i, &(id, sign)) in record.operations.iter().enumerate() {
         // The unchanged copy leaves the sign only in a measurement's axis.
         let sign = if after.operations[i][0] == 2 { sign } else { 1 };
-        demand(words[i] == signed(job, record, id, sign), "an operation's axis")?;
+        demand(
+            words[i] == signed(job, record, id, sign),
+            "an operation's axis",
+        )?;
     }
     for (i, &(_, _, id, sign)) in record.rows.iter().enumerate() {
-        demand(words[count + i] == signed(job, record, id, sign), "a row's image")?;
+        demand(
+            words[count + i] == signed(job, record, id, sign),
+            "a row's image",
+        )?;
     }
     for (i, row) in job.rows.iter().enumerate() {
-        demand(given.contains(&i) || after.rows[i] == *row, "a kept row's handle")?;
+        demand(
+            given.contains(&i) || after.rows[i] == *row,
+            "a kept row's handle",
+        )?;
     }
     Ok(())
 }
@@ -80,5 +98,9 @@ fn arena_only_grew(job: &Job, accepted: &Accepted) -> bool {
     };
     let after = &accepted.records.nodes;
     job.nodes.len() <= after.len()
-        && job.nodes.iter().zip(after).all(|(a, b)| a[..used(a)] == b[..used(a)])
+        && job
+            .nodes
+            .iter()
+            .zip(after)
+            .all(|(a, b)| a[..used(a)] == b[..used(a)])
 }

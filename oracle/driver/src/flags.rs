@@ -10,7 +10,7 @@ pub struct Flags {
     pub stats: bool,
     /// No answers.
     pub quiet: bool,
-    /// Time of each job (both copies and their comparison) on standard error.
+    /// Time of each job in the unchanged copy, on standard error; its assertions are on, so it is no benchmark.
     pub time: bool,
 }
 

@@ -21,18 +21,13 @@ fn main() -> io::Result<()> {
     let mut out = io::BufWriter::new(io::stdout().lock());
     if flags.listing {
         let job = jobs::read_listing(&text);
-        let (seen, record) = judge(&job);
+        let (seen, record) = judge(&job, flags.time);
         return write!(out, "{}", jobs::listing(&job, &seen, &record));
     }
     let mut stats = Stats::default();
     for job in jobs::read_jobs(&text) {
-        let began = Instant::now();
-        let (seen, record) = judge(&job);
-        let took = began.elapsed();
+        let (seen, record) = judge(&job, flags.time);
         stats.count(&job, &seen, &record);
-        if flags.time {
-            eprintln!("{} us", took.as_micros());
-        }
         if flags.sums {
             write_sums(&mut out, &record)?;
         }
@@ -48,8 +43,12 @@ fn main() -> io::Result<()> {
 }
 
 /// Run both copies; what they agree on, and what the shown one adds.
-fn judge(job: &Job) -> (Seen, Record) {
+fn judge(job: &Job, time: bool) -> (Seen, Record) {
+    let began = Instant::now();
     let unchanged = unchanged::run(job);
+    if time {
+        eprintln!("{} us", began.elapsed().as_micros());
+    }
     let (seen, record) = shown::run(job);
     if let Err(difference) = agree::check(job, &unchanged, &seen, &record) {
         panic!("the copies differ: {difference}\n{job}");

@@ -26,6 +26,11 @@ impl Stats {
     fn job(&mut self, job: &Job) {
         let kind = |k: i64| job.operations.iter().any(|o| o[0] == k);
         self.raise("job: more than one word per plane", job.width() > 1);
+        self.raise("job: 1,000 qubits", job.qubits == 1000);
+        self.raise(
+            "job: exchanges asked for (window above 0)",
+            job.options.window > 0,
+        );
         self.raise("job: measures", kind(2));
         self.raise("job: conditional rotation", kind(3));
         self.raise("job: product nodes", job.nodes.iter().any(|n| n[0] == 2));
@@ -51,7 +56,10 @@ impl Stats {
                 self.raise("answer 0: absorbed", c.absorbed > 0);
                 self.raise("answer 0: T-count lower", c.t_after < c.t_before);
                 self.raise("answer 0: rows given", !record.rows.is_empty());
-                self.raise("answer 0: no operations left", accepted.records.operations.is_empty());
+                self.raise(
+                    "answer 0: no operations left",
+                    accepted.records.operations.is_empty(),
+                );
             }
         }
     }
@@ -59,9 +67,18 @@ impl Stats {
     fn events(&mut self, record: &Record) {
         let e = &record.seen;
         self.raise("reached: waiting rotation absorbed", e.waiting_absorbed > 0);
-        self.raise("reached: `last` of a newer place cleared", e.newer_last_cleared > 0);
-        self.raise("reached: round kept going by an exchange alone", e.kept_by_exchange > 0);
-        self.raise("reached: local merging stopped before an equal axis", e.trial_blocked > 0);
+        self.raise(
+            "reached: `last` of a newer place cleared",
+            e.newer_last_cleared > 0,
+        );
+        self.raise(
+            "reached: round kept going by an exchange alone",
+            e.kept_by_exchange > 0,
+        );
+        self.raise(
+            "reached: local merging stopped before an equal axis",
+            e.trial_blocked > 0,
+        );
     }
 }
 

@@ -7,8 +7,9 @@ use jobs::Job;
 use super::random::{self, Shape};
 use super::rng::Rng;
 
-/// How many jobs of one class are taken.
-const PER_CLASS: usize = 3;
+/// How many jobs are taken of a class of runs that end in a refusal or change nothing, and of another.
+const MOST_PLAIN: usize = 10;
+const MOST_OTHER: usize = 2;
 
 /// One job in so many is on many qubits.
 const WIDE_EVERY: usize = 20;
@@ -23,8 +24,9 @@ pub fn list(seed: u64, count: usize) -> Vec<Job> {
         let mut job = random::job(&mut rng, shape);
         // Programs that lend memory lend by the limit: keep it small.
         job.options.limit = job.options.limit.min(4096);
-        let of_class = taken.entry(class(&job)).or_default();
-        if *of_class < PER_CLASS {
+        let (class, most) = class(&job);
+        let of_class = taken.entry(class).or_default();
+        if *of_class < most {
             *of_class += 1;
             list.push(job);
         }
@@ -32,20 +34,33 @@ pub fn list(seed: u64, count: usize) -> Vec<Job> {
     list
 }
 
-/// What happens in a job's run, coarsely.
-fn class(job: &Job) -> String {
+/// What happens in a job's run, coarsely, and how many of the kind are taken.
+fn class(job: &Job) -> (String, usize) {
     let (seen, record) = shown::run(job);
-    let refused = record.sums.last().map(|(place, _)| place.name());
-    let happened = match seen {
-        Err(refusal) => format!("{} {}", refusal.answer(), refused.unwrap_or("-")),
-        Ok(accepted) => {
-            let c = accepted.counters;
-            let some = [c.merges, c.swaps, c.absorbed, record.rows.len()].map(|n| n > 0);
-            format!("0 {some:?}")
+    let wide = job.qubits > 6;
+    let accepted = match seen {
+        Ok(accepted) => accepted,
+        Err(refusal) => {
+            let place = record.sums.last().map(|(place, _)| place.name());
+            return (format!("{} {place:?} {wide}", refusal.answer()), MOST_PLAIN);
         }
     };
-    let barriers = job.operations.iter().any(|o| o[0] != 1);
+    let c = accepted.counters;
+    let happened = [c.merges, c.swaps, c.absorbed, record.seen.waiting_absorbed].map(|n| n > 0);
+    if happened == [false; 4] {
+        return (format!("nothing {wide}"), MOST_PLAIN);
+    }
     let o = &job.options;
-    let few = [o.litinski, o.lazy_cliffords, barriers, o.measure_depth, job.qubits > 6];
-    format!("{happened} {few:?} {:?}", record.seen.waiting_absorbed.min(1))
+    let chosen = [
+        o.litinski,
+        o.lazy_cliffords,
+        o.clifford_to_frame,
+        o.eager_swaps,
+        o.lookback < 4,
+    ];
+    let kinds = [2, 3].map(|kind| job.operations.iter().any(|op| op[0] == kind));
+    (
+        format!("{happened:?} {chosen:?} {kinds:?} {wide}"),
+        MOST_OTHER,
+    )
 }

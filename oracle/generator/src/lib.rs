@@ -3,7 +3,7 @@
 pub mod directed;
 pub mod fixed;
 mod frame;
-mod limit;
+pub mod limit;
 mod notation;
 mod operations;
 mod options;

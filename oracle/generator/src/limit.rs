@@ -16,6 +16,18 @@ pub fn choose(rng: &mut Rng, job: &mut Job) {
     };
 }
 
+/// The job once for each sum that can refuse it, refused there, and once accepted with nothing to spare.
+pub fn all(job: &Job) -> Vec<Job> {
+    let with = |limit: usize| {
+        let mut job = job.clone();
+        job.options.limit = limit;
+        job
+    };
+    let record = shown::run(&with(MAX_LIMIT)).1;
+    let refused = steps(&record).into_iter().map(|step| with(step.sum - 1));
+    refused.chain([with(record.peak())]).collect()
+}
+
 /// A sum that no earlier one reaches, with the largest of the earlier ones.
 struct Step {
     place: Place,

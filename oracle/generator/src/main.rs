@@ -1,10 +1,12 @@
 //! generator SEED COUNT: random jobs.
+//! generator --limits SEED COUNT: small jobs, each with every limit that refuses it at another sum.
 //! generator --fixed SEED COUNT: small jobs, at most a few of each class.
 //! generator --directed: the directed cases, each with a comment.
 
 use generator::random::{self, Shape};
 use generator::rng::Rng;
-use generator::{directed, fixed};
+use generator::{directed, fixed, limit};
+use jobs::Job;
 
 fn main() {
     let args: Vec<String> = std::env::args().skip(1).collect();
@@ -16,19 +18,29 @@ fn main() {
                 print!("{job}");
             }
         }
+        ["--limits", seed, count] => {
+            for job in random_jobs(seed, count, &Shape::SMALL) {
+                limit::all(&job).iter().for_each(|job| print!("{job}"));
+            }
+        }
         [seed, count] => {
-            let mut rng = Rng::new(number(seed));
-            for _ in 0..number(count) {
-                print!("{}", random::job(&mut rng, &Shape::FULL));
+            for job in random_jobs(seed, count, &Shape::FULL) {
+                print!("{job}");
             }
         }
         _ => {
-            eprintln!("generator SEED COUNT | --fixed SEED COUNT | --directed");
+            eprintln!("generator [--limits | --fixed] SEED COUNT | generator --directed");
             std::process::exit(2);
         }
     }
 }
 
+fn random_jobs(seed: &str, count: &str, shape: &'static Shape) -> impl Iterator<Item = Job> {
+    let mut rng = Rng::new(number(seed));
+    (0..number(count)).map(move |_| random::job(&mut rng, shape))
+}
+
 fn number(text: &str) -> u64 {
-    text.parse().unwrap_or_else(|_| panic!("not a number: {text}"))
+    text.parse()
+        .unwrap_or_else(|_| panic!("not a number: {text}"))
 }

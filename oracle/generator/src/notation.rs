@@ -50,8 +50,15 @@ fn named(letters: &str) -> Vec<(usize, u8)> {
 }
 
 fn record(operation: &str, node: i64) -> [i64; 6] {
-    let phase = if axis_of(operation).starts_with('-') { 2 } else { 0 };
-    let numbers = operation.split_once(':').expect("a colon follows the axis").1;
+    let phase = if axis_of(operation).starts_with('-') {
+        2
+    } else {
+        0
+    };
+    let numbers = operation
+        .split_once(':')
+        .expect("a colon follows the axis")
+        .1;
     let number = |text: &str| -> i64 { text.parse().expect("a number follows") };
     if operation.starts_with('m') {
         return [2, node, phase, 0, number(numbers), -1];

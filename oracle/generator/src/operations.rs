@@ -44,7 +44,7 @@ impl<'a> Operations<'a> {
         while self.records.len() < count {
             match self.rng.below(10) {
                 0 => self.echo(),
-                1 if acted.len() > 1 => self.exchange(acted),
+                1 | 2 if acted.len() > 1 => self.exchange(acted),
                 _ => self.one(),
             }
         }
@@ -59,7 +59,8 @@ impl<'a> Operations<'a> {
             let axis = self.axis();
             let angle = self.rng.pick(self.angles);
             let (outcome, target) = (self.unused(), self.unused());
-            self.records.push([1, axis.0, axis.1, angle, outcome, target]);
+            self.records
+                .push([1, axis.0, axis.1, angle, outcome, target]);
         }
     }
 
@@ -91,8 +92,13 @@ impl<'a> Operations<'a> {
         // Few targets, so that they repeat.
         let target = self.rng.pick(&[-1, -1, 0, 1, 65_534]);
         self.measured.push(outcome);
-        let angle = if self.rng.chance(90) { 0 } else { self.rng.below(8) as i64 };
-        self.records.push([2, axis.0, axis.1, angle, outcome, target]);
+        let angle = if self.rng.chance(90) {
+            0
+        } else {
+            self.rng.below(8) as i64
+        };
+        self.records
+            .push([2, axis.0, axis.1, angle, outcome, target]);
     }
 
     fn conditional(&mut self) {
@@ -100,7 +106,8 @@ impl<'a> Operations<'a> {
         let angle = self.rng.below(8) as i64;
         let outcome = self.rng.pick(&self.measured);
         let target = self.unused();
-        self.records.push([3, axis.0, axis.1, angle, outcome, target]);
+        self.records
+            .push([3, axis.0, axis.1, angle, outcome, target]);
     }
 
     /// The last rotations backwards, turned the other way: merges that open merges.
@@ -119,13 +126,33 @@ impl<'a> Operations<'a> {
     fn exchange(&mut self, acted: &[usize]) {
         let [xx, yy, zi, iz] = pool::exchange(self.rng, self.program, acted);
         let (a, b) = (self.rng.pick(self.angles), self.rng.pick(self.angles));
-        let again = self.rng.pick(&[xx, yy, xx]);
-        for (node, angle) in [(xx, a), (yy, a), (zi, b), (iz, b), (again, a)] {
+        if acted.len() > 2 && self.rng.chance(40) {
+            // An equal axis that the exchange cuts off: zi before and after the first group.
+            let p = self.program.letters(&[(acted[2], 1)]);
+            let zz = self.program.product((zi, 0), (iz, 0));
+            self.rotations(&[
+                (xx, a),
+                (yy, a),
+                (p, a),
+                (zi, b),
+                (iz, b),
+                (zz, b),
+                (zi, b),
+                (p, a),
+            ]);
+        } else {
+            let again = self.rng.pick(&[xx, yy, xx]);
+            self.rotations(&[(xx, a), (yy, a), (zi, b), (iz, b), (again, a)]);
+        }
+        // Later operations may meet these axes again.
+        self.pool.extend([xx, yy, zi, iz]);
+    }
+
+    fn rotations(&mut self, rotations: &[(i64, i64)]) {
+        for &(node, angle) in rotations {
             let minus = self.rng.chance(5);
             let axis = self.program.signed(node, minus);
             self.records.push([1, axis.0, axis.1, angle, -1, -1]);
         }
-        // Later operations may meet these axes again.
-        self.pool.extend([xx, yy, zi, iz]);
     }
 }

@@ -6,6 +6,28 @@ use super::rng::Rng;
 
 /// All but the limit, which is the domain's largest.
 pub fn random(rng: &mut Rng) -> Options {
+    if rng.chance(15) {
+        many_rounds(rng)
+    } else {
+        any(rng)
+    }
+}
+
+/// Little is merged by streams, so that exchanges do the work, in many rounds.
+fn many_rounds(rng: &mut Rng) -> Options {
+    Options {
+        lookback: rng.below(2),
+        window: rng.between(1, 3),
+        candidates: rng.below(4),
+        rounds: rng.between(3, 8),
+        clifford_to_frame: rng.chance(30),
+        eager_swaps: true,
+        litinski: false,
+        ..any(rng)
+    }
+}
+
+fn any(rng: &mut Rng) -> Options {
     Options {
         limit: MAX_LIMIT,
         lookback: rng.pick(&[0, 1, 2, 3, 1 << 20, 1 << 20, 1 << 20]),

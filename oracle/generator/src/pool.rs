@@ -43,10 +43,22 @@ fn letters(rng: &mut Rng, program: &mut Program, acted: &[usize]) -> i64 {
         return node;
     }
     for i in 0..rng.between(1, acted.len().min(3)) {
-        let letter = if rng.chance(3) { 0 } else { rng.between(1, 3) as u8 };
+        let letter = if rng.chance(3) {
+            0
+        } else {
+            rng.between(1, 3) as u8
+        };
         let leaf = program.leaf(rng.pick(acted), letter);
-        let phase = if rng.chance(20) { rng.below(4) as i64 } else { 0 };
-        node = if i == 0 { leaf } else { program.product((node, phase), (leaf, 0)) };
+        let phase = if rng.chance(20) {
+            rng.below(4) as i64
+        } else {
+            0
+        };
+        node = if i == 0 {
+            leaf
+        } else {
+            program.product((node, phase), (leaf, 0))
+        };
     }
     node
 }

@@ -43,8 +43,13 @@ impl Program {
 
     /// New nodes for the product of letters on distinct qubits; no letters give node 0.
     pub fn letters(&mut self, letters: &[(usize, u8)]) -> i64 {
-        let leaves: Vec<i64> = letters.iter().map(|&(q, letter)| self.leaf(q, letter)).collect();
-        let product = leaves.into_iter().reduce(|a, b| self.product((a, 0), (b, 0)));
+        let leaves: Vec<i64> = letters
+            .iter()
+            .map(|&(q, letter)| self.leaf(q, letter))
+            .collect();
+        let product = leaves
+            .into_iter()
+            .reduce(|a, b| self.product((a, 0), (b, 0)));
         product.unwrap_or(0)
     }
 

@@ -26,7 +26,7 @@ impl Shape {
 
     pub const SMALL: Self = Self {
         most_qubits: 3,
-        most_operations: 14,
+        most_operations: 24,
         wide_percent: 0,
         wide: &[],
     };
@@ -56,8 +56,11 @@ pub fn unlimited(rng: &mut Rng, shape: &Shape) -> Job {
     let mut program = Program::new(qubits);
     let acted = acted(rng, qubits);
     // Rows before or after the axes: their nodes' order decides when slots are free.
-    let rows_first = rng.chance(30).then(|| frame::random(rng, &mut program, &[]));
-    let mut pool = pool::random(rng, &mut program, &acted, 6);
+    let rows_first = rng
+        .chance(30)
+        .then(|| frame::random(rng, &mut program, &[]));
+    let most_axes = rng.pick(&[2, 3, 6, 6]);
+    let mut pool = pool::random(rng, &mut program, &acted, most_axes);
     if qubits > 6 && rng.chance(10) {
         pool.push(pool::dense(rng, &mut program));
     }
@@ -82,7 +85,18 @@ pub fn unlimited(rng: &mut Rng, shape: &Shape) -> Job {
 
 /// Up to four qubits on which the axes act, the ends of words among them.
 fn acted(rng: &mut Rng, qubits: usize) -> Vec<usize> {
-    let of_interest = [0, 1, 62, 63, 64, 65, 127, 128, 129, qubits.saturating_sub(1)];
+    let of_interest = [
+        0,
+        1,
+        62,
+        63,
+        64,
+        65,
+        127,
+        128,
+        129,
+        qubits.saturating_sub(1),
+    ];
     let mut acted = Vec::new();
     while acted.len() < qubits.min(4) {
         let qubit = if qubits > 6 && rng.chance(70) {

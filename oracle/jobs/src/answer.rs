@@ -49,7 +49,9 @@ fn head(accepted: &Accepted, record: &Record) -> Vec<usize> {
     let c = &accepted.counters;
     let operations = accepted.records.operations.len();
     let axes = record.axes.len();
-    vec![0, c.t_before, c.t_after, c.merges, c.swaps, c.absorbed, operations, axes]
+    vec![
+        0, c.t_before, c.t_after, c.merges, c.swaps, c.absorbed, operations, axes,
+    ]
 }
 
 /// Operations, rows and letters; nothing after a refusal.

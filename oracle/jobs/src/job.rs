@@ -88,7 +88,11 @@ impl fmt::Display for Job {
             flag(o.litinski),
             flag(o.measure_depth),
         ];
-        let header: Vec<String> = header.iter().chain(&self.slack).map(usize::to_string).collect();
+        let header: Vec<String> = header
+            .iter()
+            .chain(&self.slack)
+            .map(usize::to_string)
+            .collect();
         writeln!(f, "{}", header.join(" "))?;
         self.nodes.iter().try_for_each(|n| line(f, n))?;
         self.operations.iter().try_for_each(|o| line(f, o))?;

@@ -126,3 +126,33 @@ fn take(values: &mut [Option<Word>], uses: &mut [usize], node: i64) -> Word {
     };
     value.expect("children come before their product")
 }
+
+#[cfg(test)]
+mod tests {
+    use super::*;
+
+    fn word(phase: i64, letters: &[u8]) -> Word {
+        Word {
+            phase,
+            letters: letters.to_vec(),
+        }
+    }
+
+    /// Document 01's starred products.
+    #[test]
+    fn starred_products() {
+        let (x, y, z) = (word(0, &[1]), word(0, &[2]), word(0, &[3]));
+        assert_eq!(x.times(&y), word(1, &[3]));
+        assert_eq!(x.times(&z), word(3, &[2]));
+        assert_eq!(z.times(&x), word(1, &[2]));
+        assert_eq!(word(0, &[1, 1]).times(&word(0, &[3, 3])), word(2, &[2, 2]));
+    }
+
+    #[test]
+    fn shared_nodes_are_expanded_once_each() {
+        // X, X X with phases 1 and 1, and that times X.
+        let nodes = [[0; 5], [1, 0, 1, 0, 0], [2, 1, 1, 1, 1], [2, 2, 0, 1, 0]];
+        let words = expand(1, &nodes, &[(3, 0), (2, 3), (3, 2)]);
+        assert_eq!(words, [word(2, &[1]), word(1, &[0]), word(0, &[1])]);
+    }
+}

@@ -26,7 +26,9 @@ fn main() -> io::Result<()> {
         ["--find", name, seed] => {
             let wrong = WRONG.iter().find(|(n, _)| *n == name);
             let (_, run) = wrong.unwrap_or_else(|| exit(&format!("no wrong reading {name}")));
-            let seed = seed.parse().unwrap_or_else(|_| exit("the seed is a number"));
+            let seed = seed
+                .parse()
+                .unwrap_or_else(|_| exit("the seed is a number"));
             print!("{}", find::job(*run, seed));
             Ok(())
         }
@@ -48,10 +50,18 @@ fn survey() -> io::Result<()> {
         let showing = jobs.iter().enumerate().filter(|(_, job)| shows(*run, job));
         let showing: Vec<usize> = showing.map(|(at, _)| at + 1).collect();
         let first = showing.first().map_or("-".to_string(), usize::to_string);
-        println!("{:7} of {} jobs, first {first}: {name}", showing.len(), jobs.len());
+        println!(
+            "{:7} of {} jobs, first {first}: {name}",
+            showing.len(),
+            jobs.len()
+        );
         unseen += usize::from(showing.is_empty());
     }
-    println!("{} of {} wrong readings are told apart", WRONG.len() - unseen, WRONG.len());
+    println!(
+        "{} of {} wrong readings are told apart",
+        WRONG.len() - unseen,
+        WRONG.len()
+    );
     Ok(())
 }
 

@@ -57,10 +57,14 @@ fn without_node(job: &Job) -> Vec<Job> {
         named[product[1] as usize] = true;
         named[product[3] as usize] = true;
     }
-    job.operations.iter().for_each(|o| named[o[1] as usize] = true);
+    job.operations
+        .iter()
+        .for_each(|o| named[o[1] as usize] = true);
     job.rows.iter().for_each(|r| named[r[2] as usize] = true);
     let unnamed = (0..named.len()).filter(|&n| !named[n]);
-    unnamed.map(|n| changed(job, |j| remove_node(j, n))).collect()
+    unnamed
+        .map(|n| changed(job, |j| remove_node(j, n)))
+        .collect()
 }
 
 fn remove_node(job: &mut Job, node: usize) {
@@ -80,8 +84,12 @@ fn options(job: &Job) -> Vec<Job> {
     for smaller in [o.rounds / 2, o.rounds.saturating_sub(1)] {
         steps.push(changed(job, |j| j.options.rounds = smaller));
     }
-    steps.push(changed(job, |j| j.options.window = o.window.saturating_sub(1)));
-    steps.push(changed(job, |j| j.options.candidates = o.candidates.saturating_sub(1)));
+    steps.push(changed(job, |j| {
+        j.options.window = o.window.saturating_sub(1)
+    }));
+    steps.push(changed(job, |j| {
+        j.options.candidates = o.candidates.saturating_sub(1)
+    }));
     steps.push(changed(job, |j| j.options.measure_depth = false));
     steps.push(changed(job, |j| j.options.lazy_cliffords = false));
     steps.push(changed(job, |j| j.options.litinski = false));

@@ -70,7 +70,11 @@ impl Edits {
     /// Fails if an edit names a file that is not among `files`.
     pub fn check_files(&self, files: &[&str]) {
         for edit in &self.edits {
-            assert!(files.contains(&edit.file.as_str()), "{}: no such file", edit.file);
+            assert!(
+                files.contains(&edit.file.as_str()),
+                "{}: no such file",
+                edit.file
+            );
         }
     }
 
@@ -107,5 +111,35 @@ impl Edit {
             old.join("\n")
         );
         lines.splice(found[0]..found[0] + old.len(), self.without(Mark::Remove));
+    }
+}
+
+#[cfg(test)]
+mod tests {
+    use super::Edits;
+
+    const EDIT: &str = "@ a.rs\n one\n+new\n two\n";
+
+    #[test]
+    fn a_line_is_put_in() {
+        let text = Edits::parse(EDIT).apply("a.rs", "zero\none\ntwo\n");
+        assert_eq!(text, "zero\none\nnew\ntwo\n");
+    }
+
+    #[test]
+    fn another_file_stays() {
+        assert_eq!(Edits::parse(EDIT).apply("b.rs", "one\ntwo\n"), "one\ntwo\n");
+    }
+
+    #[test]
+    #[should_panic(expected = "found 0 times")]
+    fn an_anchor_must_be_there() {
+        Edits::parse(EDIT).apply("a.rs", "one\nthree\n");
+    }
+
+    #[test]
+    #[should_panic(expected = "found 2 times")]
+    fn an_anchor_must_be_there_once() {
+        Edits::parse(EDIT).apply("a.rs", "one\ntwo\none\ntwo\n");
     }
 }

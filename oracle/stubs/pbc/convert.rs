@@ -30,7 +30,10 @@ pub fn to_pbc(job: &Job) -> PbcCircuit {
         num_cbits: NO_TARGET as usize,
         arena,
         operations: job.operations.iter().map(|o| operation(owner, o)).collect(),
-        output_frame: CliffordFrame { x: row(0), z: row(1) },
+        output_frame: CliffordFrame {
+            x: row(0),
+            z: row(1),
+        },
         measurements: job.operations.iter().filter(|o| o[0] == 2).count(),
     }
 }

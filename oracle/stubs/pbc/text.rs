@@ -57,7 +57,9 @@ impl PbcCircuit {
         Records {
             nodes: self.arena.nodes.iter().map(node).collect(),
             operations: self.operations.iter().map(operation).collect(),
-            rows: (0..2 * self.num_qubits).map(|i| row(i / 2, i % 2)).collect(),
+            rows: (0..2 * self.num_qubits)
+                .map(|i| row(i / 2, i % 2))
+                .collect(),
         }
     }
 
