@@ -103,14 +103,14 @@ letter-xor l p q i =
 
 -- ---- one letter
 
-hasX-digit : (c : ℕ) → Digit (hasX c)
+pub hasX-digit : (c : ℕ) → Digit (hasX c)
 unfolding hasX
 hasX-digit zero = off
 hasX-digit (suc zero) = on
 hasX-digit (suc (suc zero)) = on
 hasX-digit (suc (suc (suc c))) = off
 
-hasZ-digit : (c : ℕ) → Digit (hasZ c)
+pub hasZ-digit : (c : ℕ) → Digit (hasZ c)
 unfolding hasZ
 hasZ-digit zero = off
 hasZ-digit (suc zero) = off
@@ -137,7 +137,7 @@ pub digit-fits : {d : ℕ} (t : ℕ) → t < 64 → Digit d → d * 2 ^ t < 2 ^ 
 digit-fits t h off = rw zero-mul (omega arith)
 digit-fits t h on = let m : 2 ^ t ≤ 2 ^ 63 = pow-mono {i = t} {j = 63} (omega arith) in rw one-mul (omega arith)
 
-identity-length : (l : ℕ) → length (identity l) ≡ 2 * l
+pub identity-length : (l : ℕ) → length (identity l) ≡ 2 * l
 identity-length l = length-replicate {A = ℕ} (2 * l) 0
 
 module _ (l q c : ℕ) (inside : q < 64 * l) where

@@ -71,10 +71,6 @@ impl Word {
             letters,
         }
     }
-
-    pub fn commutes_with(&self, other: &Self) -> bool {
-        self.times(other) == other.times(self)
-    }
 }
 
 /// The words of references (node, phase) into node records. A node's word is dropped after its last use, since results
