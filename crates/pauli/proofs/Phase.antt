@@ -49,7 +49,7 @@ unfolding ysTo ysOf
 ys-more l p q e j v h hv =
     let r = xorWords p q in
     let m : common (xWord r) (zWord l r) (j + 1)
-        ≡ common (xWord r) (zWord l r) j + popcount (bitAnd (bitXor (xWord p j) (xWord q j)) (bitXor (zWord l p j) (zWord l q j))) =
+    ≡ common (xWord r) (zWord l r) j + popcount (bitAnd (bitXor (xWord p j) (xWord q j)) (bitXor (zWord l p j) (zWord l q j))) =
     common-more (xWord r) (zWord l r) j
     ∙ ap₂ (λ (x z : ℕ). common (xWord r) (zWord l r) j + popcount (bitAnd x z)) (xorWords-at p q j) (xorWords-at p q (l + j)) in
     step4 _ e _ _ h (omega (arith, common-more (xWord p) (zWord l p) j, common-more (xWord q) (zWord l q) j))

@@ -45,17 +45,17 @@ module _ (s₀ s : List ℕ) (o l : ℕ) (r : List ℕ) (j : ℕ) (laid : Laid s
   laid-more x z ex ez = record {
     long = length-set (set s (o + j) x) (o + (l + j)) z ∙ length-set s (o + j) x ∙ laid .long;
     x-done = λ k h. ⊎-elim
-    (λ (e : k ≡ j). rw e (new-x x z ∙ ex))
-    (λ (b : k < j). others x z (o + k) (omega arith) (omega arith) ∙ laid .x-done k b)
-    (eq-or-lt-of-le {n = k} {m = j} (omega arith));
+        (λ (e : k ≡ j). rw e (new-x x z ∙ ex))
+        (λ (b : k < j). others x z (o + k) (omega arith) (omega arith) ∙ laid .x-done k b)
+        (eq-or-lt-of-le {n = k} {m = j} (omega arith));
     z-done = λ k h. ⊎-elim
-    (λ (e : k ≡ j). rw e (new-z x z ∙ ez))
-    (λ (b : k < j). others x z (o + (l + k)) (omega arith) (omega arith) ∙ laid .z-done k b)
-    (eq-or-lt-of-le {n = k} {m = j} (omega arith));
+        (λ (e : k ≡ j). rw e (new-z x z ∙ ez))
+        (λ (b : k < j). others x z (o + (l + k)) (omega arith) (omega arith) ∙ laid .z-done k b)
+        (eq-or-lt-of-le {n = k} {m = j} (omega arith));
     x-left = λ k h b. others x z (o + k) (omega arith) (omega arith) ∙ laid .x-left k (omega arith) b;
     z-left = λ k h b. others x z (o + (l + k)) (omega arith) (omega arith) ∙ laid .z-left k (omega arith) b;
     around = λ i d. others x z i (λ e. ⊎-elim (λ lo. omega arith) (λ hi. omega arith) d) (λ e. ⊎-elim (λ lo. omega arith) (λ hi. omega arith) d)
-    ∙ laid .around i d;
+        ∙ laid .around i d;
   }
 
   -- what is still to be read is as it was

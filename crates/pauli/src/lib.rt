@@ -7,7 +7,6 @@ ghost use Rattle.bits.specs.Popcount.{popcount};
 ghost use Rattle.store.specs.Equal.{sameList};
 ghost use Rattle.pauli.specs.Word.{width, isIdentity, phase, xorWords, anticommutes};
 ghost use Rattle.pauli.specs.Product.{ProductPre, Product, StoredPre, StoredProduct, ysOf};
-
 use angle::Phase;
 
 // The words of a plane for a number of qubits.

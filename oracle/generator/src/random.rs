@@ -42,6 +42,7 @@ impl Shape {
 pub fn job(rng: &mut Rng, shape: &Shape) -> Job {
     let mut job = unlimited(rng, shape);
     spoil(rng, &mut job);
+    litter(rng, &mut job);
     limit::choose(rng, &mut job);
     job
 }
@@ -123,5 +124,20 @@ fn spoil(rng: &mut Rng, job: &mut Job) {
     if rng.chance(3) && !job.rows.is_empty() {
         let at = rng.below(job.rows.len());
         turn(&mut job.rows[at][3]);
+    }
+}
+
+/// Now and then numbers in fields that are not looked at: an identity's four, a leaf's last two.
+fn litter(rng: &mut Rng, job: &mut Job) {
+    if !rng.chance(10) {
+        return;
+    }
+    for node in &mut job.nodes {
+        let used = match node[0] {
+            0 => 1,
+            1 => 3,
+            _ => 5,
+        };
+        node[used..].fill_with(|| rng.below(100_000) as i64);
     }
 }

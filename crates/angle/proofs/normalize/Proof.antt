@@ -10,10 +10,6 @@ use Rattle.angle.specs.AngleLaws.{eighths-rem}
 use borrow.Author.Needs.{needs}
 use Rattle.angle.proofs.normalize.Statement.{statement}
 use Rattle.angle.proofs.normalize.Tie as tie
-use Rattle.angle.proofs.normalize.Reads as reads
-use Rattle.angle.proofs.normalize.Lts as lts
-use Rattle.angle.proofs.PauliAngle.new.Reads as new-reads
-use Rattle.angle.proofs.PauliAngle.signed_eighths.Reads as signed-eighths-reads
 
 new-requires : tie.Need-new-requires
 new-requires c κs = search needs
@@ -22,7 +18,7 @@ signed-eighths-requires : tie.Need-signed-eighths-requires
 signed-eighths-requires c κs = search needs
 
 returns : tie.Need-returns
-returns c = 
+returns c =
     let k = c .before .before .args .k in
     let e : toZ w8 (ofZ w8 (c .signed-eighths .result)) ≡ c .signed-eighths .result = search needs in
     e ∙ c .signed-eighths .ensures ∙ ap (λ (n : ℕ). signedAngle (n % 8)) (c .before .new .ensures)

@@ -7,7 +7,7 @@ use Rattle.letter.proofs.acting.Statement.{statement}
 use Rattle.letter.proofs.acting.Tie as tie
 
 returns : tie.Need-returns
-returns c = 
+returns c =
     let w = bitOr (c .args .x) (c .args .z) in
     (sym (popcount-ones w), ones-le 64 w (or-lt 64 _ _ (c .fits .x .fits) (c .fits .z .fits)))
 

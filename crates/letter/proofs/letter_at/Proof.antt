@@ -4,10 +4,6 @@ use Rattle.pauli.specs.Letter.{letterOf}
 use borrow.Author.Needs.{needs}
 use Rattle.letter.proofs.letter_at.Statement.{statement}
 use Rattle.letter.proofs.letter_at.Tie as tie
-use Rattle.letter.proofs.letter_at.Reads as reads
-use Rattle.letter.proofs.letter_at.Lts as lts
-use Rattle.letter.proofs.letter_of.Reads as letter-of-reads
-use Rattle.letter.proofs.plane_bit.Reads as plane-bit-reads
 
 mul-plane-bit : tie.Need-mul-plane-bit
 mul-plane-bit c = search needs

@@ -6,11 +6,6 @@ use native.Mathlib.Omega.{arith}
 use borrow.Author.Needs.{needs}
 use Rattle.letter.proofs.put_letter.Statement.{statement}
 use Rattle.letter.proofs.put_letter.Tie as tie
-use Rattle.letter.proofs.put_letter.Reads as reads
-use Rattle.letter.proofs.put_letter.Lts as lts
-use Rattle.letter.proofs.has_x.Reads as has-x-reads
-use Rattle.letter.proofs.has_z.Reads as has-z-reads
-use Rattle.store.proofs.zero_words.Reads as zero-words-reads
 
 mul-n : tie.Need-mul-n
 mul-n c = search needs
@@ -70,7 +65,7 @@ same-length : tie.Need-same-length
 same-length c = search needs
 
 returns : tie.Need-returns
-returns c = 
+returns c =
     let s = c .before .before .before .before .before .before .before in
     put-letter _ _ _ _ _ _ _ _ (s .pre .0) (s .pre .1) (c .before .before .before .before .zero-words .ensures) (c .before .has-x .ensures) (c .has-z .ensures)
 

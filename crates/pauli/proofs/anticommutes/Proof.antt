@@ -59,7 +59,7 @@ loop-again c = (omega arith, search crosses-more)
 
 returns : tie.Need-returns Inv-loop μ-loop
 unfolding anticommutes
-returns c = 
+returns c =
     let s = c .before in
     ap (λ (n : ℕ). eqb (n % 2) 1) (sym (popcount-ones (s .loop .acc)))
     ∙ ap (λ (n : ℕ). eqb n 1) (crosses-all _ _ _ _ _ (s .loop .inv .1) (omega arith))

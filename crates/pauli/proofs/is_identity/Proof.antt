@@ -30,7 +30,7 @@ shared-slice-read-if1 c = search needs
 
 returns : tie.Need-returns Inv-loop μ-loop
 unfolding isIdentity
-returns c = 
+returns c =
     let s = c .before .before .before in
     sym (same-false _ _ (λ e. c .if1 .taken (ap (λ (t : List ℕ). getD t (s .loop .j) 0) e ∙ zeros-at (length (s .before .args .p .now)) (s .loop .j))))
 
@@ -45,7 +45,7 @@ loop-again c = (search needs, search needs, below-more _ _ (c .before .before .b
 
 returns-2 : tie.Need-returns-2 Inv-loop μ-loop
 unfolding isIdentity
-returns-2 c = 
+returns-2 c =
     let p = c .before .before .args .p .now in
     let e = ext-getD 0 p (replicate (length p) 0) (sym (length-replicate (length p) 0))
     (λ k l. c .before .loop .inv .2 k (omega arith) ∙ sym (zeros-at (length p) k)) in

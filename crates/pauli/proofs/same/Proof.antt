@@ -48,7 +48,7 @@ loop-again : tie.Need-loop-again Inv-loop μ-loop
 loop-again c = (search needs, search needs, search needs, below-more _ _ (c .before .before .before .before .loop .inv .3) (c .if2 .left))
 
 returns-3 : tie.Need-returns-3 Inv-loop μ-loop
-returns-3 c = 
+returns-3 c =
     let s = c .before .before .before in
     let e = ext-getD 0 (s .args .p .now) (s .args .q .now) (c .before .loop .inv .2) (λ k l. c .before .loop .inv .3 k (omega arith)) in
     sym (ap (sameList _) (sym e) ∙ same-refl _)

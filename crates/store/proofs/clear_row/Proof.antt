@@ -32,7 +32,7 @@ same-length : tie.Need-same-length
 same-length c = search needs
 
 returns : tie.Need-returns
-returns c = 
+returns c =
     let s = c .before .before .before .before .before in
     zeros-lent _ _ _ _ (omega (arith, row-in (s .args .u) 24 (s .args .r) (s .pre .1))) (c .before .before .zero-numbers .ensures)
 

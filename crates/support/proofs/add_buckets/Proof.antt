@@ -8,8 +8,6 @@ use Rattle.support.proofs.Turns.{turn-bucket, bit-more, bits-all, fewer
 use native.Mathlib.Omega.{arith}
 use Rattle.support.proofs.add_buckets.Statement.{statement}
 use Rattle.support.proofs.add_buckets.Tie as tie
-use Rattle.support.proofs.add_buckets.Reads as reads
-use Rattle.support.proofs.add_buckets.Lts as lts
 
 abbrev Inv-loop : tie.InvT-loop
 Inv-loop sig w j l s₀ rest₀ s rest = (rest < 2 ^ 64) × (bitOr s (bucketsOf l j rest 64) ≡ bitOr sig (bucketsOf l j w 64))

@@ -6,9 +6,6 @@ use Rattle.support.proofs.Turns.{word-more}
 use native.Mathlib.Omega.{arith}
 use Rattle.support.proofs.support_signature.Statement.{statement}
 use Rattle.support.proofs.support_signature.Tie as tie
-use Rattle.support.proofs.support_signature.Reads as reads
-use Rattle.support.proofs.support_signature.Lts as lts
-use Rattle.support.proofs.add_buckets.Reads as add-buckets-reads
 
 abbrev Inv-loop : tie.InvT-loop
 Inv-loop words l sig₀ j₀ sig j = (j ≤ l) × (sig ≡ signatureTo l words (64 * j))

@@ -10,23 +10,23 @@ rem-r : tie.Need-rem-r
 rem-r c = (omega arith, quot-fits (c .args .eighths) (c .fits .eighths))
 
 add-t5 : tie.Need-add-t5
-add-t5 c = 
+add-t5 c =
     let k = c .before .args .eighths in
     rw (r8-below k (c .before .fits .eighths) (c .if1 .taken)) (record { sfits = omega (arith, eighths-lt k) })
 
 cast-t6 : tie.Need-cast-t6
-cast-t6 c = 
+cast-t6 c =
     let k = c .before .args .eighths in
     let f = c .before .fits .eighths in
     rw (r8-below k f (c .if1 .taken), eighths-back k f) (tt, record { fits = omega (arith, eighths-lt k) })
 
 cast-t7 : tie.Need-cast-t7
-cast-t7 c = 
+cast-t7 c =
     let k = c .before .args .eighths in
     rw (r8-above k (c .before .fits .eighths) (c .if1 .left)) (tt, record { fits = omega (arith, eighths-lt k) })
 
 returns : tie.Need-returns
-returns c = 
+returns c =
     let k = c .before .args .eighths in
     let f = c .before .fits .eighths in
     rw (r8-below k f (c .if1 .taken), eighths-back k f)

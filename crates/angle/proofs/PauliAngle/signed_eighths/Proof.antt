@@ -29,7 +29,7 @@ array-copy-out-result c = search needs
 
 returns : tie.Need-returns
 unfolding table right signedAngle pick
-returns c = 
+returns c =
     let k = c .before .before .args .self .0 % 8 in
     eqZ→eq (toZ w8 (ofZ w8 (getD table k (pos 0)))) (signedAngle k) (at right (pos 0) table tt k (omega arith))
 
