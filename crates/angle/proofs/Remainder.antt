@@ -1,11 +1,10 @@
 -- The remainder by 8 of a signed number, as the machine has it and from 0 to 7. Assumes nothing.
 use mathlib.Core.Path.{_≡_, refl, sym, ap, _∙_}
-use mathlib.Core.Bool.{Bool, true, false}
-use Prim.Native.Nat.{ℕ, zero, suc, _-_, _/_, _%_, _^_, _≤_, _<_}
+use mathlib.Core.Bool.{true, false}
+use Prim.Native.Nat.{ℕ, zero, suc, _-_, _/_, _%_, _≤_, _<_}
 use native.Mathlib.Nat.{lt-of-le-of-lt}
 use native.Mathlib.Omega.{arith}
-use borrow.Author.Tests.{le-ltb, ltb-true, ltb-false}
-use lib.Dec.{ltb}
+use borrow.Author.Tests.{le-ltb, ltb-true}
 use lib.IntN.{ℤ, pos, negsuc, negℤ, subℕ, _+ℤ_}
 use lib.Signed.{mag, remZ, quotZ, ltZ, mag-rem}
 use mir.Syntax.{w32}

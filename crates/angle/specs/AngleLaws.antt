@@ -1,12 +1,12 @@
 -- Laws of angles, phases and the signed numbers that stand for angles. Assumes nothing.
-use mathlib.Core.Path.{_≡_, refl}
+use mathlib.Core.Path.{_≡_}
 use mathlib.Core.Bool.{_&&_}
 use Prim.Native.Nat.{ℕ, _%_, _<_}
 use native.Mathlib.Omega.{arith}
 use lib.Dec.{T, eqb, eqb→eq}
 use lib.Signed.{leZ}
 use lib.IntN.{ℤ, pos, negsuc}
-use Rattle.store.specs.Table.{upto, below}
+use Rattle.store.specs.Table.{below}
 use Rattle.angle.specs.Angle.{addAngles, negAngle, addPhases, negPhase, eighthsOf, pick, signedAngle}
 
 pub eighths-lt : (k : ℤ) → eighthsOf k < 8

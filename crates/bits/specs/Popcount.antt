@@ -1,7 +1,7 @@
 -- How many bits of a number are set. `lib.Count.ones` goes through as many digits as the number says, so it computes at small
 -- numbers only; `popcount` stops where nothing is left, and is the same number. Assumes nothing.
 use mathlib.Core.Path.{_≡_, refl, sym, ap, _∙_}
-use Prim.Native.Nat.{ℕ, zero, suc, _+_, _*_, _/_, _%_, _^_, _≤_, _<_, min}
+use Prim.Native.Nat.{ℕ, zero, suc, _+_, _*_, _/_, _%_, _^_, _≤_, _<_}
 use native.Mathlib.Nat.{pow-suc}
 use native.Mathlib.Omega.{arith}
 use lib.Arith.{bin-ind}

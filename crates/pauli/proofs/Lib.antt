@@ -1,3 +1,1 @@
-pub mod Phase
-pub mod Planes
-pub mod Turns
+pub mod Crosses

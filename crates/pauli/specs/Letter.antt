@@ -1,7 +1,7 @@
 -- 01, "words.rs" and "Listing program": the letters of a word, I X Y Z = 0 to 3. Assumes nothing.
 use mathlib.Core.List.{List}
 use Prim.Native.Nat.{ℕ, zero, suc, _+_, _*_, _/_, _%_, _^_}
-use lib.ListN.{set, replicate}
+use lib.ListN.{set}
 use Rattle.bits.specs.Bit.{bit}
 use Rattle.bits.specs.Sum.{sumTo}
 use Rattle.pauli.specs.Word.{xWord, zWord, identity}

@@ -1,12 +1,12 @@
 -- Letters and words determine each other; the letters of a product, of one letter, and their counts. Assumes nothing.
 use mathlib.Core.Path.{_≡_, refl, sym, ap, ap₂, _∙_}
-use mathlib.Core.Logic.{_⊎_, inl, inr, ⊎-elim}
+use mathlib.Core.Logic.{_⊎_, ⊎-elim}
 use mathlib.Core.List.{List}
 use Prim.Native.Nat.{ℕ, zero, suc, _+_, _-_, _*_, _/_, _%_, _^_, _≤_, _<_, min, max}
 use native.Mathlib.Nat.{zero-mul, one-mul, eq-or-lt-of-le}
 use native.Mathlib.Omega.{arith}
 use native.Mathlib.Decide.{ℕ-discrete}
-use lib.Bits.{bitAnd, bitOr, bitXor, differ, and-lt, xor-lt}
+use lib.Bits.{bitAnd, bitOr, differ, and-lt, xor-lt}
 use lib.ListN.{length, getD, set, length-set, length-replicate}
 use lib.Pow.{pow-mono}
 use lib.Seq.{ext-getD, getD-set-same, getD-set-other}
@@ -16,7 +16,7 @@ use Rattle.bits.specs.Bit.{bit, bit-digit, bit-xor, bit-and, bit-or, bit-ext, b
 use Rattle.bits.specs.Sum.{sumTo, sum-cong, sum-add}
 use Rattle.bits.specs.Popcount.{popcount, popcount-bits}
 use Rattle.pauli.specs.Word.{xWord, zWord, IsWord, identity, common, ν, xorWords}
-use Rattle.pauli.specs.Letter.{xBit, zBit, letterOf, hasX, hasZ, letterAt, single, other, acts, weight}
+use Rattle.pauli.specs.Letter.{letterOf, hasX, hasZ, letterAt, single, other, acts}
 use Rattle.pauli.specs.ProductLaws.{zeros-at, xorWords-at, xorWords-length}
 
 -- qubit 64 j + t is bit t of word j
@@ -28,7 +28,8 @@ place-mod j t h = omega arith
 
 -- ---- a word is its letters
 
-letter-bits : {x z x′ z′ : ℕ} → Digit x → Digit z → Digit x′ → Digit z′ → letterOf x z ≡ letterOf x′ z′ → (x ≡ x′) × (z ≡ z′)
+letter-bits : {x z x′ z′ : ℕ} → Digit x → Digit z → Digit x′ → Digit z′ → letterOf x z ≡ letterOf x′ z′
+    → (x ≡ x′) × (z ≡ z′)
 letter-bits off off off off h = (refl, refl)
 letter-bits off on off on h = (refl, refl)
 letter-bits on off on off h = (refl, refl)
@@ -79,7 +80,8 @@ letterMul (suc (suc (suc a))) (suc zero) = 2
 letterMul (suc (suc (suc a))) (suc (suc zero)) = 1
 letterMul (suc (suc (suc a))) (suc (suc (suc b))) = 0
 
-mul-table : {x z x′ z′ : ℕ} → Digit x → Digit z → Digit x′ → Digit z′ → letterOf (differ x x′) (differ z z′) ≡ letterMul (letterOf x z) (letterOf x′ z′)
+mul-table : {x z x′ z′ : ℕ} → Digit x → Digit z → Digit x′ → Digit z′
+    → letterOf (differ x x′) (differ z z′) ≡ letterMul (letterOf x z) (letterOf x′ z′)
 mul-table off off x z = refl
 mul-table off on off off = refl
 mul-table off on off on = refl
@@ -187,8 +189,10 @@ module _ (l q c : ℕ) (inside : q < 64 * l) where
       go (yes e) =
           let apart : i % 64 ≡ q % 64 → ⊥ = λ m. n (omega arith) in
           ap₂ letterOf
-          (ap (λ (j : ℕ). bit (xWord (single l q c) j) (i % 64)) e ∙ ap (λ (w : ℕ). bit w (i % 64)) single-x ∙ bit-off (q % 64) (i % 64) (hasX-digit c) apart)
-          (ap (λ (j : ℕ). bit (zWord l (single l q c) j) (i % 64)) e ∙ ap (λ (w : ℕ). bit w (i % 64)) single-z ∙ bit-off (q % 64) (i % 64) (hasZ-digit c) apart)
+          (ap (λ (j : ℕ). bit (xWord (single l q c) j) (i % 64)) e ∙ ap (λ (w : ℕ). bit w (i % 64)) single-x
+          ∙ bit-off (q % 64) (i % 64) (hasX-digit c) apart)
+          (ap (λ (j : ℕ). bit (zWord l (single l q c) j) (i % 64)) e ∙ ap (λ (w : ℕ). bit w (i % 64)) single-z
+          ∙ bit-off (q % 64) (i % 64) (hasZ-digit c) apart)
       go (no d) =
           ap₂ letterOf
           (ap (λ (w : ℕ). bit w (i % 64)) (single-at (i / 64) d (omega arith)) ∙ zero-bit (i % 64))

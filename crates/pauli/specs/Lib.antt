@@ -1,5 +1,4 @@
 pub mod Word
-pub mod Product
 pub mod Letter
 pub mod Support
 pub mod ProductLaws

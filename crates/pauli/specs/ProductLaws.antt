@@ -7,7 +7,7 @@ use native.Mathlib.Omega.{arith}
 use native.Mathlib.Numerals.{add-one}
 use borrow.Author.Tests.{eqb-true, eqb-false, eq-eqb, ne-eqb}
 use lib.Bits.{bitAnd, bitXor, xor-zero-r, xor-comm, xor-self, and-comm}
-use lib.ListN.{length, getD, replicate, length-replicate}
+use lib.ListN.{length, getD, replicate}
 use Rattle.bits.specs.Bit.{xor-assoc}
 use Rattle.bits.specs.Popcount.{popcount, popcount-zero, popcount-and-xor}
 use Rattle.bits.specs.Remainder.{same4, same2, sum4, sum2, double4}
@@ -78,7 +78,8 @@ common-zero : (f g : ℕ → ℕ) (n : ℕ) → ((j : ℕ) → f j ≡ 0) → co
 common-zero f g n e = common-none f g n (λ j b. ap (λ (x : ℕ). bitAnd x (g j)) (e j))
 
 -- h is f xor g: it has as many bits in common with k as f and g have, less an even number
-common-xor : (f g h k : ℕ → ℕ) (n : ℕ) → ((j : ℕ) → h j ≡ bitXor (f j) (g j)) → (t : ℕ) × (common h k n + 2 * t ≡ common f k n + common g k n)
+common-xor : (f g h k : ℕ → ℕ) (n : ℕ) → ((j : ℕ) → h j ≡ bitXor (f j) (g j))
+    → (t : ℕ) × (common h k n + 2 * t ≡ common f k n + common g k n)
 unfolding common
 common-xor f g h k zero e = (0, refl)
 common-xor f g h k (suc n) e =

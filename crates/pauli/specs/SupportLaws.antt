@@ -1,18 +1,17 @@
 -- What a signature's bits say, that words with disjoint signatures commute, and how a loop over set bits builds one. Assumes nothing.
-use mathlib.Core.Path.{_≡_, refl, sym, ap, ap₂, _∙_, subst}
+use mathlib.Core.Path.{_≡_, refl, sym, ap, _∙_}
 use mathlib.Core.Logic.{_⊎_, ⊎-elim}
 use mathlib.Core.List.{List}
-use Prim.Native.Nat.{ℕ, zero, suc, _+_, _-_, _*_, _/_, _%_, _^_, _≤_, _<_, min, max}
+use Prim.Native.Nat.{ℕ, zero, suc, _+_, _-_, _*_, _/_, _^_, _≤_, _<_, max}
 use native.Mathlib.Nat.{zero-mul, one-mul, add-zero, add-suc, eq-or-lt-of-le, div-lt-iff-lt-mul}
 use native.Mathlib.Omega.{arith}
 use lib.Bits.{bitAnd, bitOr, or-comm, or-zero-r, or-self}
 use lib.Count.{trailingZeros}
-use lib.ListN.{getD}
 use Rattle.bits.specs.Remainder.{lt-or-ge}
 use Rattle.bits.specs.Digit.{Digit, off, on, max-one, min-none}
 use Rattle.bits.specs.Bit.{bit, bit-digit, bit-lt, bit-and, bit-or, bit-ext, bit-high, zero-bit, or-assoc, or-swap, pow-bit, pow-only, pow-other}
 use Rattle.bits.specs.LowestBit.{lowest-bit, trailing-lt}
-use Rattle.pauli.specs.Word.{xWord, zWord, IsWord, cross, common, symplectic}
+use Rattle.pauli.specs.Word.{xWord, zWord, IsWord, common, symplectic}
 use Rattle.pauli.specs.Letter.{letterAt, other, acts}
 use Rattle.pauli.specs.Support.{bucket, signatureTo, signature}
 use Rattle.pauli.specs.ProductLaws.{common-comm, common-none}
@@ -54,7 +53,8 @@ module _ (l : ℕ) (p : List ℕ) where
       (λ (e : bit (acts l p n * 2 ^ (n / l)) b ≡ 1). here (acts-digit n) refl e)
       (max-one (bit-digit (signatureTo l p n) b) (bit-digit _ b) (sym (bit-or (signatureTo l p n) (acts l p n * 2 ^ (n / l)) b) ∙ h))
     where
-      here : {a : ℕ} → Digit a → acts l p n ≡ a → bit (a * 2 ^ (n / l)) b ≡ 1 → (q : ℕ) × (q < suc n) × (bucket l q ≡ b) × (acts l p q ≡ 1)
+      here : {a : ℕ} → Digit a → acts l p n ≡ a → bit (a * 2 ^ (n / l)) b ≡ 1
+          → (q : ℕ) × (q < suc n) × (bucket l q ≡ b) × (acts l p q ≡ 1)
       here off z e = let zero-is : bit 0 b ≡ 1 = rw zero-mul at e in absurd (omega (arith, zero-bit b))
       here on z e = (n, omega arith, sym (pow-only (n / l) b (rw one-mul at e)), z)
 

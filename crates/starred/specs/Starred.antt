@@ -2,12 +2,12 @@
 use mathlib.Core.Path.{_≡_, refl}
 use mathlib.Core.List.{List}
 use Prim.Native.Nat.{ℕ, _^_}
-use lib.IntN.{ℤ, pos, negsuc}
+use lib.IntN.{pos, negsuc}
 use Rattle.bits.specs.Bit.{bit}
 use Rattle.bits.specs.Popcount.{popcount, popcountIn}
 use Rattle.angle.specs.Angle.{eighthsOf, pick, signedAngle}
 use Rattle.pauli.specs.Word.{width, common, xorWords, phase}
-use Rattle.pauli.specs.Product.{Product}
+use Rattle.product.specs.Product.{Product}
 use Rattle.pauli.specs.Letter.{hasX, hasZ, single}
 use Rattle.pauli.specs.LetterLaws.{fromLetters}
 use Rattle.pauli.specs.Support.{signature, signatureTo}

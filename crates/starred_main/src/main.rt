@@ -11,7 +11,7 @@ fn word(a: u32, b: u32) -> [u64; 2] {
     let mut w = [0u64; 4];
     letter::put_letter(&mut w, 0, 1, 0, a);
     letter::put_letter(&mut w, 2, 1, 1, b);
-    pauli::product_in(&mut w, 0, 2, 0, 1);
+    product::product_in(&mut w, 0, 2, 0, 1);
     [w[0], w[1]]
 }
 
@@ -34,7 +34,7 @@ fn show_product(p: &[u64], q: &[u64])
     requires { ⌜ (length (now p) ≡ 2) × (length (now q) ≡ 2) ⌝ }
 {
     let mut r = [0u64; 2];
-    let e = pauli::product(p, q, &mut r, 1);
+    let e = product::product(p, q, &mut r, 1);
     show_word(p);
     io::write_all(1, b" times ");
     show_word(q);

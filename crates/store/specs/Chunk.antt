@@ -1,6 +1,6 @@
 -- A store of words of k numbers each, one after the other: `chunks k n s` is the list of the first n. Assumes nothing.
 use mathlib.Core.Path.{_≡_, refl, sym, ap, ap₂, _∙_}
-use mathlib.Core.Logic.{_⊎_, inl, inr}
+use mathlib.Core.Logic.{inr}
 use Prim.Native.Nat.{ℕ, zero, suc, _+_, _*_, _≤_, _<_}
 use native.Mathlib.Nat.{suc-mul, zero-mul, le-of-suc-le-suc, not-suc-le-zero, mul-le-mul-right}
 use native.Mathlib.Numerals.{add-one}
@@ -63,7 +63,8 @@ chunks-apart k n s b w h l =
     (λ i m. part-put-apart s b w (i * k) k h (omega (arith, chunk-in k n i m)) (inr (omega (arith, chunk-in k n i m))))
 
 -- a word laid behind the last
-pub chunks-put : (k n : ℕ) (s w : List ℕ) → n * k + k ≤ length s → length w ≡ k → chunks k (n + 1) (put s (n * k) w) ≡ chunks k n s ++ (w ∷ [])
+pub chunks-put : (k n : ℕ) (s w : List ℕ) → n * k + k ≤ length s → length w ≡ k
+    → chunks k (n + 1) (put s (n * k) w) ≡ chunks k n s ++ (w ∷ [])
 chunks-put k n s w h e =
     chunks-snoc k n (put s (n * k) w)
     ∙ ap₂ (λ (a : List (List ℕ)) (b : List ℕ). a ++ (b ∷ []))

@@ -24,7 +24,8 @@ same-true [] (y ∷ ys) e = absurd (false≢true e)
 same-true (x ∷ xs) [] e = absurd (false≢true e)
 same-true (x ∷ xs) (y ∷ ys) e = go (eqb x y) refl (same-true xs ys) e
   where
-    go : (b : Bool) → eqb x y ≡ b → (sameList xs ys ≡ true → xs ≡ ys) → (b && sameList xs ys) ≡ true → _≡_ {A = List ℕ} (x ∷ xs) (y ∷ ys)
+    go : (b : Bool) → eqb x y ≡ b → (sameList xs ys ≡ true → xs ≡ ys) → (b && sameList xs ys) ≡ true
+        → _≡_ {A = List ℕ} (x ∷ xs) (y ∷ ys)
     go true p r q = ap₂ (λ (a : ℕ) (t : List ℕ). a ∷ t) (eqb-true x y p) (r q)
     go false p r q = absurd (false≢true q)
 

@@ -1,7 +1,7 @@
 -- A loop that writes a slice from the front, one element a turn: after i turns the first i elements are those of the target t,
 -- the others still those of d. `mix t d i` is that list; a loop that goes down has `mix d t i`. Assumes nothing.
 use mathlib.Core.Path.{_≡_, refl, sym, ap, _∙_}
-use Prim.Native.Nat.{ℕ, zero, suc, _+_, _≤_, _<_}
+use Prim.Native.Nat.{ℕ, zero, suc, _+_, _-_, _≤_, _<_}
 use native.Mathlib.Omega.{arith}
 use native.Mathlib.Nat.{le-of-suc-le-suc, not-suc-le-zero}
 use native.Mathlib.Numerals.{add-one}
@@ -79,19 +79,24 @@ down x d t i v p e l q = ap (λ (y : List ℕ). set y i v) p ∙ mix-down d t i 
 pub whole : (x t d : List ℕ) (i : ℕ) → x ≡ mix t d i → length t ≡ length d → length d ≤ i → x ≡ t
 whole x t d i p e l = p ∙ mix-all t d i (omega arith) l
 
--- ---- a fill with one value; shut, so that a use determines what it stands over
+-- ---- a fill with one value, from the end down to i; shut, so that a use determines what it stands over
 
-unfoldable pub fillTo : List ℕ → ℕ → ℕ → List ℕ
-fillTo d v i = mix (replicate (length d) v) d i
+unfoldable pub filledFrom : List ℕ → ℕ → ℕ → List ℕ
+filledFrom d v i = mix d (replicate (length d) v) i
 
-pub fill-none : (d : List ℕ) (v : ℕ) → d ≡ fillTo d v 0
-unfolding fillTo
-fill-none d v = sym (mix-none _ d)
+pub fill-none : (d : List ℕ) (v : ℕ) → d ≡ filledFrom d v (length d)
+unfolding filledFrom
+fill-none d v =
+    let n : length (replicate (length d) v) ≡ length d = length-replicate (length d) v in
+    sym (mix-all d (replicate (length d) v) (length d) (omega arith) (omega arith))
 
-pub fill-more : (x d : List ℕ) (i v : ℕ) → x ≡ fillTo d v i → i < length d → set x i v ≡ fillTo d v (i + 1)
-unfolding fillTo
-fill-more x d i v p l = up x (replicate (length d) v) d i v p (length-replicate (length d) v) l (sym (getD-replicate (length d) i v 0 l))
+pub fill-more : (x d : List ℕ) (i v : ℕ) → x ≡ filledFrom d v i → 0 < i → i ≤ length d → set x (i - 1) v ≡ filledFrom d v (i - 1)
+unfolding filledFrom
+fill-more x d i v p h l =
+    let e : i - 1 + 1 ≡ i = omega arith in
+    down x d (replicate (length d) v) (i - 1) v (rw e p) (sym (length-replicate (length d) v)) (omega arith)
+    (sym (getD-replicate (length d) (i - 1) v 0 (omega arith)))
 
-pub fill-all : (x d : List ℕ) (i v : ℕ) → x ≡ fillTo d v i → length d ≤ i → x ≡ replicate (length d) v
-unfolding fillTo
-fill-all x d i v p l = whole x (replicate (length d) v) d i p (length-replicate (length d) v) l
+pub fill-all : (x d : List ℕ) (i v : ℕ) → x ≡ filledFrom d v i → i ≡ 0 → x ≡ replicate (length d) v
+unfolding filledFrom
+fill-all x d i v p e = p ∙ ap (mix d (replicate (length d) v)) e ∙ mix-none d (replicate (length d) v)

@@ -1,10 +1,10 @@
 -- A part of a store: `part s b n` is the n elements from b on; `put s b w` is s with w laid at b. Assumes nothing.
 use mathlib.Core.Path.{_≡_, refl, sym, ap, _∙_, subst}
-use mathlib.Core.Logic.{_⊎_, inl, inr, ⊎-elim}
-use Prim.Native.Nat.{ℕ, zero, suc, _+_, _-_, _≤_, _<_}
+use mathlib.Core.Logic.{_⊎_, ⊎-elim}
+use Prim.Native.Nat.{ℕ, _+_, _-_, _≤_, _<_}
 use native.Mathlib.Omega.{arith}
 use native.Mathlib.Decide.{decLt, ℕ-discrete}
-use mathlib.Core.List.{List, [], _∷_, _++_}
+use mathlib.Core.List.{List, _++_}
 use borrow.Rule.Slice.PartMut.{putMid}
 use lib.ListN.{length, getD, set, take, drop, replicate, length-set, length-take, length-append, length-drop, length-replicate, List·getD-append}
 use lib.Seq.{length-take-le, getD-append-add, getD-take, getD-drop, ext-getD, getD-set-same, getD-set-other, drop-drop}

@@ -1,5 +1,5 @@
 -- The two bits of the qubit make its letter. Assumes nothing.
-use mathlib.Core.Path.{_≡_, ap₂, _∙_}
+use mathlib.Core.Path.{ap₂, _∙_}
 use Rattle.pauli.specs.Letter.{letterOf}
 use borrow.Author.Needs.{needs}
 use Rattle.letter.proofs.letter_at.Statement.{statement}

@@ -1,5 +1,5 @@
 -- By cases of the two bits. Assumes nothing.
-use mathlib.Core.Path.{_≡_, refl, ap₂, sym, _∙_}
+use mathlib.Core.Path.{_≡_, refl}
 use Prim.Native.Nat.{ℕ, zero, suc}
 use Rattle.pauli.specs.Letter.{letterOf}
 use native.Mathlib.Omega.{arith}

@@ -1,5 +1,4 @@
 -- The part that is lent comes back as zeros; two stores make the letter. Assumes nothing.
-use mathlib.Core.Path.{_≡_}
 use lib.ListN.{length-set}
 use Rattle.letter.proofs.Single.{put-letter}
 use native.Mathlib.Omega.{arith}

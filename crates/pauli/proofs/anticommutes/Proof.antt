@@ -4,7 +4,7 @@ use Prim.Native.Nat.{ℕ, _≤_, _-_, _%_}
 use lib.Dec.{eqb}
 use Rattle.bits.specs.Popcount.{popcount, popcount-ones}
 use Rattle.pauli.specs.Word.{anticommutes}
-use Rattle.pauli.proofs.Phase.{crossesTo, crosses-none, crosses-more, crosses-all}
+use Rattle.pauli.proofs.Crosses.{crossesTo, crosses-none, crosses-more, crosses-all}
 use native.Mathlib.Omega.{arith}
 use Rattle.pauli.proofs.anticommutes.Statement.{statement}
 use Rattle.pauli.proofs.anticommutes.Tie as tie

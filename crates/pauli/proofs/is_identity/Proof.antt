@@ -14,10 +14,10 @@ use Rattle.pauli.proofs.is_identity.Statement.{statement}
 use Rattle.pauli.proofs.is_identity.Tie as tie
 
 abbrev Inv-loop : tie.InvT-loop
-Inv-loop p j₀ j-end j = (j ≤ j-end) × (j-end ≡ length p) × ((k : ℕ) → k < j → getD p k 0 ≡ 0)
+Inv-loop p k₀ k-end k = (k ≤ k-end) × (k-end ≡ length p) × ((i : ℕ) → i < k → getD p i 0 ≡ 0)
 
 abbrev μ-loop : tie.MeasureT-loop
-μ-loop p j₀ j-end j = j-end - j
+μ-loop p k₀ k-end k = k-end - k
 
 loop-holds : tie.Need-loop-holds Inv-loop μ-loop
 loop-holds c = search needs
@@ -32,10 +32,10 @@ returns : tie.Need-returns Inv-loop μ-loop
 unfolding isIdentity
 returns c =
     let s = c .before .before .before in
-    sym (same-false _ _ (λ e. c .if1 .taken (ap (λ (t : List ℕ). getD t (s .loop .j) 0) e ∙ zeros-at (length (s .before .args .p .now)) (s .loop .j))))
+    sym (same-false _ _ (λ e. c .if1 .taken (ap (λ (t : List ℕ). getD t (s .loop .k) 0) e ∙ zeros-at (length (s .before .args .p .now)) (s .loop .k))))
 
-add-j : tie.Need-add-j Inv-loop μ-loop
-add-j c = search needs
+add-k : tie.Need-add-k Inv-loop μ-loop
+add-k c = search needs
 
 loop-less : tie.Need-loop-less Inv-loop μ-loop
 loop-less c = search needs
@@ -61,7 +61,7 @@ is-identity-spec =
     mul-if1
     shared-slice-read-if1
     returns
-    add-j
+    add-k
     loop-less
     loop-again
     returns-2)

@@ -1,5 +1,5 @@
 -- The loop's invariant: what is gathered, and the buckets of the bits that are left, are the result. Assumes nothing.
-use mathlib.Core.Path.{_≡_, refl, sym}
+use mathlib.Core.Path.{_≡_, refl}
 use Prim.Native.Nat.{_^_, _-_, _<_}
 use lib.Bits.{bitOr, and-le-l}
 use lib.Count.{trailing-le}

@@ -1,5 +1,4 @@
 -- The machine's remainder of a signed number, made the one from 0 to 7. Assumes nothing.
-use mathlib.Core.Path.{refl}
 use Rattle.angle.proofs.Remainder.{r8-below, r8-above, eighths-back, quot-fits}
 use Rattle.angle.specs.AngleLaws.{eighths-lt}
 use native.Mathlib.Omega.{arith}

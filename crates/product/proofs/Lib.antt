@@ -1,0 +1,3 @@
+pub mod Phase
+pub mod Planes
+pub mod Turns
