@@ -1,0 +1,60 @@
+-- The interface's types in 01's words: the answers' numbers, Rust's defaults, counters at 0. Assumes nothing.
+use mathlib.Core.Bool.{Bool, true, false}
+use Prim.Native.Nat.{ℕ}
+use lib.Dec.{eqb}
+use Rattle.model.specs.declared.Strategy.the-variants.{Merge}
+use Rattle.model.specs.declared.Options.{Options}
+use Rattle.model.specs.declared.Answer.{Answer}
+use Rattle.model.specs.declared.Answer.the-variants.{Accepted, CountOutside, OptionOutside, SliceShort, BadNode, BadQubit, BadReference, BadOperation}
+use Rattle.model.specs.declared.Answer.the-variants.{BadOutcome, NonHermitianAxis, ExpansionLimit, BadText}
+use Rattle.model.specs.declared.Counters.{Counters}
+
+-- "If the answer is an enum, a definition gives this paper's number for each of its cases"
+abbrev pub numberOf : Answer → ℕ
+numberOf Accepted = 0
+numberOf CountOutside = 1
+numberOf OptionOutside = 2
+numberOf SliceShort = 3
+numberOf BadNode = 4
+numberOf BadQubit = 5
+numberOf BadReference = 6
+numberOf BadOperation = 7
+numberOf BadOutcome = 8
+numberOf NonHermitianAxis = 9
+numberOf ExpansionLimit = 10
+numberOf BadText = 11
+
+-- 0: the work goes on
+abbrev pub accepts : Answer → Bool
+accepts a = eqb (numberOf a) 0
+
+-- "options are Rust's defaults save the limit"
+abbrev pub defaultsAt : ℕ → Options
+defaultsAt limit = record {
+  lookback = 1048576;
+  window = 0;
+  candidates = 16;
+  rounds = 8;
+  «clifford_to_frame» = true;
+  «eager_swaps» = true;
+  «lazy_cliffords» = false;
+  strategy = Merge;
+  «measure_depth» = false;
+  «max_packed_words» = limit;
+}
+
+-- "every run starts them at 0", "After any refusal counters are 0."
+abbrev pub noCounters : Counters
+noCounters = record {
+  «t_before» = 0;
+  «t_after» = 0;
+  «rotations_before» = 0;
+  «rotations_after» = 0;
+  merges = 0;
+  swaps = 0;
+  «cliffords_to_frame» = 0;
+  «t_depth_before» = 0;
+  «t_depth_after» = 0;
+  «weight_before» = 0;
+  «weight_after» = 0;
+}

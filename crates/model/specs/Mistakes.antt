@@ -1,0 +1,76 @@
+-- 01, "Mistakes to rule out", and further readings that runs have shown to be wrong: a small case for each, by computing. The must-fail
+-- edits of this crate put each mistake into a definition, and its case no longer holds. Assumes nothing.
+use mathlib.Core.Path.{_≡_, refl}
+use mathlib.Core.Bool.{true, false}
+use mathlib.Core.List.{List, [], _∷_}
+use Prim.Native.Nat.{ℕ}
+use lib.IntN.{pos, negsuc}
+use Rattle.angle.specs.Angle.{eighthsOf, signedAngle}
+use Rattle.pauli.specs.Letter.{single}
+use Rattle.model.specs.declared.Strategy.the-variants.{Merge}
+use Rattle.model.specs.Program.{Node, identity, letter, product, rotate, measure, Operation, Program}
+use Rattle.model.specs.Rules.{Absorption, off, atOnce, Rules}
+use Rattle.model.specs.Words.{Value, asValue}
+use Rattle.model.specs.Clifford.{absorbImage}
+use Rattle.model.specs.Items.{tCount}
+use Rattle.model.specs.Run.{endOf, run}
+use Rattle.model.specs.Everything.{everything}
+
+-- angle k about a node; a measurement of a node
+abbrev turn : ℕ → ℕ → Operation
+turn n k = record { kind = rotate; node = n; phase = 0; angle = k; outcome = 65535; target = 65535 }
+
+abbrev measured : ℕ → Operation
+measured n = record { kind = measure; node = n; phase = 0; angle = 0; outcome = 0; target = 65535 }
+
+-- nodes 1, 2, 3 are X, Z and XZ of one qubit; no frame row is looked at
+abbrev qubit : List Operation → Program
+qubit operations =
+    record { qubits = 1; nodes = identity ∷ letter 0 1 ∷ letter 0 3 ∷ product 1 0 2 1 ∷ []; operations = operations; rows = [] }
+
+-- nodes 1 and 2 are Y of the second qubit and of the first
+abbrev qubits : List Operation → Program
+qubits operations = record { qubits = 2; nodes = identity ∷ letter 1 2 ∷ letter 0 2 ∷ []; operations = operations; rows = [] }
+
+abbrev rules : ℕ → ℕ → ℕ → Absorption → Rules
+rules lookback window candidates absorption = record {
+  lookback = lookback;
+  window = window;
+  candidates = candidates;
+  absorption = absorption;
+  eager = true;
+  strategy = Merge;
+  depth = false;
+}
+
+-- the T-count after a number of rounds, with Rust's other defaults
+abbrev tLeft : ℕ → Program → ℕ
+tLeft rounds p = tCount (endOf (rules 1048576 0 16 atOnce) rounds p .items)
+
+pub record RuledOut : Type 0 where
+  -- "conjugating the wrong way round": absorbing Z with k = 2 takes X to -Y
+  pub conjugation : absorbImage 1 (single 1 0 3) 2 (asValue (single 1 0 1)) ≡ record { turns = 2; word = single 1 0 2 }
+  -- "finding an older equal axis after `last` was cleared": X:1 Z:1 X:1 X:7 Z:7 X:1 keeps both X in one round
+  pub older-axis : tLeft 1 (qubit (turn 1 1 ∷ turn 2 1 ∷ turn 1 1 ∷ turn 1 7 ∷ turn 2 7 ∷ turn 1 1 ∷ [])) ≡ 2
+  -- "merging across a measurement"
+  pub across-a-measurement : tLeft 8 (qubit (turn 2 1 ∷ measured 2 ∷ turn 2 1 ∷ [])) ≡ 2
+  -- "-4 kept as -4"
+  pub minus-four : signedAngle (eighthsOf (negsuc 3)) ≡ pos 4
+  -- a product's children freed after it takes its slot: XZ would take a third
+  pub children-first : run (rules 1048576 0 16 atOnce) 0 (qubit (turn 3 1 ∷ [])) .peak ≡ 6
+  -- the certificate's sums modulo 8: X:2 Z:2 X:2 X:2 would be exchanged
+  pub whole-sums : endOf (rules 1048576 3 2 off) 3 (qubit (turn 1 2 ∷ turn 2 2 ∷ turn 1 2 ∷ turn 1 2 ∷ [])) .swaps ≡ 0
+  -- a stop rule that ignores exchanges: IY:7 YI:1 IY:2 YI:2 IY:1 would keep 3
+  pub exchange-goes-on : tCount (endOf (rules 0 1 0 off) 8 (qubits (turn 1 7 ∷ turn 2 1 ∷ turn 1 2 ∷ turn 2 2 ∷ turn 1 1 ∷ [])) .items) ≡ 1
+
+pub ruled-out : RuledOut
+unfolding everything
+ruled-out = record {
+  conjugation = refl;
+  older-axis = refl;
+  across-a-measurement = refl;
+  minus-four = refl;
+  children-first = refl;
+  whole-sums = refl;
+  exchange-goes-on = refl;
+}

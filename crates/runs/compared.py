@@ -1,0 +1,161 @@
+#!/usr/bin/env python3
+# Writes specs/Compared1.antt, Compared2.antt, ..: jobs of the oracle's fixed list, the model's outcome held to the oracle's by computing.
+# From the root of the repository: python3 crates/runs/compared.py
+import pathlib
+
+root = pathlib.Path(__file__).resolve().parents[2]
+specs = root / "crates/runs/specs"
+LARGEST = 9  # operations of a job that is taken
+JOBS = 32  # jobs in a file
+NONE, MINUS_ONE = 65535, 4294967295
+
+
+def jobs():
+    numbers = [int(x) for x in (root / "oracle/fixed/list.jobs").read_text().split()]
+    at = 0
+    while at < len(numbers):
+        head, at = numbers[at : at + 17], at + 17
+        parts = []
+        for width, count in ((5, head[1]), (6, head[2]), (4, 2 * head[0])):
+            parts.append([numbers[at + width * i : at + width * (i + 1)] for i in range(count)])
+            at += width * count
+        yield head, parts
+
+
+def answers():
+    for text in (root / "oracle/fixed/list.out").read_text().split("end\n")[:-1]:
+        yield [[int(x) for x in line.split()] for line in text.splitlines()]
+
+
+def listed(items):
+    return "(" + " ∷ ".join(items + ["[]"]) + ")" if items else "[]"
+
+
+def numbers(fields):
+    return listed([str(x) for x in fields])
+
+
+def node(r):
+    if r == [0] * 5:
+        return "I"
+    if r[0] == 1 and r[2] in (1, 2, 3) and r[3:] == [0, 0]:
+        return "%s %d" % ("IXYZ"[r[2]], r[1])
+    if r[0] == 2:
+        return "product %d %d %d %d" % tuple(r[1:])
+    return numbers(r)
+
+
+def operation(r):
+    r = r[:4] + [NONE if x == -1 else x for x in r[4:]]
+    if r[0] == 1 and r[4:] == [NONE, NONE]:
+        return "rotate %d %d %d" % tuple(r[1:4])
+    if r[0] == 2 and r[3] == 0:
+        return "measure %d %d %d %d" % (r[1], r[2], r[4], r[5])
+    if r[0] == 3 and r[5] == NONE:
+        return "conditional %d %d %d %d" % tuple(r[1:5])
+    return numbers(r)
+
+
+def row(r):
+    return "row %d %d %d %d" % tuple(r)
+
+
+def result(r):
+    kind, axis, sign, angle, outcome, target = r[:4] + [NONE if x == -1 else x for x in r[4:]]
+    if kind == 1:
+        return "rotated %d %d" % (axis, angle)
+    if kind == 2:
+        return "measured%s %d %d %d" % ("+" if sign == 1 else "-", axis, outcome, target)
+    return "conditioned %d %d %d" % (axis, angle, outcome)
+
+
+def result_row(r):
+    if r[2:] == [-1, 0]:
+        return "kept %d %d" % tuple(r[:2])
+    return "given%s %d %d %d" % ("+" if r[3] == 1 else "-", r[0], r[1], r[2])
+
+
+# the axes' words from their letters other than I
+def axes(count, qubits, letters):
+    l = max(1, (qubits + 63) // 64)
+    words = [[0] * (2 * l) for _ in range(count)]
+    for axis, q, letter in letters:
+        if letter in (1, 2):
+            words[axis][q // 64] += 1 << q % 64
+        if letter in (2, 3):
+            words[axis][l + q // 64] += 1 << q % 64
+    return listed([numbers(w) for w in words])
+
+
+def outcome(qubits, answer):
+    first = answer[0]
+    if first[0] == 10:
+        return ["limitExceeded"]
+    if first[0] == 9:
+        return ["within (nonHermitianAt %d)" % first[14]]
+    operations, stored = first[6], first[7]
+    records = answer[1 : 1 + operations]
+    rows = answer[1 + operations : 1 + operations + 2 * qubits]
+    letters = answer[1 + operations + 2 * qubits :]
+    return [
+        "within (shows %d" % first[14],
+        listed([result(r) for r in records]),
+        listed([result_row(r) for r in rows]),
+        axes(stored, qubits, letters),
+        numbers(first[1:6] + first[8:14]) + ")",
+    ]
+
+
+# a line of at most 160 bytes: broken between elements of a list
+def broken(line):
+    lines = []
+    while len(line.encode()) > 150:
+        cut = line[:110].rfind(" ∷ ")
+        lines.append(line[:cut])
+        line = "    " + line[cut + 1 :]
+    return lines + [line]
+
+
+def theorem(place, head, parts, answer):
+    qubits, _, _, limit, lookback, window, candidates, rounds, absorb, eager, lazy, strategy, depth = head[:13]
+    absorption = "off" if not absorb else "lazy" if lazy else "atOnce"
+    flag = lambda b: "true" if b else "false"
+    lines = [
+        "job-%d : outcome %d (rules %d %d %d %s %s %s %s) %d (program %d"
+        % (place, limit, lookback, window, candidates, absorption, flag(eager), "Litinski" if strategy else "Merge", flag(depth), rounds, qubits),
+        "    " + listed([node(r) for r in parts[0]]),
+        "    " + listed([operation(r) for r in parts[1]]),
+        "    " + listed([row(r) for r in parts[2]]) + ")",
+    ]
+    came = outcome(qubits, answer)
+    lines += ["    ≡ " + came[0]] + ["    " + x for x in came[1:]]
+    return [b for line in lines for b in broken(line)] + ["unfolding everything", "job-%d = refl" % place, ""]
+
+
+HEAD = """-- Written by compared.py: jobs of the oracle's fixed list, with what the Rust makes of each. Assumes nothing.
+use mathlib.Core.Path.{_≡_, refl}
+use mathlib.Core.Bool.{true, false}
+use mathlib.Core.List.{[], _∷_}
+use Rattle.model.specs.declared.Strategy.the-variants.{Merge, Litinski}
+use Rattle.model.specs.Rules.{off, atOnce, lazy}
+use Rattle.model.specs.Everything.{everything}
+use Rattle.runs.specs.Shown.{I, X, Y, Z, product, rotate, measure, conditional, row, program, rules, rotated, measured+, measured-}
+use Rattle.runs.specs.Shown.{conditioned, kept, given+, given-, nonHermitianAt, shows}
+use Rattle.runs.specs.Outcome.{limitExceeded, within, outcome}
+"""
+
+
+def main():
+    taken = []
+    for place, ((head, parts), answer) in enumerate(zip(jobs(), answers())):
+        if head[2] <= LARGEST and head[1] <= 30 and head[0] <= 3:
+            taken.append(theorem(place, head, parts, answer))
+    for old in specs.glob("Compared*.antt"):
+        old.unlink()
+    for i in range(0, len(taken), JOBS):
+        text = "\n".join(line for t in taken[i : i + JOBS] for line in t).rstrip()
+        (specs / ("Compared%d.antt" % (i // JOBS + 1))).write_text(HEAD + "\n" + text + "\n")
+    print(len(taken), "jobs in", (len(taken) + JOBS - 1) // JOBS, "files")
+
+
+main()

@@ -1,0 +1,13 @@
+pub mod Shown
+pub mod Outcome
+pub mod Small
+pub mod Rule
+pub mod Limits
+pub mod Refusals
+pub mod Texts
+pub mod Directed
+pub mod DirectedExchange
+pub mod Compared1
+pub mod Compared2
+pub mod Compared3
+pub mod Compared4

@@ -1,0 +1,189 @@
+-- Refusals 1 to 8 of Checking, each by a small job, and which comes first; and what a call of Rewriting leaves in memory. Assumes nothing.
+use mathlib.Core.Path.{_≡_, refl}
+use mathlib.Core.Bool.{true, false}
+use mathlib.Core.List.{List, [], _∷_, _++_}
+use Prim.Native.Nat.{ℕ}
+use lib.ListN.{replicate}
+use Rattle.model.specs.declared.Strategy.the-variants.{Merge}
+use Rattle.model.specs.declared.Options.{Options}
+use Rattle.model.specs.declared.Answer.{Answer}
+use Rattle.model.specs.declared.Answer.the-variants.{Accepted, CountOutside, OptionOutside, SliceShort, BadNode, BadQubit, BadReference, BadOperation}
+use Rattle.model.specs.declared.Answer.the-variants.{BadOutcome, NonHermitianAxis, ExpansionLimit}
+use Rattle.model.specs.Interface.{defaultsAt, noCounters}
+use Rattle.model.specs.Program.{Job}
+use Rattle.model.specs.Checking.{Lent, checking}
+use Rattle.model.specs.Rewriting.{rewriting}
+use Rattle.model.specs.Everything.{everything}
+use Rattle.runs.specs.Shown.{I, X, Z, product, rotate, measure, conditional, row, job, measured-, given+, given-, allCounters}
+
+-- Rust's defaults at limit 12
+abbrev options : Options
+options = defaultsAt 12
+
+abbrev withRounds : ℕ → Options
+withRounds n = record {
+  lookback = 0;
+  window = 0;
+  candidates = 0;
+  rounds = n;
+  «clifford_to_frame» = true;
+  «eager_swaps» = true;
+  «lazy_cliffords» = false;
+  strategy = Merge;
+  «measure_depth» = false;
+  «max_packed_words» = 0;
+}
+
+-- slices of sevens
+abbrev lengths : ℕ → ℕ → ℕ → ℕ → Lent
+lengths w n o r = record { words = replicate w 7; numbers = replicate n 7; operations = replicate o 7; rows = replicate r 7 }
+
+abbrev lent : ℕ → Lent
+lent n = lengths n n n n
+
+-- one qubit: nodes I, X, Z; the frame is X, Z
+abbrev job1 : List (List ℕ) → List (List ℕ) → Job
+job1 nodes operations = job 1 nodes operations (row 0 0 1 0 ∷ row 0 1 2 0 ∷ [])
+
+abbrev nodes : List (List ℕ)
+nodes = I ∷ X 0 ∷ Z 0 ∷ []
+
+abbrev check : Job → Answer
+check j = checking options j (lent 400)
+
+abbrev checkNodesOf : List (List ℕ) → Answer
+checkNodesOf ns = check (job1 ns [])
+
+abbrev checkOps : List (List ℕ) → Answer
+checkOps ops = check (job1 nodes ops)
+
+abbrev counted : ℕ → ℕ → ℕ → Job
+counted q n m = record { counts = record { qubits = q; nodes = n; operations = m }; nodes = []; operations = []; rows = [] }
+
+pub record Refused : Type 0 where
+  pub none-wrong : checkOps (rotate 1 0 1 ∷ measure 2 0 5 65535 ∷ conditional 1 2 3 5 ∷ []) ≡ Accepted
+  -- 1
+  pub too-many-qubits : check (counted 4097 1 0) ≡ CountOutside
+  pub no-node : check (counted 1 0 0) ≡ CountOutside
+  pub too-many-nodes : check (counted 1 65536 0) ≡ CountOutside
+  pub too-many-operations : check (counted 1 1 65536) ≡ CountOutside
+  -- 2, after 1
+  pub too-many-rounds : checking (withRounds 256) (job1 nodes []) (lent 400) ≡ OptionOutside
+  pub large-limit : checking (defaultsAt 1048577) (job1 nodes []) (lent 400) ≡ OptionOutside
+  pub count-before-option : checking (withRounds 256) (counted 1 0 0) (lent 400) ≡ CountOutside
+  -- 3, after 2: 28 words and 24 × (3 + 0 + 2 + 6 + 1) numbers are asked
+  pub enough : checking options (job1 nodes []) (lengths 28 288 0 8) ≡ Accepted
+  pub few-words : checking options (job1 nodes []) (lengths 27 288 0 8) ≡ SliceShort
+  pub few-numbers : checking options (job1 nodes []) (lengths 28 287 0 8) ≡ SliceShort
+  pub few-rows : checking options (job1 nodes []) (lengths 28 288 0 7) ≡ SliceShort
+  pub few-operations : checking options (job1 nodes (rotate 1 0 1 ∷ [])) (lengths 28 312 5 8) ≡ SliceShort
+  pub program-cut : check (counted 1 1 0) ≡ SliceShort
+  -- 4
+  pub node-0 : checkNodesOf (X 0 ∷ X 0 ∷ Z 0 ∷ []) ≡ BadNode
+  pub unknown-kind : checkNodesOf (I ∷ X 0 ∷ (3 ∷ 0 ∷ 0 ∷ 0 ∷ 0 ∷ []) ∷ []) ≡ BadNode
+  pub unknown-letter : checkNodesOf (I ∷ X 0 ∷ (1 ∷ 0 ∷ 4 ∷ 0 ∷ 0 ∷ []) ∷ []) ≡ BadNode
+  pub unknown-phase : checkNodesOf (I ∷ X 0 ∷ product 1 0 1 4 ∷ []) ≡ BadNode
+  pub own-child : checkNodesOf (I ∷ X 0 ∷ product 1 0 2 0 ∷ []) ≡ BadNode
+  -- 5, after 4 of the same node
+  pub no-qubit : checkNodesOf (I ∷ X 1 ∷ Z 0 ∷ []) ≡ BadQubit
+  pub letter-before-qubit : checkNodesOf (I ∷ (1 ∷ 1 ∷ 4 ∷ 0 ∷ 0 ∷ []) ∷ Z 0 ∷ []) ≡ BadNode
+  -- 7
+  pub unknown-operation : checkOps ((4 ∷ 1 ∷ 0 ∷ 0 ∷ 0 ∷ 0 ∷ []) ∷ []) ≡ BadOperation
+  pub large-angle : checkOps ((2 ∷ 1 ∷ 0 ∷ 8 ∷ 0 ∷ 0 ∷ []) ∷ []) ≡ BadOperation
+  pub large-target : checkOps ((1 ∷ 1 ∷ 0 ∷ 0 ∷ 0 ∷ 65536 ∷ []) ∷ []) ≡ BadOperation
+  pub large-outcome : checkOps (measure 1 0 65535 0 ∷ []) ≡ BadOperation
+  pub unused-outcome : checkOps ((1 ∷ 1 ∷ 0 ∷ 0 ∷ 70000 ∷ 0 ∷ []) ∷ []) ≡ Accepted
+  -- 6, after 7
+  pub no-such-node : checkOps (rotate 3 0 1 ∷ []) ≡ BadReference
+  pub no-such-phase : checkOps (rotate 1 4 1 ∷ []) ≡ BadReference
+  pub angle-before-node : checkOps (rotate 3 0 8 ∷ []) ≡ BadOperation
+  pub row-out-of-turn : check (job 1 nodes [] (row 0 1 2 0 ∷ row 0 0 1 0 ∷ [])) ≡ BadReference
+  pub row-without-node : check (job 1 nodes [] (row 0 0 3 0 ∷ row 0 1 2 0 ∷ [])) ≡ BadReference
+  -- 8, after 6
+  pub measured-twice : checkOps (measure 1 0 5 0 ∷ measure 2 0 5 0 ∷ []) ≡ BadOutcome
+  pub measured-later : checkOps (conditional 1 0 1 5 ∷ measure 1 0 5 0 ∷ []) ≡ BadOutcome
+  pub node-before-outcome : checkOps (conditional 3 0 1 5 ∷ []) ≡ BadReference
+
+pub refused-as-stated : Refused
+unfolding everything
+refused-as-stated = record {
+  none-wrong = refl;
+  too-many-qubits = refl;
+  no-node = refl;
+  too-many-nodes = refl;
+  too-many-operations = refl;
+  too-many-rounds = refl;
+  large-limit = refl;
+  count-before-option = refl;
+  enough = refl;
+  few-words = refl;
+  few-numbers = refl;
+  few-rows = refl;
+  few-operations = refl;
+  program-cut = refl;
+  node-0 = refl;
+  unknown-kind = refl;
+  unknown-letter = refl;
+  unknown-phase = refl;
+  own-child = refl;
+  no-qubit = refl;
+  letter-before-qubit = refl;
+  unknown-operation = refl;
+  large-angle = refl;
+  large-target = refl;
+  large-outcome = refl;
+  unused-outcome = refl;
+  no-such-node = refl;
+  no-such-phase = refl;
+  angle-before-node = refl;
+  row-out-of-turn = refl;
+  row-without-node = refl;
+  measured-twice = refl;
+  measured-later = refl;
+  node-before-outcome = refl;
+}
+
+-- ---- what a call leaves
+
+-- 01's listing
+abbrev listed : Job
+listed = job 1 (I ∷ Z 0 ∷ X 0 ∷ []) (rotate 1 0 1 ∷ rotate 1 0 1 ∷ measure 2 0 0 65535 ∷ []) (row 0 0 2 0 ∷ row 0 1 1 0 ∷ [])
+
+-- just long enough, and one number more in each slice
+abbrev slices : Lent
+slices = lengths 29 361 19 9
+
+pub record Left : Type 0 where
+  -- "Acceptance (0): results, then zeros; axis words, then zeros; number store zero."
+  pub accepted-words : rewriting options listed slices .lent .words ≡ 0 ∷ 1 ∷ 1 ∷ 0 ∷ 1 ∷ 1 ∷ replicate 23 0
+  pub accepted-numbers : rewriting options listed slices .lent .numbers ≡ replicate 361 0
+  pub accepted-operations : rewriting options listed slices .lent .operations ≡ measured- 2 0 65535 ++ replicate 13 0
+  pub accepted-rows : rewriting options listed slices .lent .rows ≡ given- 0 0 2 ++ (given+ 0 1 0 ++ (0 ∷ []))
+  pub accepted-counters : allCounters (rewriting options listed slices .counters) ≡ 2 ∷ 0 ∷ 1 ∷ 0 ∷ 1 ∷ 2 ∷ 0 ∷ 0 ∷ 0 ∷ 2 ∷ 0 ∷ []
+  -- 10: the work stores are zero, the results as they were, the counters 0
+  pub ten : rewriting (defaultsAt 11) listed slices ≡ record {
+    answer = ExpansionLimit;
+    counters = noCounters;
+    lent = record { words = replicate 29 0; numbers = replicate 361 0; operations = replicate 19 7; rows = replicate 9 7 };
+  }
+  -- 9: the same
+  pub nine : rewriting options (job1 nodes (rotate 1 1 1 ∷ [])) slices ≡ record {
+    answer = NonHermitianAxis;
+    counters = noCounters;
+    lent = record { words = replicate 29 0; numbers = replicate 361 0; operations = replicate 19 7; rows = replicate 9 7 };
+  }
+  -- 8: nothing is written
+  pub eight : rewriting options (job1 nodes (conditional 1 0 1 0 ∷ [])) slices ≡ record { answer = BadOutcome; counters = noCounters; lent = slices }
+
+pub left-as-stated : Left
+unfolding everything
+left-as-stated = record {
+  accepted-words = refl;
+  accepted-numbers = refl;
+  accepted-operations = refl;
+  accepted-rows = refl;
+  accepted-counters = refl;
+  ten = refl;
+  nine = refl;
+  eight = refl;
+}

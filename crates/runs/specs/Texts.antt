@@ -1,0 +1,89 @@
+-- Refusal 11 of Listing, each by a small text. Assumes nothing.
+use mathlib.Core.Path.{_≡_, refl}
+use mathlib.Core.List.{List, [], _∷_, _++_}
+use Prim.Native.Nat.{ℕ}
+use Rattle.model.specs.Listing.{textOf, listing}
+use Rattle.model.specs.Everything.{everything}
+use Rattle.runs.specs.Shown.{bytes}
+
+-- no qubits, the identity node, no operations, limit 0
+abbrev head : List ℕ
+head = bytes "       0       1       0       0\n"
+
+abbrev node : List ℕ
+node = bytes "       0       0       0       0       0\n"
+
+-- one qubit: the head with m operations, nodes I and X, the rows
+abbrev listed : List ℕ → List ℕ → List ℕ
+listed first operations =
+    first ++ (node ++ (bytes "       1       0       1       0       0\n"
+    ++ (operations ++ (bytes "       0       0       1       0\n" ++ bytes "       0       1       1       0\n"))))
+
+abbrev oneOperation : List ℕ
+oneOperation = bytes "       1       2       1     100\n"
+
+abbrev refused : ℕ → List ℕ
+refused n = textOf ((n ∷ 0 ∷ 0 ∷ 0 ∷ 0 ∷ 0 ∷ 0 ∷ 0 ∷ []) ∷ [])
+
+pub record Texts : Type 0 where
+  pub nothing-to-do : listing (head ++ node) ≡ refused 0
+  pub empty : listing [] ≡ refused 11
+  -- "a line has the wrong length"
+  pub no-last-newline : listing (head ++ bytes "       0       0       0       0       0") ≡ refused 11
+  pub short-line : listing (head ++ bytes "       0       0       0       0\n") ≡ refused 11
+  pub long-line : listing (head ++ bytes "       0       0       0       0       0 \n") ≡ refused 11
+  -- "a field is no number (digits without leading zeros, or -1)"
+  pub blank-field : listing (head ++ bytes "       0       0       0       0        \n") ≡ refused 11
+  pub leading-zero : listing (head ++ bytes "       0       0       0       0      00\n") ≡ refused 11
+  pub letter-field : listing (head ++ bytes "       0       0       0       0       x\n") ≡ refused 11
+  pub left-justified : listing (head ++ bytes "       0       0       0       00       \n") ≡ refused 11
+  pub minus-two : listing (head ++ bytes "       0       0       0       0      -2\n") ≡ refused 11
+  -- "-1 stands elsewhere than in a plain rotation's outcome or any target"
+  pub minus-in-node : listing (head ++ bytes "       0       0       0       0      -1\n") ≡ refused 11
+  pub minus-in-angle : listing (listed oneOperation (bytes "       1       1       0      -1      -1      -1\n")) ≡ refused 11
+  pub minus-in-outcome : listing (listed oneOperation (bytes "       2       1       0       0      -1      -1\n")) ≡ refused 11
+  -- "an outcome or target is above 65,534"
+  pub large-target : listing (listed oneOperation (bytes "       2       1       0       0       0   65535\n")) ≡ refused 11
+  pub large-outcome : listing (listed oneOperation (bytes "       1       1       0       0   65535      -1\n")) ≡ refused 11
+  -- "there are more than 64 qubits, 128 nodes or 128 operations, the limit is above 256, or lines are missing or left over"
+  pub many-qubits : listing (bytes "      65       1       0       0\n" ++ node) ≡ refused 11
+  pub many-nodes : listing (bytes "       0     129       0       0\n" ++ node) ≡ refused 11
+  pub many-operations : listing (bytes "       0       1     129       0\n" ++ node) ≡ refused 11
+  pub large-limit : listing (bytes "       0       1       0     257\n" ++ node) ≡ refused 11
+  pub line-missing : listing head ≡ refused 11
+  pub line-left : listing (head ++ (node ++ node)) ≡ refused 11
+  -- "then as rewriting"
+  pub one : listing (bytes "       0       0       0       0\n") ≡ refused 1
+  pub four : listing (head ++ bytes "       1       0       1       0       0\n") ≡ refused 4
+  pub seven : listing (listed oneOperation (bytes "       1       1       0       8      -1      -1\n")) ≡ refused 7
+  pub nine : listing (listed oneOperation (bytes "       1       1       1       1      -1      -1\n")) ≡ refused 9
+
+pub texts : Texts
+unfolding everything
+texts = record {
+  nothing-to-do = refl;
+  empty = refl;
+  no-last-newline = refl;
+  short-line = refl;
+  long-line = refl;
+  blank-field = refl;
+  leading-zero = refl;
+  letter-field = refl;
+  left-justified = refl;
+  minus-two = refl;
+  minus-in-node = refl;
+  minus-in-angle = refl;
+  minus-in-outcome = refl;
+  large-target = refl;
+  large-outcome = refl;
+  many-qubits = refl;
+  many-nodes = refl;
+  many-operations = refl;
+  large-limit = refl;
+  line-missing = refl;
+  line-left = refl;
+  one = refl;
+  four = refl;
+  seven = refl;
+  nine = refl;
+}

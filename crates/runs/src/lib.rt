@@ -1,0 +1,1 @@
+// Runs of the model, by computing. No code.

@@ -1,0 +1,37 @@
+-- Choices, case by case: `by-if` where both cases hold, `on-if` where the test's value is wanted. Assumes nothing.
+use mathlib.Core.Path.{_≡_, refl}
+use mathlib.Core.Bool.{Bool, true, false, _||_, true≢false}
+use Rattle.model.specs.Lists.{if_then_else_}
+
+-- whatever the test says
+pub by-if : {A : Type 0} (P : A → Type 0) (b : Bool) (x y : A) → P x → P y → P (if b then x else y)
+unfolding if_then_else_
+by-if P b x y hx hy = go b
+  where
+    go : (b : Bool) → P (if b then x else y)
+    go true = hx
+    go false = hy
+
+-- with the test's value in hand
+pub on-if : {A : Type 0} (P : A → Type 0) (b : Bool) (x y : A) → (b ≡ true → P x) → (b ≡ false → P y) → P (if b then x else y)
+unfolding if_then_else_
+on-if P b x y hx hy = go b hx hy
+  where
+    go : (b : Bool) → (b ≡ true → P x) → (b ≡ false → P y) → P (if b then x else y)
+    go true hx hy = hx refl
+    go false hx hy = hy refl
+
+-- where the test holds
+pub if-true : {A : Type 0} {b : Bool} (x y : A) → b ≡ true → (if b then x else y) ≡ x
+unfolding if_then_else_
+if-true x y e = rw e refl
+
+-- where it fails
+pub if-false : {A : Type 0} {b : Bool} (x y : A) → b ≡ false → (if b then x else y) ≡ y
+unfolding if_then_else_
+if-false x y e = rw e refl
+
+-- neither of two tests holds
+pub neither : (x y : Bool) → x || y ≡ false → (x ≡ false) × (y ≡ false)
+neither true y h = absurd (true≢false h)
+neither false y h = (refl, h)

@@ -1,0 +1,237 @@
+-- Demand 3 about calls of Listing: "A Listing's results and counters are what it prints." Assumes nothing.
+use mathlib.Core.Path.{_≡_, refl, sym, ap, ap₂, _∙_}
+use mathlib.Core.Logic.{_⊎_, inl, inr}
+use mathlib.Core.Bool.{Bool, true, false, _||_, true≢false}
+use mathlib.Core.Option.{Option, none, some, bind, Option·map}
+use mathlib.Core.List.{List, [], _∷_}
+use Prim.Native.Nat.{ℕ, _+_, _≤_, _<_}
+use native.Mathlib.Nat.{le-trans}
+use native.Mathlib.Omega.{arith}
+use lib.Dec.{ltb}
+use lib.ListN.{drop}
+use borrow.Author.Tests.{ltb-false, le-ltb}
+use Rattle.model.specs.declared.Options.{Options}
+use Rattle.model.specs.declared.Counts.{Counts}
+use Rattle.model.specs.declared.Answer.{Answer}
+use Rattle.model.specs.declared.Answer.the-variants.{Accepted, CountOutside, OptionOutside, NonHermitianAxis, ExpansionLimit, BadText}
+use Rattle.model.specs.declared.Counters.{Counters}
+use Rattle.model.specs.Lists.{if_then_else_}
+use Rattle.model.specs.Interface.{numberOf, accepts, defaultsAt}
+use Rattle.model.specs.Program.{fieldOf, Program, programOf}
+use Rattle.model.specs.Rules.{Rules, absorptionOf, rulesOf}
+use Rattle.model.specs.Rounds.{Work}
+use Rattle.model.specs.Run.{Ending, nonHermitian, finished, Run, endOf, endAnswer, answerOf}
+use Rattle.model.specs.Results.{countersOf}
+use Rattle.model.specs.Checking.{badCount, badOption, checkProgram}
+use Rattle.model.specs.Listing.{linesFrom, fieldsFrom, sliceOf, plainLine, Read, tooMuch, readOf, readBody, readLines, read, textOf, refusalLines, firstLine}
+use Rattle.model.specs.Listing.{endLines, runLines, listingChecks, jobLines, linesOf, listing}
+use Rattle.theory.specs.Cases.{by-if, on-if, if-true, if-false, neither}
+use Rattle.theory.specs.Checked.{accepts-only, not-refused, Fine, program-fine}
+use Rattle.theory.specs.Alike.{Alike, alike-program, alike-checked}
+use Rattle.theory.specs.Replies.{runOf, program-low}
+use Rattle.theory.specs.Limit.{within}
+use Rattle.theory.specs.AcceptedRun.{finishOf, accepted-peak, accepted-roots, accepted-ending, counters-source}
+
+-- ---- what a listing answers
+
+-- a text's options: Rust's defaults at its limit
+abbrev pub optionsOf : Read → Options
+optionsOf t = defaultsAt (t .limit)
+
+-- its run, without a limit
+abbrev pub listedRun : Read → Run
+listedRun t = runOf (optionsOf t) (t .job)
+
+-- what Checking says of it
+abbrev pub checksOf : Read → Answer
+checksOf t = listingChecks (optionsOf t) (t .job)
+
+-- 11 for a text that cannot be read, then as Rewriting
+unfoldable pub listingAnswer : Option Read → Answer
+listingAnswer none = BadText
+listingAnswer (some t) = if accepts (checksOf t) then answerOf (t .limit) (listedRun t) else checksOf t
+
+-- ---- its number is printed first
+
+-- lines that begin with an answer's number
+pub record Begins (a : Answer) (lines : List (List ℕ)) : Type 0 where
+  pub fields : List ℕ
+  pub rest : List (List ℕ)
+  pub printed : lines ≡ (numberOf a ∷ fields) ∷ rest
+
+refusal-begins : (a : Answer) → Begins a (refusalLines a)
+unfolding refusalLines
+refusal-begins a = record { fields = _; rest = _; printed = refl }
+
+end-begins : (r : Rules) (p : Program) (e : Ending) → Begins (endAnswer e) (endLines r p e)
+unfolding endLines firstLine
+end-begins r p nonHermitian = refusal-begins NonHermitianAxis
+end-begins r p (finished f) = record { fields = _; rest = _; printed = refl }
+
+run-begins : (r : Rules) (p : Program) (limit : ℕ) (w : Run) → Begins (answerOf limit w) (runLines r p limit w)
+unfolding answerOf runLines if_then_else_
+run-begins r p limit w = go (ltb limit (w .peak)) refl
+  where
+    go : (t : Bool) → ltb limit (w .peak) ≡ t → Begins (answerOf limit w) (runLines r p limit w)
+    go true e = rw e (refusal-begins ExpansionLimit)
+    go false e = rw e (end-begins r p (w .ending))
+
+-- a listing's first field is its answer's number
+pub answer-printed : (x : Option Read) → Begins (listingAnswer x) (linesOf x)
+unfolding listingAnswer linesOf jobLines if_then_else_
+answer-printed none = refusal-begins BadText
+answer-printed (some t) = go (accepts (checksOf t)) refl
+  where
+    go : (b : Bool) → accepts (checksOf t) ≡ b → Begins (listingAnswer (some t)) (linesOf (some t))
+    go true e = rw e (run-begins (rulesOf (optionsOf t)) (programOf (t .job)) (t .limit) (listedRun t))
+    go false e = rw e (refusal-begins (checksOf t))
+
+-- ---- a text that can be read has a limit of at most 256
+
+none-some : {A : Type 0} {x : A} → _≡_ {A = Option A} none (some x) → ⊥
+none-some {A} {x} e = let z : _≡_ {A = ℕ} 0 1 = cc in omega arith
+
+bind-some : {A B : Type 0} (x : Option A) (f : A → Option B) (b : B) → bind x f ≡ some b → (a : A) × (f a ≡ some b)
+unfolding bind
+bind-some none f b h = absurd (none-some h)
+bind-some (some a) f b h = (a, h)
+
+map-some : {A B : Type 0} (f : A → B) (x : Option A) (b : B) → Option·map f x ≡ some b → (a : A) × (f a ≡ b)
+map-some f none b h = absurd (none-some h)
+map-some f (some a) b h = (a, cc)
+
+body-limit : (lines : List (List ℕ)) (h : List ℕ) (t : Read) → readBody lines h ≡ some t → t .limit ≤ 256
+unfolding readBody
+body-limit lines h t =
+    on-if (λ (x : Option Read). x ≡ some t → t .limit ≤ 256) (tooMuch h lines) none _ (λ e f. absurd (none-some f))
+    (λ e f.
+    let a = bind-some _ _ t f in
+    let b = bind-some _ _ t (a .1) in
+    let c = map-some (readOf h (a .0) (b .0)) (sliceOf 4 plainLine (drop (fieldOf h 1 + fieldOf h 2) lines)) t (b .1) in
+    let same : fieldOf h 3 ≡ t .limit = ap (λ (x : Read). x .limit) (c .1) in
+    let small = not-above h lines e in
+    omega arith)
+  where
+    not-above : (h : List ℕ) (lines : List (List ℕ)) → tooMuch h lines ≡ false → fieldOf h 3 ≤ 256
+    not-above h lines = unfold tooMuch in (λ e.
+        let a = neither (ltb 64 (fieldOf h 0) || ltb 128 (fieldOf h 1) || ltb 128 (fieldOf h 2) || ltb 256 (fieldOf h 3)) _ e in
+        ltb-false 256 (fieldOf h 3) (neither (ltb 64 (fieldOf h 0) || ltb 128 (fieldOf h 1) || ltb 128 (fieldOf h 2)) _ (a .0) .1))
+
+lines-limit : (lines : List (List ℕ)) (t : Read) → readLines lines ≡ some t → t .limit ≤ 256
+unfolding readLines
+lines-limit [] t e = absurd (none-some e)
+lines-limit (h ∷ lines) t e = let a = bind-some (fieldsFrom 4 h) (readBody lines) t e in body-limit lines (a .0) t (a .1)
+
+-- the limit of a text that can be read is at most 256
+pub read-limit : (text : List ℕ) (t : Read) → read text ≡ some t → t .limit ≤ 256
+unfolding read
+read-limit text t e = let a = bind-some (linesFrom [] [] text) readLines t e in lines-limit (a .0) t (a .1)
+
+-- ---- two listings at two limits
+
+-- Rust's defaults are in the domain, and so is a limit of at most 256
+defaults-good : (limit : ℕ) → limit ≤ 256 → badOption (defaultsAt limit) ≡ false
+unfolding badOption
+defaults-good limit h = le-ltb 1048576 limit (omega arith)
+
+checks-are : (t : Read) → t .limit ≤ 256 → checksOf t ≡ (if badCount (t .job .counts) then CountOutside else checkProgram (t .job))
+unfolding listingChecks if_then_else_
+checks-are t h = rw (defaults-good (t .limit) h) refl
+
+checks-low : (t : Read) → numberOf (checksOf t) ≤ 8
+unfolding listingChecks
+checks-low t =
+    by-if (λ (a : Answer). numberOf a ≤ 8) _ CountOutside _ (omega arith)
+    (by-if (λ (a : Answer). numberOf a ≤ 8) _ OptionOutside _ (omega arith) (program-low (t .job)))
+
+-- an answer 0 or above 8 is the run's
+listing-ran : (t : Read) (a : Answer) → listingAnswer (some t) ≡ a → (accepts a ≡ true) ⊎ (8 < numberOf a) → accepts (checksOf t) ≡ true
+unfolding listingAnswer
+listing-ran t a e h = go (accepts (checksOf t)) refl h
+  where
+    go : (b : Bool) → accepts (checksOf t) ≡ b → (accepts a ≡ true) ⊎ (8 < numberOf a) → accepts (checksOf t) ≡ true
+    go true f g = f
+    go false f (inl g) = absurd (true≢false (sym g ∙ ap accepts (sym e ∙ if-false _ (checksOf t) f) ∙ f))
+    go false f (inr g) =
+        let n : numberOf a ≡ numberOf (checksOf t) = ap numberOf (sym e ∙ if-false _ (checksOf t) f) in
+        absurd (omega (arith, checks-low t))
+
+module _ (text text′ : List ℕ) (t t′ : Read) (reads : read text ≡ some t) (reads′ : read text′ ≡ some t′) (alike : Alike (t .job) (t′ .job)) where
+  same-checks : checksOf t′ ≡ checksOf t
+  same-checks =
+      checks-are t′ (read-limit text′ t′ reads′)
+      ∙ ap₂ (λ (c : Counts) (a : Answer). if badCount c then CountOutside else a) (alike .counts) (alike-checked (t .job) (t′ .job) alike)
+      ∙ sym (checks-are t (read-limit text t reads))
+
+  same-rules : rulesOf (optionsOf t′) ≡ rulesOf (optionsOf t)
+  same-rules = unfold rulesOf absorptionOf in refl
+
+  same-run : listedRun t′ ≡ listedRun t
+  same-run = rw (same-rules, alike-program (t .job) (t′ .job) alike) refl
+
+  same-lines : t .limit ≤ t′ .limit → accepts (checksOf t) ≡ true → listedRun t .peak ≤ t .limit → jobLines t′ ≡ jobLines t
+  unfolding jobLines runLines if_then_else_
+  same-lines le a h =
+      let b : accepts (checksOf t′) ≡ true = ap accepts same-checks ∙ a in
+      let h′ : listedRun t′ .peak ≤ t′ .limit = rw same-run (le-trans h le) in
+      rw (a, b, le-ltb (t .limit) (listedRun t .peak) h, le-ltb (t′ .limit) (listedRun t′ .peak) h′)
+      (rw (same-run, same-rules, alike-program (t .job) (t′ .job) alike) refl)
+
+  not-ten : t .limit ≤ t′ .limit → accepts (checksOf t) ≡ true → (listingAnswer (some t) ≡ ExpansionLimit → ⊥) → listing text′ ≡ listing text
+  unfolding listing linesOf listingAnswer
+  not-ten le a n =
+      let h = within (t .limit) (listedRun t) (λ e. n (if-true _ (checksOf t) a ∙ e)) in
+      rw (reads, reads′) (ap textOf (same-lines le a h))
+
+  -- 01's demand 3: a listing that was accepted (0) or non-Hermitian (9) at one limit prints the same text at every larger limit
+  pub same-text-at-larger-limit : t .limit ≤ t′ .limit
+      → (listingAnswer (some t) ≡ Accepted) ⊎ (listingAnswer (some t) ≡ NonHermitianAxis) → listing text′ ≡ listing text
+  same-text-at-larger-limit le (inl e) =
+      not-ten le (listing-ran t Accepted e (inl refl)) (λ f. let z : _≡_ {A = ℕ} 0 1 = cc in omega arith)
+  same-text-at-larger-limit le (inr e) =
+      not-ten le (listing-ran t NonHermitianAxis e (inr (omega arith))) (λ f. let z : _≡_ {A = ℕ} 0 1 = cc in omega arith)
+
+-- ---- the T-count that an accepted listing prints
+
+-- the run's counters stand in the first line, and their T after is at most their T before
+pub record Listed (t : Read) (counters : Counters) (work : Work) : Type 0 where
+  pub rest : List (List ℕ)
+  pub printed : jobLines t ≡ firstLine counters work ∷ rest
+  pub no-more : counters .«t_after» ≤ counters .«t_before»
+
+module _ (t : Read) (yes′ : listingAnswer (some t) ≡ Accepted) where
+  abbrev r : Rules
+  r = rulesOf (optionsOf t)
+
+  abbrev p : Program
+  p = programOf (t .job)
+
+  passes′ : accepts (checksOf t) ≡ true
+  passes′ = listing-ran t Accepted yes′ (inl refl)
+
+  fine : Fine p
+  unfolding listingChecks
+  fine =
+      let c : checksOf t ≡ Accepted = accepts-only (checksOf t) passes′ in
+      let a = not-refused (badCount (t .job .counts)) CountOutside _ refl c in
+      program-fine (t .job) (not-refused (badOption (optionsOf t)) OptionOutside (checkProgram (t .job)) refl (a .1) .1)
+
+  answers : answerOf (t .limit) (listedRun t) ≡ Accepted
+  unfolding listingAnswer
+  answers = sym (if-true _ (checksOf t) passes′) ∙ yes′
+
+  lines-are : jobLines t ≡ endLines r p (finished (finishOf r 8 p))
+  unfolding jobLines runLines
+  lines-are =
+      if-true _ (refusalLines (checksOf t)) passes′
+      ∙ if-false _ _ (le-ltb (t .limit) (listedRun t .peak) (accepted-peak (t .limit) r 8 p answers))
+      ∙ ap (endLines r p) (accepted-ending (t .limit) r 8 p answers)
+
+  -- an accepted listing prints a T-count no higher than its source's
+  pub no-more-listed : Listed t (countersOf r p (finishOf r 8 p)) (endOf r 8 p)
+  unfolding endLines
+  no-more-listed = record {
+    rest = _;
+    printed = lines-are;
+    no-more = counters-source r p fine (accepted-roots (t .limit) r 8 p answers) 8;
+  }

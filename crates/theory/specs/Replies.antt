@@ -1,0 +1,143 @@
+-- What a call of Rewriting replies: after a refusal by Checking, beyond the limit, and within it. Assumes nothing.
+use mathlib.Core.Path.{_≡_, refl, sym, ap, _∙_}
+use mathlib.Core.Logic.{_⊎_, inl, inr}
+use mathlib.Core.Bool.{Bool, true, false, true≢false}
+use mathlib.Core.List.{List, [], _∷_}
+use Prim.Native.Nat.{ℕ, zero, suc, _≤_, _<_}
+use native.Mathlib.Omega.{arith}
+use lib.Dec.{ltb}
+use borrow.Author.Tests.{lt-ltb, le-ltb}
+use Rattle.model.specs.declared.Options.{Options}
+use Rattle.model.specs.declared.Answer.{Answer}
+use Rattle.model.specs.declared.Answer.the-variants.{Accepted, CountOutside, OptionOutside, SliceShort, BadNode, BadQubit, BadReference, BadOperation}
+use Rattle.model.specs.declared.Answer.the-variants.{BadOutcome, NonHermitianAxis, ExpansionLimit}
+use Rattle.model.specs.Lists.{if_then_else_}
+use Rattle.model.specs.Interface.{numberOf, accepts}
+use Rattle.model.specs.Program.{fieldOf, Job, Program, programOf}
+use Rattle.model.specs.Rules.{Rules, rulesOf}
+use Rattle.model.specs.Run.{Ending, nonHermitian, finished, Run, run, endAnswer, answerOf}
+use Rattle.model.specs.Checking.{Lent, andThen, checkNodeOfKind, checkNode, checkNodes, measured, checkOperation, checkOperations, checkRow, checkRows}
+use Rattle.model.specs.Checking.{checkProgram, checking}
+use Rattle.model.specs.Rewriting.{Reply, refused, stopped, accepted, afterEnding, afterRun, rewriting}
+use Rattle.theory.specs.Cases.{by-if, on-if, if-true, if-false}
+use Rattle.theory.specs.Checked.{accepts-only}
+
+-- the run of a call, without a limit
+abbrev pub runOf : Options → Job → Run
+runOf o j = run (rulesOf o) (o .rounds) (programOf j)
+
+-- its word limit
+abbrev pub limitOf : Options → ℕ
+limitOf o = o .«max_packed_words»
+
+module _ (o : Options) (j : Job) (s : Lent) where
+  -- 1 to 8: counters 0, nothing written
+  pub refused-reply : (a : Answer) → checking o j s ≡ a → accepts a ≡ false → rewriting o j s ≡ refused a s
+  unfolding rewriting if_then_else_
+  refused-reply a c n = rw (c, n) refl
+
+  -- 10
+  pub beyond-limit : checking o j s ≡ Accepted → limitOf o < runOf o j .peak → rewriting o j s ≡ stopped ExpansionLimit s
+  unfolding rewriting afterRun if_then_else_
+  beyond-limit c h = rw (c, lt-ltb (limitOf o) (runOf o j .peak) h) refl
+
+  -- 0 and 9
+  pub within-limit : checking o j s ≡ Accepted → runOf o j .peak ≤ limitOf o
+      → rewriting o j s ≡ afterEnding (rulesOf o) (programOf j) s (runOf o j .ending)
+  unfolding rewriting afterRun if_then_else_
+  within-limit c h = rw (c, le-ltb (limitOf o) (runOf o j .peak) h) refl
+
+-- 9 and 10 answer themselves
+pub stopped-answer : (a : Answer) (s : Lent) → stopped a s .answer ≡ a
+unfolding stopped
+stopped-answer a s = refl
+
+-- so do 1 to 8
+pub refused-answer : (a : Answer) (s : Lent) → refused a s .answer ≡ a
+unfolding refused
+refused-answer a s = refl
+
+-- the end of a run answers 0 or 9
+pub ending-answer : (r : Rules) (p : Program) (s : Lent) (e : Ending) → afterEnding r p s e .answer ≡ endAnswer e
+unfolding afterEnding accepted
+ending-answer r p s nonHermitian = stopped-answer NonHermitianAxis s
+ending-answer r p s (finished f) = refl
+
+module _ (o : Options) (j : Job) (s : Lent) where
+  -- once Checking has passed, the answer is the run's at the limit
+  pub run-answer : checking o j s ≡ Accepted → rewriting o j s .answer ≡ answerOf (limitOf o) (runOf o j)
+  unfolding rewriting afterRun answerOf
+  run-answer c =
+      let m = ltb (limitOf o) (runOf o j .peak) in
+      ap (λ (x : Reply). x .answer) (if-true _ (refused (checking o j s) s) (ap accepts c))
+      ∙ on-if (λ (x : Reply). x .answer ≡ (if m then ExpansionLimit else endAnswer (runOf o j .ending))) m _ _
+      (λ e. stopped-answer ExpansionLimit s ∙ sym (if-true _ _ e))
+      (λ e. ending-answer (rulesOf o) (programOf j) s (runOf o j .ending) ∙ sym (if-false _ _ e))
+
+  -- a call that Checking refuses answers what Checking answers
+  pub refusal-answer : accepts (checking o j s) ≡ false → rewriting o j s .answer ≡ checking o j s
+  refusal-answer n = ap (λ (x : Reply). x .answer) (refused-reply o j s (checking o j s) refl n) ∙ refused-answer (checking o j s) s
+
+-- ---- Checking answers 0 to 8 only
+
+abbrev Low : Answer → Type 0
+Low a = numberOf a ≤ 8
+
+andThen-low : (a b : Answer) → Low a → Low b → Low (andThen a b)
+unfolding andThen
+andThen-low a b ha hb = by-if Low (accepts a) b a hb ha
+
+node-low : (q i k : ℕ) (r : List ℕ) → Low (checkNodeOfKind q i k r)
+unfolding checkNodeOfKind
+node-low q i zero r = omega arith
+node-low q zero (suc zero) r = omega arith
+node-low q zero (suc (suc k)) r = omega arith
+node-low q (suc i) (suc zero) r = by-if Low _ BadNode _ (omega arith) (by-if Low _ BadQubit Accepted (omega arith) (omega arith))
+node-low q (suc i) (suc (suc zero)) r = by-if Low _ BadNode Accepted (omega arith) (omega arith)
+node-low q (suc i) (suc (suc (suc k))) r = omega arith
+
+nodes-low : (q i : ℕ) (rs : List (List ℕ)) → Low (checkNodes q i rs)
+unfolding checkNodes checkNode
+nodes-low q i [] = omega arith
+nodes-low q i (r ∷ rs) = andThen-low _ _ (node-low q i (fieldOf r 0) r) (nodes-low q (suc i) rs)
+
+operation-low : (n : ℕ) (seen r : List ℕ) → Low (checkOperation n seen r)
+unfolding checkOperation
+operation-low n seen r =
+    by-if Low _ BadOperation _ (omega arith)
+    (by-if Low _ BadReference _ (omega arith) (by-if Low _ BadOutcome Accepted (omega arith) (omega arith)))
+
+operations-low : (n : ℕ) (seen : List ℕ) (rs : List (List ℕ)) → Low (checkOperations n seen rs)
+unfolding checkOperations
+operations-low n seen [] = omega arith
+operations-low n seen (r ∷ rs) = andThen-low _ _ (operation-low n seen r) (operations-low n (measured seen r) rs)
+
+rows-low : (n i : ℕ) (rs : List (List ℕ)) → Low (checkRows n i rs)
+unfolding checkRows checkRow
+rows-low n i [] = omega arith
+rows-low n i (r ∷ rs) = andThen-low _ _ (by-if Low _ BadReference Accepted (omega arith) (omega arith)) (rows-low n (suc i) rs)
+
+-- 4 to 8
+pub program-low : (j : Job) → numberOf (checkProgram j) ≤ 8
+unfolding checkProgram
+program-low j = andThen-low _ _ (nodes-low _ 0 _) (andThen-low _ _ (operations-low _ [] _) (rows-low _ 0 _))
+
+-- Checking answers no number above 8
+pub checking-low : (o : Options) (j : Job) (s : Lent) → numberOf (checking o j s) ≤ 8
+unfolding checking
+checking-low o j s =
+    by-if Low _ CountOutside _ (omega arith)
+    (by-if Low _ OptionOutside _ (omega arith) (by-if Low _ SliceShort _ (omega arith) (program-low j)))
+
+-- so a call that answers 0, 9 or 10 has passed Checking
+pub ran : (o : Options) (j : Job) (s : Lent) (a : Answer) → rewriting o j s .answer ≡ a → (accepts a ≡ true) ⊎ (8 < numberOf a)
+    → checking o j s ≡ Accepted
+ran o j s a e h = go (accepts (checking o j s)) refl h
+  where
+    go : (t : Bool) → accepts (checking o j s) ≡ t → (accepts a ≡ true) ⊎ (8 < numberOf a) → checking o j s ≡ Accepted
+    go true f g = accepts-only (checking o j s) f
+    go false f (inl g) =
+        absurd (true≢false (sym g ∙ ap accepts (sym e ∙ refusal-answer o j s f) ∙ f))
+    go false f (inr g) =
+        let n : numberOf (checking o j s) ≡ numberOf a = ap numberOf (sym (refusal-answer o j s f) ∙ e) in
+        absurd (omega (arith, checking-low o j s))

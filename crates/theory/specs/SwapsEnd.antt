@@ -1,0 +1,162 @@
+-- The search for swaps in a segment ends: each start is beyond the one before, so the model makes enough steps. Assumes nothing.
+use mathlib.Core.Path.{_≡_, refl, sym, ap, _∙_}
+use mathlib.Core.Bool.{Bool, true, false, _||_, true≢false}
+use mathlib.Core.Option.{Option, none, some, orElse, Option·map}
+use mathlib.Core.List.{List, [], _∷_, _++_}
+use Prim.Native.Nat.{ℕ, zero, suc, _+_, _≤_, _<_}
+use native.Mathlib.Nat.{le-refl}
+use native.Mathlib.Omega.{arith}
+use lib.ListN.{length, length-append}
+use borrow.Author.Tests.{lt-ltb}
+use Rattle.model.specs.Lists.{if_then_else_, allOf, isEmpty}
+use Rattle.model.specs.Items.{Rot}
+use Rattle.model.specs.Exchange.{improves, Cut, starts, ends, Triple, withEnds, withStarts, triples, shareAxis, Swap, swapOf, tryExchange, tryExchanges}
+use Rattle.model.specs.Exchange.{tryTriple, runEndFrom, runEnd, noTriple, Swapping, nextStart, swapStep, swapsFrom}
+use Rattle.theory.specs.Cases.{by-if, if-true, if-false}
+use Rattle.theory.specs.Every.{Every, every-append, every-take}
+
+abbrev Ends : ℕ → Cut → Type 0
+Ends m c = length (c .back) ≤ m
+
+abbrev After : ℕ → Triple → Type 0
+After m t = length (t .after) ≤ m
+
+ends-after : (m : ℕ) (before rest : List Rot) → length rest ≤ m → Every (Ends m) (ends before rest)
+unfolding ends
+ends-after m before [] h = tt
+ends-after m before (r ∷ rest) h =
+    every-append (Ends m) (ends (before ++ (r ∷ [])) rest) _ (ends-after m (before ++ (r ∷ [])) rest (omega arith)) (omega arith, tt)
+
+withEnds-after : (m : ℕ) (b : List Rot) (s : Cut) (es : List Cut) → Every (Ends m) es → Every (After m) (withEnds b s es)
+unfolding withEnds
+withEnds-after m b s [] h = tt
+withEnds-after m b s (e ∷ es) h = (h .0, withEnds-after m b s es (h .1))
+
+withStarts-after : (m : ℕ) (b : List Rot) (ss es : List Cut) → Every (Ends m) es → Every (After m) (withStarts b ss es)
+unfolding withStarts
+withStarts-after m b [] es h = tt
+withStarts-after m b (s ∷ ss) es h = every-append (After m) (withEnds b s es) _ (withEnds-after m b s es h) (withStarts-after m b ss es h)
+
+triples-after : (candidates : ℕ) (a b c : List Rot) → Every (After (length c)) (triples candidates a b c)
+unfolding triples
+triples-after candidates a b c =
+    every-take (After (length c)) (suc candidates) (withStarts b (starts [] a) (ends [] c))
+    (withStarts-after (length c) b (starts [] a) (ends [] c) (ends-after (length c) [] c (le-refl _)))
+
+abbrev Leaves : ℕ → Option Swap → Type 0
+Leaves m none = Unit {0}
+Leaves m (some s) = length (s .after) ≤ m
+
+made-leaves : (m : ℕ) (t : Triple) (o : Option (List Rot)) → length (t .after) ≤ m → Leaves m (Option·map (swapOf t) o)
+made-leaves m t none h = tt
+made-leaves m t (some new) h = h
+
+orElse-leaves : (m : ℕ) (x y : Option Swap) → Leaves m x → Leaves m y → Leaves m (orElse x y)
+unfolding orElse
+orElse-leaves m none y hx hy = hy
+orElse-leaves m (some x) y hx hy = hx
+
+module _ (l : ℕ) (axes : List (List ℕ)) (eager : Bool) where
+  tryExchange-leaves : (m : ℕ) (t : Triple) (g h trial : List Rot) → After m t → Leaves m (tryExchange l axes eager t g h trial)
+  unfolding tryExchange
+  tryExchange-leaves m t g h trial a = by-if (Leaves m) _ _ _ (made-leaves m t (improves l axes eager trial (t .a ++ (t .b ++ t .c))) a) tt
+
+  tryTriple-leaves : (m : ℕ) (ts : List Triple) → Every (After m) ts → Leaves m (tryTriple l axes eager ts)
+  unfolding tryTriple tryExchanges
+  tryTriple-leaves m [] h = tt
+  tryTriple-leaves m (t ∷ ts) h =
+      let one = tryExchange l axes eager t (t .a) (t .b) (t .b ++ (t .a ++ t .c)) in
+      let two = tryExchange l axes eager t (t .b) (t .c) (t .a ++ (t .c ++ t .b)) in
+      orElse-leaves m (if shareAxis eager (t .a) (t .c) then orElse one two else none) (tryTriple l axes eager ts)
+      (by-if (Leaves m) _ _ _ (orElse-leaves m one two (tryExchange-leaves m t _ _ _ (h .0)) (tryExchange-leaves m t _ _ _ (h .0))) tt)
+      (tryTriple-leaves m ts (h .1))
+
+-- a run takes from the front, and takes one at least
+record Took (taken rest : List Rot) (c : Cut) : Type 0 where
+  both : length (c .front) + length (c .back) ≡ length taken + length rest
+  grew : length taken ≤ length (c .front)
+
+module _ (l : ℕ) (axes : List (List ℕ)) (window : ℕ) where
+  runEndFrom-took : (taken rest : List Rot) → Took taken rest (runEndFrom l axes window taken rest)
+  unfolding runEndFrom
+  runEndFrom-took taken [] = record { both = refl; grew = le-refl _ }
+  runEndFrom-took taken (r ∷ rest) =
+      let h = runEndFrom-took (taken ++ (r ∷ [])) rest in
+      by-if (Took taken (r ∷ rest)) _ _ _
+      (record { both = omega (arith, h .both, length-append taken (r ∷ [])); grew = omega (arith, h .grew, length-append taken (r ∷ [])) })
+      (record { both = refl; grew = le-refl _ })
+
+  runEndFrom-first : 0 < window → (r : Rot) (rest : List Rot) → runEndFrom l axes window [] (r ∷ rest) ≡ runEndFrom l axes window (r ∷ []) rest
+  unfolding runEndFrom allOf
+  runEndFrom-first w r rest = if-true _ _ (rw (lt-ltb 0 window w) refl)
+
+module _ (l : ℕ) (axes : List (List ℕ)) (window candidates : ℕ) (eager : Bool) (opens : 0 < window) where
+  abbrev run : List Rot → Cut
+  run = runEnd l axes window
+
+  run-le : (rest : List Rot) → length (run rest .front) + length (run rest .back) ≡ length rest
+  unfolding runEnd
+  run-le rest = omega (arith, runEndFrom-took l axes window [] rest .both)
+
+  run-less : (rest : List Rot) → isEmpty (run rest .back) ≡ false → length (run rest .back) < length rest
+  unfolding runEnd
+  run-less [] h = absurd (true≢false (nothing ∙ h))
+    where
+      nothing : true ≡ isEmpty (runEndFrom l axes window [] [] .back)
+      nothing = unfold runEndFrom isEmpty in refl
+  run-less (r ∷ rest) h =
+      let f = runEndFrom-took l axes window (r ∷ []) rest in
+      let e : length (runEndFrom l axes window [] (r ∷ rest) .back) ≡ length (runEndFrom l axes window (r ∷ []) rest .back)
+      = ap (λ (x : Cut). length (x .back)) (runEndFrom-first l axes window opens r rest) in
+      omega (arith, f .both, f .grew)
+
+  swapStep-less : (s : Swapping) → noTriple l axes window (s .rest) ≡ false
+      → length (swapStep l axes window candidates eager s .rest) < length (s .rest)
+  unfolding swapStep noTriple
+  swapStep-less s h =
+      let a = run (s .rest) in
+      let b = run (a .back) in
+      let c = run (b .back) in
+      let f : length (a .back) < length (s .rest) = run-less (s .rest) (or-left _ _ h) in
+      let ts = triples candidates (a .front) (b .front) (c .front) in
+      go a c (tryTriple l axes eager ts) f
+      (tryTriple-leaves l axes eager (length (c .front)) ts (triples-after candidates (a .front) (b .front) (c .front)))
+      (omega (arith, run-le (a .back), run-le (b .back)))
+    where
+      or-left : (x y : Bool) → x || y ≡ false → x ≡ false
+      or-left true y h = h
+      or-left false y h = refl
+
+      go : (a c : Cut) (o : Option Swap) → length (a .back) < length (s .rest) → Leaves (length (c .front)) o
+          → length (c .front) + length (c .back) ≤ length (a .back) → length (nextStart a c s o .rest) < length (s .rest)
+      go a c none f k e = unfold nextStart in f
+      go a c (some x) f k e = unfold nextStart in (omega (arith, length-append (x .after) (c .back)))
+
+  abbrev stop : Swapping → Bool
+  stop s = noTriple l axes window (s .rest)
+
+  none-left : (s : Swapping) → length (s .rest) ≤ 0 → stop s ≡ true
+  none-left s h = go (stop s) refl
+    where
+      go : (t : Bool) → stop s ≡ t → stop s ≡ true
+      go true e = e
+      go false e = absurd (omega (arith, swapStep-less s e))
+
+  -- as many steps as rotations are enough
+  pub swaps-enough : (k k′ : ℕ) (s : Swapping) → length (s .rest) ≤ k → length (s .rest) ≤ k′
+      → swapsFrom l axes window candidates eager k s ≡ swapsFrom l axes window candidates eager k′ s
+  unfolding swapsFrom
+  swaps-enough zero zero s h h′ = refl
+  swaps-enough zero (suc k′) s h h′ = sym (if-true _ _ (none-left s h))
+  swaps-enough (suc k) zero s h h′ = if-true _ _ (none-left s h′)
+  swaps-enough (suc k) (suc k′) s h h′ = go (stop s) refl (λ a b. swaps-enough k k′ (swapStep l axes window candidates eager s) a b)
+    where
+      next : Swapping
+      next = swapStep l axes window candidates eager s
+
+      go : (t : Bool) → stop s ≡ t
+          → (length (next .rest) ≤ k → length (next .rest) ≤ k′
+          → swapsFrom l axes window candidates eager k next ≡ swapsFrom l axes window candidates eager k′ next)
+          → (if stop s then s else swapsFrom l axes window candidates eager k next) ≡ (if stop s then s else swapsFrom l axes window candidates eager k′ next)
+      go true e ih = if-true _ _ e ∙ sym (if-true _ _ e)
+      go false e ih = if-false _ _ e ∙ ih (omega (arith, swapStep-less s e)) (omega (arith, swapStep-less s e)) ∙ sym (if-false _ _ e)

@@ -1,0 +1,10 @@
+pub mod SupportQubits
+pub mod Commuting
+pub mod StoredWords
+pub mod PackedWords
+pub mod HeldImages
+pub mod PassWords
+pub mod RunWords
+pub mod Conjugation
+pub mod Carrying
+pub mod Wellformed

@@ -1,0 +1,1 @@
+// Theorems about the words of the model. No code.
