@@ -23,7 +23,7 @@ below = [
 def wrapped(start, words, between, end):
     lines, line = [], ""
     for word in words:
-        if line and len(start) + len(line) + len(between) + len(word) + len(end) > 160:
+        if line and len(start) + len(line) + len(between) + len(word) + len(end) > 150:
             lines.append(start + line + end)
             line = ""
         line += (between if line else "") + word

@@ -1,7 +1,8 @@
 #!/usr/bin/env python3
-# Writes specs/Compared1.antt, Compared2.antt, ..: jobs of the oracle's fixed list, the model's outcome held to the oracle's by computing.
-# From the root of the repository: python3 crates/runs/compared.py
+# Writes the oracle's jobs and what the Rust makes of them as theorems, the model's outcome held to the Rust's by computing: specs/Fixed*.antt from
+# small jobs of the fixed list, specs/Directed*.antt from the directed cases but for 01's starred examples.
 import pathlib
+import re
 
 root = pathlib.Path(__file__).resolve().parents[2]
 specs = root / "crates/runs/specs"
@@ -10,21 +11,29 @@ JOBS = 32  # jobs in a file
 NONE, MINUS_ONE = 65535, 4294967295
 
 
-def jobs():
-    numbers = [int(x) for x in (root / "oracle/fixed/list.jobs").read_text().split()]
-    at = 0
-    while at < len(numbers):
-        head, at = numbers[at : at + 17], at + 17
-        parts = []
-        for width, count in ((5, head[1]), (6, head[2]), (4, 2 * head[0])):
-            parts.append([numbers[at + width * i : at + width * (i + 1)] for i in range(count)])
-            at += width * count
-        yield head, parts
+# comment, header, records of each job
+def jobs(path):
+    comment, numbers = "", []
+    for line in path.read_text().splitlines():
+        if line.startswith("#"):
+            comment = comment or line[1:].strip()
+            continue
+        numbers += [int(x) for x in line.split()]
+        if len(numbers) < 17:
+            continue
+        qubits, nodes, operations = numbers[:3]
+        if len(numbers) == 17 + 5 * nodes + 6 * operations + 8 * qubits:
+            at, parts = 17, []
+            for width, count in ((5, nodes), (6, operations), (4, 2 * qubits)):
+                parts.append([numbers[at + width * i : at + width * (i + 1)] for i in range(count)])
+                at += width * count
+            yield comment, numbers[:13], parts
+            comment, numbers = "", []
 
 
-def answers():
-    for text in (root / "oracle/fixed/list.out").read_text().split("end\n")[:-1]:
-        yield [[int(x) for x in line.split()] for line in text.splitlines()]
+def answers(path):
+    for text in path.read_text().split("end\n")[:-1]:
+        yield [[int(x) for x in line.split()] for line in text.splitlines() if not line.startswith("#")]
 
 
 def listed(items):
@@ -116,46 +125,66 @@ def broken(line):
     return lines + [line]
 
 
-def theorem(place, head, parts, answer):
-    qubits, _, _, limit, lookback, window, candidates, rounds, absorb, eager, lazy, strategy, depth = head[:13]
+def theorem(name, comment, head, parts, answer):
+    qubits, _, _, limit, lookback, window, candidates, rounds, absorb, eager, lazy, strategy, depth = head
     absorption = "off" if not absorb else "lazy" if lazy else "atOnce"
     flag = lambda b: "true" if b else "false"
     lines = [
-        "job-%d : outcome %d (rules %d %d %d %s %s %s %s) %d (program %d"
-        % (place, limit, lookback, window, candidates, absorption, flag(eager), "Litinski" if strategy else "Merge", flag(depth), rounds, qubits),
+        "%s : outcome %d (rules %d %d %d %s %s %s %s) %d (program %d"
+        % (name, limit, lookback, window, candidates, absorption, flag(eager), "Litinski" if strategy else "Merge", flag(depth), rounds, qubits),
         "    " + listed([node(r) for r in parts[0]]),
         "    " + listed([operation(r) for r in parts[1]]),
         "    " + listed([row(r) for r in parts[2]]) + ")",
     ]
     came = outcome(qubits, answer)
     lines += ["    ≡ " + came[0]] + ["    " + x for x in came[1:]]
-    return [b for line in lines for b in broken(line)] + ["unfolding everything", "job-%d = refl" % place, ""]
+    lines = (["-- " + comment] if comment else []) + lines
+    return [b for line in lines for b in broken(line)] + ["unfolding everything", "%s = refl" % name, ""]
 
 
-HEAD = """-- Written by compared.py: jobs of the oracle's fixed list, with what the Rust makes of each. Assumes nothing.
+HEAD = """-- Written by compared.py: %s, with what the Rust makes of each. Assumes nothing.
 use mathlib.Core.Path.{_≡_, refl}
 use mathlib.Core.Bool.{true, false}
 use mathlib.Core.List.{[], _∷_}
-use Rattle.model.specs.declared.Strategy.the-variants.{Merge, Litinski}
-use Rattle.model.specs.Rules.{off, atOnce, lazy}
-use Rattle.model.specs.Everything.{everything}
-use Rattle.runs.specs.Shown.{I, X, Y, Z, product, rotate, measure, conditional, row, program, rules, rotated, measured+, measured-}
-use Rattle.runs.specs.Shown.{conditioned, kept, given+, given-, nonHermitianAt, shows}
-use Rattle.runs.specs.Outcome.{limitExceeded, within, outcome}
 """
+USED = [
+    ("Rattle.model.specs.declared.Strategy.the-variants", "Merge Litinski"),
+    ("Rattle.model.specs.Rules", "off atOnce lazy"),
+    ("Rattle.model.specs.Everything", "everything"),
+    ("Rattle.runs.specs.Shown", "I X Y Z product rotate measure conditional row program rules rotated measured+ measured-"),
+    ("Rattle.runs.specs.Shown", "conditioned kept given+ given- nonHermitianAt shows"),
+    ("Rattle.runs.specs.Outcome", "limitExceeded within outcome"),
+]
 
 
-def main():
-    taken = []
-    for place, ((head, parts), answer) in enumerate(zip(jobs(), answers())):
-        if head[2] <= LARGEST and head[1] <= 30 and head[0] <= 3:
-            taken.append(theorem(place, head, parts, answer))
-    for old in specs.glob("Compared*.antt"):
+# the names of each module that the text uses
+def imports(text):
+    words = set(re.findall(r"[^\s()]+", text))
+    lines = []
+    for module, names in USED:
+        used = [n for n in names.split() if n in words]
+        lines += ["use %s.{%s}\n" % (module, ", ".join(used))] if used else []
+    return "".join(lines)
+
+
+def write(name, title, theorems):
+    for old in specs.glob(name + "*.antt"):
         old.unlink()
-    for i in range(0, len(taken), JOBS):
-        text = "\n".join(line for t in taken[i : i + JOBS] for line in t).rstrip()
-        (specs / ("Compared%d.antt" % (i // JOBS + 1))).write_text(HEAD + "\n" + text + "\n")
-    print(len(taken), "jobs in", (len(taken) + JOBS - 1) // JOBS, "files")
+    for i in range(0, len(theorems), JOBS):
+        text = "\n".join(line for t in theorems[i : i + JOBS] for line in t).rstrip()
+        (specs / ("%s%d.antt" % (name, i // JOBS + 1))).write_text(HEAD % title + imports(text) + "\n" + text + "\n")
+    print(len(theorems), "jobs in", name)
 
 
-main()
+def theorems(folder, name, wanted):
+    pairs = zip(jobs(folder / (name + ".jobs")), answers(folder / (name + ".out")))
+    return [theorem("job-%d" % i, *job, answer) for i, (job, answer) in enumerate(pairs) if wanted(*job)]
+
+
+def small(comment, head, parts):
+    return head[2] <= LARGEST and head[1] <= 30 and head[0] <= 3
+
+
+oracle = root / "oracle"
+write("Fixed", "jobs of the oracle's fixed list", theorems(oracle / "fixed", "list", small))
+write("Directed", "the oracle's directed cases", theorems(oracle / "directed", "cases", lambda comment, head, parts: not comment.startswith("*")))

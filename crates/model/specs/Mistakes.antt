@@ -8,9 +8,9 @@ use lib.IntN.{pos, negsuc}
 use Rattle.angle.specs.Angle.{eighthsOf, signedAngle}
 use Rattle.pauli.specs.Letter.{single}
 use Rattle.model.specs.declared.Strategy.the-variants.{Merge}
-use Rattle.model.specs.Program.{Node, identity, letter, product, rotate, measure, Operation, Program}
+use Rattle.model.specs.Program.{identity, letter, product, rotate, measure, Operation, Program}
 use Rattle.model.specs.Rules.{Absorption, off, atOnce, Rules}
-use Rattle.model.specs.Words.{Value, asValue}
+use Rattle.model.specs.Words.{asValue}
 use Rattle.model.specs.Clifford.{absorbImage}
 use Rattle.model.specs.Items.{tCount}
 use Rattle.model.specs.Run.{endOf, run}

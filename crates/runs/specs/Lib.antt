@@ -5,9 +5,9 @@ pub mod Rule
 pub mod Limits
 pub mod Refusals
 pub mod Texts
-pub mod Directed
-pub mod DirectedExchange
-pub mod Compared1
-pub mod Compared2
-pub mod Compared3
-pub mod Compared4
+pub mod Directed1
+pub mod Directed2
+pub mod Fixed1
+pub mod Fixed2
+pub mod Fixed3
+pub mod Fixed4

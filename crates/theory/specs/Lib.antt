@@ -8,8 +8,6 @@ pub mod ExchangeMeasure
 pub mod LayeringMeasure
 pub mod MoreRounds
 pub mod TCount
-pub mod Support
-pub mod StoredWords
 pub mod Ids
 pub mod StreamState
 pub mod SweepsEnd
@@ -19,14 +17,13 @@ pub mod Steady
 pub mod TCountAfter
 pub mod PackedRoots
 pub mod Checked
-pub mod PackedWords
 pub mod TCountRun
 pub mod Alike
 pub mod Replies
 pub mod Limit
 pub mod AcceptedRun
 pub mod TCountCalls
-pub mod Lengths
 pub mod PlainValue
 pub mod Hermitian
 pub mod ListingCalls
+pub mod EqualRounds

@@ -1,6 +1,5 @@
 -- At every point of a run the axes are words, each stored once, ids are in range, and signs are 0 or 2 quarter turns. Assumes nothing.
-use mathlib.Core.Path.{_≡_, refl, subst}
-use mathlib.Core.Logic.{inl, inr, ⊎-elim}
+use mathlib.Core.Path.{_≡_, refl}
 use mathlib.Core.Bool.{Bool, true, false, not, _||_, true≢false, false≢true}
 use mathlib.Core.List.{List, [], _∷_, _++_, map}
 use Prim.Native.Nat.{ℕ, zero, suc, _+_, _%_, _≤_, _<_}
@@ -28,7 +27,7 @@ use Rattle.model.specs.Run.{itemOf, itemsFrom, startOf}
 use Rattle.theory.specs.Cases.{by-if, on-if}
 use Rattle.theory.specs.Every.{Every, every-append, every-one, every-map, every-left, every-right, every-weaken, every-unmap}
 use Rattle.theory.specs.SegmentAxes.{swaps-has, layerSegment-has}
-use Rattle.theory.specs.PackedRoots.{In, Rooted, packed-rooted}
+use Rattle.theory.specs.PackedRoots.{Rooted, packed-rooted}
 use Rattle.theory.specs.Checked.{SmallAngle, Fine}
 use Rattle.theory.specs.Hermitian.{in-every, every-in, roots-in}
 use Rattle.words_wellformed.specs.StoredWords.{StoredWords}

@@ -2,7 +2,7 @@
 use mathlib.Core.Path.{_≡_, refl, sym, ap, _∙_}
 use mathlib.Core.Bool.{Bool, true, false, _||_}
 use mathlib.Core.List.{List, [], _∷_, map, flatten}
-use Prim.Native.Nat.{ℕ, suc, _+_, _-_, _*_, _≤_}
+use Prim.Native.Nat.{ℕ, suc, _+_, _-_, _*_, _≤_, _<_}
 use native.Mathlib.Nat.{le-trans, suc-mul, zero-mul}
 use native.Mathlib.Omega.{arith}
 use lib.Dec.{ltb}
@@ -18,7 +18,7 @@ use Rattle.model.specs.Interface.{accepts}
 use Rattle.model.specs.Program.{Job, operationRecords, rowRecords, Kind, rotate, measure, conditional, Operation, operationOf, PauliRef, rowOf, Program}
 use Rattle.model.specs.Program.{programOf}
 use Rattle.model.specs.Rules.{Rules, rulesOf}
-use Rattle.model.specs.Words.{Value, Store}
+use Rattle.model.specs.Words.{Value, wordOf, Store}
 use Rattle.model.specs.Roots.{isRoot, operationRoot}
 use Rattle.model.specs.Packing.{valuesOf, packed, SignedAxis, signedAxis}
 use Rattle.model.specs.Items.{Item, rotation, barrier}
@@ -27,17 +27,17 @@ use Rattle.model.specs.Run.{itemOf, itemsFrom, startOf, endOf, endAnswer}
 use Rattle.model.specs.Results.{operationAt, barrierRecord, itemRecord, operationResults, keptRow, givenRow, rowRecord, axesLeft, rowResultsFrom, rowResults}
 use Rattle.model.specs.Checking.{Lent, badCount, badOption, wordsAsked, numbersAsked, programShort, lentShort, checkProgram, checking}
 use Rattle.model.specs.Rewriting.{thenZeros, zeros, refused, stopped, accepted, afterEnding, rewriting}
 use Rattle.theory.specs.Cases.{by-if, neither}
-use Rattle.theory.specs.Every.{Every}
 use Rattle.theory.specs.Lists.{flatten-length}
 use Rattle.theory.specs.TCount.{passes-length}
-use Rattle.theory.specs.StoredWords.{Good}
 use Rattle.theory.specs.Checked.{accepts-only, not-refused, checked-fine}
-use Rattle.theory.specs.PackedWords.{end-good}
 use Rattle.theory.specs.Replies.{runOf, limitOf, refused-reply, beyond-limit, within-limit, run-answer}
 use Rattle.theory.specs.Limit.{within-answer}
 use Rattle.theory.specs.AcceptedRun.{hermitian-ending, hermitian-peak, refused-ending}
 use Rattle.theory.specs.TCountCalls.{accepted-checks, accepted-within, accepted-hermitian, accepted-reply}
+use Rattle.words_wellformed.specs.Wellformed.{end-words}
+use Rattle.run_wellformed.specs.Memory.{StoreFits}
+use Rattle.run_wellformed.specs.RunWellFormed.{end-formed}
 
 -- each slice is as long as before
 pub record SameLengths (s s′ : Lent) : Type 0 where
@@ -60,17 +60,18 @@ zeros-length s = length-replicate (length s) 0
 
 -- ---- axis words
 
-words-length : (l : ℕ) (axes : List (List ℕ)) → Every (IsWord l) axes → sumOf length axes ≡ length axes * (2 * l)
+words-length : (l : ℕ) (axes : List (List ℕ)) → ((a : ℕ) → a < length axes → IsWord l (wordOf axes a)) → sumOf length axes ≡ length axes * (2 * l)
 unfolding sumOf
 words-length l [] h = sym (zero-mul (2 * l))
 words-length l (w ∷ axes) h =
     let e : suc (length axes) * (2 * l) ≡ length axes * (2 * l) + 2 * l = suc-mul (length axes) (2 * l) in
-    let one : length w ≡ 2 * l = h .0 .long in
-    omega (arith, words-length l axes (h .1))
+    let one : length w ≡ 2 * l = h 0 (omega arith) .long in
+    omega (arith, words-length l axes (λ a b. h (suc a) (omega arith)))
 
 -- the axes' words are no more than the largest sum that was tested
-pub axes-fit : (l : ℕ) (st : Store) → Good l st → length (flatten (st .axes)) ≤ st .peak
-axes-fit l st g = omega (arith, flatten-length (st .axes), words-length l (st .axes) (g .words), g .room)
+pub axes-fit : (l : ℕ) (st : Store) → ((a : ℕ) → a < length (st .axes) → IsWord l (wordOf (st .axes) a)) → StoreFits l st
+    → length (flatten (st .axes)) ≤ st .peak
+axes-fit l st words room = omega (arith, flatten-length (st .axes), words-length l (st .axes) words)
 
 -- ---- operations: one record for each item, one item at most for each operation
 
@@ -184,8 +185,10 @@ module _ (o : Options) (j : Job) (s : Lent) where
       let fine = checked-fine o j s c in
       let e = endOf r (o .rounds) p in
       let peak : e .store .peak ≤ limitOf o = accepted-end-peak in
+      let words = end-words r (o .rounds) p fine (accepted-hermitian o j s yes′) in
+      let room = end-formed p fine r (o .rounds) .fits in
       rw (accepted-reply o j s yes′) (unfold accepted in (record {
-        words = thenZeros-length (s .words) _ (omega (arith, axes-fit (width (p .qubits)) (e .store) (end-good p fine r (o .rounds)), long .words));
+        words = thenZeros-length (s .words) _ (omega (arith, axes-fit (width (p .qubits)) (e .store) words room, long .words));
         numbers = zeros-length (s .numbers);
         operations = thenZeros-length (s .operations) _
             (omega (arith, operation-records-fit p e, operations-fit r (o .rounds) p, operations-length j, long .operations));

@@ -5,8 +5,8 @@ use mathlib.Core.List.{[], _∷_}
 use Rattle.model.specs.declared.Strategy.the-variants.{Merge, Litinski}
 use Rattle.model.specs.Rules.{off, atOnce, lazy}
 use Rattle.model.specs.Everything.{everything}
-use Rattle.runs.specs.Shown.{I, X, Y, Z, product, rotate, measure, conditional, row, program, rules, rotated, measured+, measured-}
-use Rattle.runs.specs.Shown.{conditioned, kept, given+, given-, nonHermitianAt, shows}
+use Rattle.runs.specs.Shown.{I, X, Y, Z, product, rotate, measure, row, program, rules, rotated, measured+}
+use Rattle.runs.specs.Shown.{kept, given+, given-, shows}
 use Rattle.runs.specs.Outcome.{limitExceeded, within, outcome}
 
 job-177 : outcome 12 (rules 1048576 4 1 lazy false Litinski true) 2 (program 2

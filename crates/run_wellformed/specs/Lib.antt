@@ -1,0 +1,12 @@
+pub mod CliffordAngles
+pub mod StreamSteps
+pub mod Memory
+pub mod Segments
+pub mod SegmentLengths
+pub mod Points
+pub mod CarriedImages
+pub mod WaitingItems
+pub mod Waiting
+pub mod RunWellFormed
+pub mod Signs
+pub mod Lengths
