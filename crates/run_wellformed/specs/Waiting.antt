@@ -68,7 +68,8 @@ about-seam : (front : List Item) (r : Rot) (is : List Item) → About (front ++ 
 about-seam [] r is = refl
 about-seam (x ∷ front) r is = about-seam front r is
 
-at-seam : (p : Pass) (front : List Item) (i : Item) (is : List Item) → p .out ≡ front ++ (i ∷ is) → (r : Rot) → i ≡ rotation r
+-- the item at the place after `front`
+pub at-seam : (p : Pass) (front : List Item) (i : Item) (is : List Item) → p .out ≡ front ++ (i ∷ is) → (r : Rot) → i ≡ rotation r
     → About (p .out) (r .axis) (length front)
 at-seam p front i is e r f = rw (e, f) (about-seam front r is)
 

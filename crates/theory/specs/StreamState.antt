@@ -399,7 +399,8 @@ module _ (l : ℕ) where
             ∙ ap (λ (x : List ℕ). barriersOf (p .out) ++ x) (sym (barriersOf-append (i ∷ []) is));
       }
 
-begin-sound : (s : Store) → Sound (begin s)
+-- a pass begins sound
+pub begin-sound : (s : Store) → Sound (begin s)
 unfolding begin
 begin-sound s = record { ids = unfold withoutAngles in tt; names = λ a j e. let z : _≡_ {A = ℕ} 0 1 = cc in absurd (omega arith) }
 

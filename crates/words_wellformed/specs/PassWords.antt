@@ -175,7 +175,8 @@ module _ (l : ℕ) (Angles : Type 0) where
   absorbed-well p j a k w h quarters =
       goes-trans p (absorb l p a k) _ (absorb-well p a k w h quarters) (λ v. leaveZero-well (absorb l p a k) j a v (rw (absorb-axes l p a k) h))
 
-  absorbWaitingAt-well : (picks : ℕ → Bool) (p : Pass) (j : ℕ) (i : Item) → Well p → WellPut Angles (length (p .store .axes)) i
+  -- one item of the output
+  pub absorbWaitingAt-well : (picks : ℕ → Bool) (p : Pass) (j : ℕ) (i : Item) → Well p → WellPut Angles (length (p .store .axes)) i
       → Goes p (absorbWaitingAt l picks p j i)
   unfolding absorbWaitingAt
   absorbWaitingAt-well picks p j (rotation r) w h =
@@ -202,7 +203,8 @@ module _ (l : ℕ) (Angles : Type 0) where
   absorbAllWaiting-well atOnce p w = goes-refl p w
   absorbAllWaiting-well lazy p w = absorbWaiting-well _ p 0 (p .out) w (w .output)
 
-  absorbBlocking-well : (p : Pass) (a : ℕ) → Well p → Goes p (absorbBlocking l p a)
+  -- those that anticommute with the next rotation
+  pub absorbBlocking-well : (p : Pass) (a : ℕ) → Well p → Goes p (absorbBlocking l p a)
   unfolding absorbBlocking
   absorbBlocking-well p a w =
       let q = carryAxis l p a in

@@ -1,0 +1,1 @@
+// Document 01's effect, and what keeps it. No code.

@@ -1,0 +1,5 @@
+pub mod Merging
+pub mod Certified
+pub mod Runs
+pub mod Swaps
+pub mod Pass

@@ -1,0 +1,1 @@
+// The exchange pass keeps the effect. No code.

@@ -1,0 +1,1 @@
+// Abelian groups, their identities by computing, and the exchange theorem. No code.

@@ -1,0 +1,4 @@
+pub mod Ops
+pub mod Rotations
+pub mod AxisWords
+pub mod Segments

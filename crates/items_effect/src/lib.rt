@@ -1,0 +1,1 @@
+// Rotations and items as the effect's operations. No code.

@@ -1,0 +1,1 @@
+// theorems about frame rows that are no roots; no code

@@ -1,0 +1,3 @@
+pub mod Merging
+pub mod Layers
+pub mod Layering

@@ -1,0 +1,1 @@
+// The layering pass keeps the effect. No code.

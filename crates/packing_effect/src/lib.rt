@@ -1,0 +1,1 @@
+// The packed program has the source's effect. No code.

@@ -1,0 +1,1 @@
+// the run keeps the effect: theorems, no code

@@ -1,0 +1,10 @@
+pub mod PackedAxes
+pub mod Slide
+pub mod Carry
+pub mod Split
+pub mod Follows
+pub mod Steps
+pub mod Merges
+pub mod StreamItems
+pub mod Rows
+pub mod StreamPass

@@ -1,0 +1,1 @@
+// theorems about the model's runs: angles, lengths, waiting rotations, memory; no code
