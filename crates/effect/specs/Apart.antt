@@ -2,14 +2,14 @@
 use mathlib.Core.Path.{_≡_, refl, sym, _∙_, ap, ap₂}
 use mathlib.Core.Logic.{_⊎_, inl, inr, ⊎-elim}
 use mathlib.Core.List.{List}
-use Prim.Native.Nat.{ℕ, zero, suc, _+_, _*_, _/_, _%_, _^_, _≤_, _<_, min}
+use Prim.Native.Nat.{ℕ, zero, suc, _+_, _*_, _/_, _%_, _≤_, _<_, min}
 use native.Mathlib.Omega.{arith}
 use native.Mathlib.Decide.{ℕ-discrete}
 use lib.Bits.{bitAnd}
 use Rattle.bits.specs.Remainder.{same4, lt-or-ge}
 use Rattle.bits.specs.Digit.{Digit, off, on}
 use Rattle.bits.specs.Bit.{bit, bit-digit, bit-and, bit-ext, bit-high, zero-bit}
-use Rattle.bits.specs.Sum.{sumTo, sum-cong}
+use Rattle.bits.specs.Sum.{sumTo}
 use Rattle.pauli.specs.Word.{xWord, zWord, IsWord, identity, ν, cross, xorWords, phase, symplectic}
 use Rattle.pauli.specs.Letter.{letterOf, letterAt, single}
 use Rattle.pauli.specs.ProductLaws.{common-none, phase-odd}

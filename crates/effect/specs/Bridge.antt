@@ -13,19 +13,20 @@ use Rattle.groups.specs.Eighth.{Eighth, eighth, isEvenE}
 use Rattle.pauli.specs.Word.{IsWord, identity, xorWords, phase, symplectic, anticommutes}
 use Rattle.pauli.specs.Letter.{hasX, hasZ, letterAt, single, other, acts}
 use Rattle.pauli.specs.ProductLaws.{phase-odd, anticommutes-true, anticommutes-false}
-use Rattle.pauli.specs.LetterLaws.{identity-length, xorWords-word, fromLetters, fromLetters-word}
+use Rattle.pauli.specs.LetterLaws.{identity-length, xorWords-word, fromLetters}
 use Rattle.model.specs.Lists.{if_then_else_, numbersFrom, isOdd}
 use Rattle.model.specs.Words.{Value, asValue, scaled, multiply, support, Store}
 use Rattle.model.specs.Clifford.{Images, absorbImage, Touched, absorbWord, letterImage, multiplyImages, wordImage}
 use Rattle.model.specs.Items.{isClifford}
 use Rattle.theory.specs.Cases.{if-true, if-false}
-use Rattle.effect.specs.Phase.{Quarter, q0, q1, q2, q3, Quarterᵃ, odd, neg4, xor, _⊞₄_, add4-zero, odd-add, quarter, quarter-add, quarter-mod, quarter-count, count}
+use Rattle.effect.specs.Phase.{Quarter, q0, q1, q2, q3, Quarterᵃ, odd, neg4, _⊞₄_, add4-zero, quarter, quarter-add, quarter-mod, quarter-count}
+use Rattle.effect.specs.Phase.{count}
 use Rattle.effect.specs.Phase.{count-quarter, odd-half}
-use Rattle.effect.specs.Words.{Words, Setting}
 use Rattle.effect.specs.Effect.{pmul}
 use Rattle.effect.specs.Conjugation.{conj, conjAt}
 use Rattle.effect.specs.Image.{image}
-use Rattle.effect.specs.Clifford.{Cliff, nothing, absorbed, absorbed-im, im-odd, Turn, absorbAll, absorbAll-im, imageAll, carryRow, carryRow-mul, carryRow-unit}
+use Rattle.effect.specs.Clifford.{Cliff, nothing, absorbed, absorbed-im, im-odd, Turn, absorbAll, absorbAll-im, imageAll, carryRow}
+use Rattle.effect.specs.Clifford.{carryRow-mul, carryRow-unit}
 use Rattle.effect.specs.Packed.{Packed, packed-ext, mul, one, one-mul, one-phase, mul-comm, phase4, phase4-swap, packed}
 use Rattle.effect.specs.Support.{walk, walk-append, numbers-append, walk-support}
 use Rattle.effect.specs.Apart.{single-none, letterAt-lt, fromLetters-own, next-letter}
@@ -153,7 +154,8 @@ module _ (l : ℕ) where
   unfolding letterImage nothing
   holds-start = record { letters = λ q c b x. refl; fits = λ P h. h }
 
-  conjAt-word : (d : Bool) {k : ℕ} → Even k → (B P : Packed l) → IsWord l (B .0) → IsWord l (P .0) → IsWord l (conjAt (packed l) d (eighth (pos k)) B P .1 .0)
+  conjAt-word : (d : Bool) {k : ℕ} → Even k → (B P : Packed l) → IsWord l (B .0) → IsWord l (P .0)
+      → IsWord l (conjAt (packed l) d (eighth (pos k)) B P .1 .0)
   conjAt-word false x B P hb hp = hp
   conjAt-word true two B P hb hp = xorWords-word l (B .0) (P .0) hb hp
   conjAt-word true four B P hb hp = hp
@@ -252,12 +254,14 @@ module _ (l : ℕ) where
       at : (q c : ℕ) → q < 64 * l → c < 4 → letterAt l w q ≡ c
           → (other c ≡ 1 → (v : Quarter × Packed l) → modelStep (valueOf l v) q ≡ valueOf l (withLetter w (F .im) v q))
           × (other c ≡ 0 → (v : Quarter × Packed l) → withLetter w (F .im) v q ≡ v)
-      at q zero b d e =
-          (λ z. absurd (omega arith),
-          λ z v. ap (λ (c : ℕ). pmul (packed l) v (F .im (letterWord q c))) e ∙ ap (pmul (packed l) v) (letter-none F q b) ∙ times-one v)
-      at q (suc c) b d e =
-          (λ z v. ap (multiply l (valueOf l v)) (k .letters q (letterAt l w q) b (subst Letter (sym e) (letter-of (suc c) (omega arith) d))) ∙ times-value v _,
-          λ z. absurd (omega arith))
+      at q zero b d e = (
+        λ z. absurd (omega arith),
+        λ z v. ap (λ (c : ℕ). pmul (packed l) v (F .im (letterWord q c))) e ∙ ap (pmul (packed l) v) (letter-none F q b) ∙ times-one v,
+      )
+      at q (suc c) b d e = (
+        λ z v. ap (multiply l (valueOf l v)) (k .letters q (letterAt l w q) b (subst Letter (sym e) (letter-of (suc c) (omega arith) d))) ∙ times-value v _,
+        λ z. absurd (omega arith),
+      )
 
       same : (q : ℕ) → q < 64 * l
           → (acts l w q ≡ 1 → (v : Quarter × Packed l) → modelStep (valueOf l v) q ≡ valueOf l (withLetter w (F .im) v q))
@@ -342,7 +346,8 @@ module _ (l : ℕ) where
         go false e = anticommutes-false l v′ w′ (image-anticommutes v w hv hw ∙ e) ∙ sym (anticommutes-false l v w e)
 
   -- images compose: a word's image after B was absorbed is 01's rule applied to its image before
-  pub image-absorb : (t : Touched) (F : Cliff (packed l)) → Holds (t .held) F → (B : Packed l) {k : ℕ} → Even k → IsWord l (B .0) → (w : List ℕ) → IsWord l w
+  pub image-absorb : (t : Touched) (F : Cliff (packed l)) → Holds (t .held) F → (B : Packed l) {k : ℕ} → Even k → IsWord l (B .0)
+      → (w : List ℕ) → IsWord l w
       → wordImage l (absorbWord l t (B .0) k .held) w ≡ absorbImage l (B .0) k (wordImage l (t .held) w)
   image-absorb t F h B {k} x hb w hw =
       let P : Packed l = (w, hw .long) in

@@ -17,7 +17,7 @@ use Rattle.groups.specs.Real as Real
 use Rattle.effect.specs.Phase.{Sgn, nil, plus, minus, toℤ, σ}
 use Rattle.effect.specs.Words.{Words, Setting}
 use Rattle.effect.specs.Signs.{act, act-zsm}
-use Rattle.effect.specs.Effect.{Op, plain, pick, sums, sumsRoot, J, rotate, step, effect, _≈_}
+use Rattle.effect.specs.Effect.{Op, plain, pick, sums, sumsRoot, J, step, effect, _≈_}
 use Rattle.effect.specs.Generators.{times-add, times-real, J-cube, Commute, times-comm, bracketJ}
 use Rattle.effect.specs.Operators.{rotate-is, effect-append}
 

@@ -2,13 +2,13 @@
 use mathlib.Core.Path.{_≡_, refl, sym, _∙_, ap, ap₂}
 use mathlib.Core.List.{List, [], _∷_, _++_, map}
 use mathlib.Core.Bool.{Bool, true, false}
-use Prim.Native.Nat.{ℕ, zero, suc, _+_}
+use Prim.Native.Nat.{ℕ, suc, _+_}
 use native.Mathlib.Omega.{arith}
 use lib.ListN.{length, length-append}
 use Rattle.groups.specs.Abelian.{Ab, map-pow2, dbl, pow2, pow2-add, pow2-plus, pow2-swap}
 use Rattle.groups.specs.Normaliser.{at, _⊞_, ab, cancel2}
 use Rattle.groups.specs.Root.{Root}
-use Rattle.groups.specs.Eighth.{Eighth, e0, e1, e2, e3, e4, e5, e6, e7, flip, flip-even, isEvenE}
+use Rattle.groups.specs.Eighth.{Eighth, flip-even, isEvenE}
 use Rattle.groups.specs.Real.{IsReal, comp-real, id-real}
 use Rattle.effect.specs.Phase.{Quarter, q0, q1, q2, q3, Quarterᵃ, odd, xor, _⊞₄_, odd-add, even-add, Sgn, _·ˢ_, σ, τ, τ-add}
 use Rattle.effect.specs.Words.{Words, Setting}

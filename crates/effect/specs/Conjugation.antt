@@ -11,7 +11,7 @@ use Rattle.groups.specs.Eighth.{Eighth, e0, e1, e2, e3, e4, e5, e6, e7, flip, i
 use Rattle.groups.specs.Real.{IsReal, rot, rot-real, comp-real}
 use Rattle.groups.specs.Rules as Rules
 use Rattle.effect.specs.Phase.{Quarter, q0, q1, q2, q3, odd, neg4, _⊞₄_, odd-add, odd-neg, Sgn, minus, _·ˢ_, sign-comm, opposite-left, σ, τ}
-use Rattle.effect.specs.Phase.{σ-back, τ-square, τ-one, τ-three, xor-twice, xor}
+use Rattle.effect.specs.Phase.{σ-back, τ-square, τ-one, τ-three, xor}
 use Rattle.effect.specs.Words.{Words, Setting}
 use Rattle.effect.specs.Signs.{act, act-mul, act-add, act-map}
 use Rattle.effect.specs.Effect.{Op, plain, measured, conditional, sums, sumsRoot, times, J, A, rotate, measure, signed, given, step, effect}

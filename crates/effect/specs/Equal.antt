@@ -2,11 +2,11 @@
 use mathlib.Core.Path.{_≡_, refl, sym, _∙_, ap, ap₂, fun-ext}
 use mathlib.Core.List.{List, [], _∷_, _++_}
 use mathlib.Core.Bool.{Bool, true, false}
-use Prim.Native.Nat.{ℕ, zero, suc, _+_}
+use Prim.Native.Nat.{ℕ, _+_}
 use native.Mathlib.Nat as NatL
 use lib.IntN.{ℤ, pos, _+ℤ_}
 use lib.ListN.{length, length-append}
-use Rattle.groups.specs.Abelian.{Ab, map-pow2, dbl, pow2, pow2-add, pow2-plus, pow2-swap}
+use Rattle.groups.specs.Abelian.{Ab, map-pow2, dbl, pow2, pow2-plus, pow2-swap}
 use Rattle.groups.specs.Normaliser.{cancel2}
 use Rattle.groups.specs.Root.{Root}
 use Rattle.groups.specs.Eighth.{Eighth, eighth}

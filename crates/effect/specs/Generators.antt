@@ -1,11 +1,11 @@
 -- The generators J and A on formal sums: twice the same word, two words, their brackets. Assumes nothing.
 use mathlib.Core.Path.{_≡_, refl, sym, _∙_, ap, ap₂, fun-ext}
-use mathlib.Core.Bool.{Bool, true, false}
+use mathlib.Core.Bool.{true, false}
 use lib.IntN.{ℤ, negℤ, _+ℤ_}
 use Rattle.groups.specs.Abelian.{Ab, IsAdd, neg-unique, neg-neg}
 use Rattle.groups.specs.Root.{isZero}
 use Rattle.groups.specs.Real.{IsReal}
-use Rattle.effect.specs.Phase.{Quarter, q0, q1, q2, q3, odd, neg4, _⊞₄_, Sgn, minus, _·ˢ_, toℤ, σ, τ, σ-cube, σ-even, zero4, zero4-at, fits-of}
+use Rattle.effect.specs.Phase.{Quarter, odd, neg4, _⊞₄_, Sgn, minus, _·ˢ_, toℤ, σ, τ, σ-cube, σ-even, zero4, zero4-at, fits-of}
 use Rattle.effect.specs.Words.{Words, Setting}
 use Rattle.effect.specs.Signs.{act, act-mul, act-add, act-map, act-diff}
 use Rattle.effect.specs.Effect.{sums, sumsRoot, times, J, A}

@@ -5,10 +5,10 @@ use mathlib.Core.Bool.{Bool, true, false}
 use Rattle.groups.specs.Normaliser.{at, ∅, _⊞_, ⊟_, ab}
 use Rattle.groups.specs.Abelian.{neg-neg}
 use Rattle.groups.specs.Eighth.{Eighth, e0, e1, e2, e3, e4, e5, e6, e7}
-use Rattle.effect.specs.Phase.{Quarter, q0, q1, q2, q3, Quarterᵃ, odd, neg4, xor, _⊞₄_, odd-neg, even-self, odd-twice}
+use Rattle.effect.specs.Phase.{Quarter, q0, q1, q3, Quarterᵃ, odd, neg4, xor, _⊞₄_, odd-neg, even-self, odd-twice}
 use Rattle.effect.specs.Words.{Words, Setting}
 use Rattle.effect.specs.Effect.{pmul}
-use Rattle.effect.specs.Conjugation.{conj, conjAt, conj-even}
+use Rattle.effect.specs.Conjugation.{conj, conjAt}
 
 module _ (H : Setting) where
   open Setting H using (words as Ws)

@@ -3,14 +3,15 @@ use mathlib.Core.Path.{_≡_, refl, sym, _∙_, ap, ap₂, fun-ext, subst}
 use mathlib.Core.List.{List, [], _∷_, _++_}
 use mathlib.Core.Bool.{Bool, true, false}
 use Prim.Native.Nat.{ℕ}
-use Rattle.groups.specs.Abelian.{Ab, zer-add, neg-of-add, IsAdd, map-zer, map-neg, dbl}
+use Rattle.groups.specs.Abelian.{Ab, zer-add, IsAdd, map-zer, map-neg, dbl}
 use Rattle.groups.specs.Root.{Root, at, ∅, _⊞_, ⊟_, lin}
 use Rattle.groups.specs.Eighth.{Eighth, e0, e1, e2, e3, e4, e5, e6, e7, prev}
 use Rattle.groups.specs.Real.{cos2, sin2, cos2-add, IsReal, rot, rot-real, sum-real, comp-real, id-real}
 use Rattle.effect.specs.Phase.{Quarter, q0, q1, q2, q3, odd, neg4, Sgn, nil, plus, minus, _·ˢ_, σ, τ}
 use Rattle.effect.specs.Words.{Words, Setting}
 use Rattle.effect.specs.Signs.{act, act-mul, act-add, act-map}
-use Rattle.effect.specs.Effect.{Op, plain, measured, conditional, sums, sumsRoot, times, J, A, rotateAt, rotate, keepAt, measure, signed, given, step, effect}
+use Rattle.effect.specs.Effect.{Op, plain, measured, conditional, sums, sumsRoot, times, J, A, rotateAt, rotate, keepAt, measure, signed, given}
+use Rattle.effect.specs.Effect.{step, effect}
 use Rattle.effect.specs.Generators.{times-at, twice-at, times-real}
 
 module _ (H : Setting) where

@@ -1,22 +1,20 @@
 -- The theory's words are the model's packed words of one width l: the lists of exactly 2 l numbers. Assumes nothing.
-use mathlib.Core.Path.{_≡_, refl, sym, _∙_, ap, ap₂}
+use mathlib.Core.Path.{_≡_, refl, sym, _∙_, ap}
 use mathlib.Core.HLevel.{Σ-prop-path, Σ-prop-discrete, hedberg}
 use mathlib.Core.List.{List, [], _∷_, List-discrete}
-use mathlib.Core.Bool.{Bool, true, false}
-use Prim.Native.Nat.{ℕ, zero, suc, _+_, _*_, _/_, _%_, _≤_}
-use native.Mathlib.Nat.{div-add-mod'}
+use Prim.Native.Nat.{ℕ, _+_, _*_, _%_}
 use native.Mathlib.Omega.{arith}
 use native.Mathlib.Decide.{ℕ-discrete}
-use lib.IntN.{ℤ, pos}
+use lib.IntN.{pos}
 use lib.ListN.{length, replicate}
-use Rattle.groups.specs.Abelian.{Ab, neg-unique}
+use Rattle.groups.specs.Abelian.{neg-unique}
 use Rattle.groups.specs.Normaliser.{at, _⊞_, ⊟_, ab}
 use Rattle.groups.specs.Coeff.{Coeff, coeffRoot}
-use Rattle.pauli.specs.Word.{identity, xorWords, phase, symplectic}
+use Rattle.pauli.specs.Word.{identity, xorWords, phase}
 use Rattle.pauli.specs.ProductLaws.{xorWords-comm, xorWords-assoc, xorWords-self, xorWords-length, xorWords-zero, xorWords-twice}
 use Rattle.pauli.specs.ProductLaws.{symplectic-comm, symplectic-xor, phase-odd, phase-swap, phase-cocycle, phase-self, phase-identity}
 use Rattle.pauli.specs.LetterLaws.{identity-length}
-use Rattle.effect.specs.Phase.{Quarter, q0, Quarterᵃ, odd, xor, neg4, _⊞₄_, odd-add, xor-twice, next4, quarter, quarter-add, quarter-mod, odd-half}
+use Rattle.effect.specs.Phase.{Quarter, q0, Quarterᵃ, odd, xor, neg4, _⊞₄_, odd-add, quarter, quarter-add, quarter-mod, odd-half}
 use Rattle.effect.specs.Words.{Words, Setting}
 
 abbrev pub Packed : ℕ → Type 0
@@ -111,8 +109,16 @@ module _ (l : ℕ) where
 
       sums : phase l (xorWords p q) r % 2 ≡ (phase l p r + phase l q r) % 2
       sums =
-          omega (arith, phase-odd l (xorWords p q) r, phase-odd l p r, phase-odd l q r,
-          symplectic-comm l (xorWords p q) r, symplectic-comm l p r, symplectic-comm l q r, symplectic-xor l r p q)
+          omega (
+            arith,
+            phase-odd l (xorWords p q) r,
+            phase-odd l p r,
+            phase-odd l q r,
+            symplectic-comm l (xorWords p q) r,
+            symplectic-comm l p r,
+            symplectic-comm l q r,
+            symplectic-xor l r p q,
+          )
 
   abbrev pub packedWords : Words
   packedWords = record {

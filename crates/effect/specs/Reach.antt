@@ -1,7 +1,6 @@
 -- Merging at a distance: a rotation slides over rotations that commute with it. Assumes nothing.
-use mathlib.Core.Path.{_≡_, sym, subst}
+use mathlib.Core.Path.{sym, subst}
 use mathlib.Core.List.{List, [], _∷_, _++_, append-assoc}
-use Prim.Native.Nat.{ℕ}
 use lib.IntN.{ℤ, _+ℤ_}
 use Rattle.groups.specs.Eighth.{Eighth, eighth}
 use Rattle.effect.specs.Words.{Words, Setting}

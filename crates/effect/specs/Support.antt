@@ -1,8 +1,7 @@
 -- Going through a word's support, and going through all its qubits. Assumes nothing.
 use mathlib.Core.Path.{_≡_, refl, sym, _∙_, ap, subst}
-use mathlib.Core.Bool.{Bool, true, false}
 use mathlib.Core.List.{List, [], _∷_, _++_, map, flatten}
-use Prim.Native.Nat.{ℕ, zero, suc, _+_, _*_, _/_, _%_, _^_, _≤_, _<_}
+use Prim.Native.Nat.{ℕ, zero, suc, _+_, _*_, _/_, _%_, _≤_, _<_}
 use native.Mathlib.Nat.{zero-add, suc-add}
 use native.Mathlib.Omega.{arith}
 use native.Mathlib.Decide.{ℕ-discrete}
@@ -13,7 +12,7 @@ use Rattle.bits.specs.Digit.{low, digit-none}
 use Rattle.pauli.specs.Word.{xWord, zWord}
 use Rattle.pauli.specs.Letter.{acts}
 use Rattle.pauli.specs.LetterLaws.{acts-bit}
-use Rattle.model.specs.Lists.{if_then_else_, numbersFrom, isOdd}
+use Rattle.model.specs.Lists.{numbersFrom, isOdd}
 use Rattle.model.specs.Words.{setBits, support}
 use Rattle.theory.specs.Cases.{on-if}
 use Rattle.theory.specs.Every.{Every}

@@ -365,7 +365,8 @@ module _ (M : Ab) (Mr : Root M) where
       (x, x)
       ∙ ap₂ (λ n t. pow2 (M ×ᵃ M) n t) (arms-length A) (arms-ρs B (f x, f x)) ∙ pow2-pair M M (length A) (rots B (f x), rots B (f x)))
 
-  pub exchange : (A B : List Gen) → Commuting A → Commuting B → ((x : C) → total A (total B x) ≡ total B (total A x)) → (x : C) → rots A (rots B x) ≡ rots B (rots A x)
+  pub exchange : (A B : List Gen) → Commuting A → Commuting B → ((x : C) → total A (total B x) ≡ total B (total A x)) → (x : C)
+      → rots A (rots B x) ≡ rots B (rots A x)
   exchange A B GA GB h x = cancel2 M torsion (length A) (rots A (rots B x)) (rots B (rots A x)) (sym (intertwine A A GA GA (rots B) (rots-real B) swap x))
     where
       swap : (x : C) → rots B (total A x) ≡ total A (rots B x)

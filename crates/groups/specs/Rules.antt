@@ -6,7 +6,7 @@ use Rattle.groups.specs.Abelian.{Ab, nsm, zsm, zsm-add, zer-add, neg-neg
 use Rattle.groups.specs.Normaliser.{halve}
 use Rattle.groups.specs.Root.{Root, at, ∅, _⊞_, ⊟_, lin}
 use Rattle.groups.specs.Eighth.{Eighth, e2, prev, flip, eighth}
-use Rattle.groups.specs.Real.{cos2, sin2, cos2-add, cos2-flip, sin2-flip, map-cos2, IsReal, Gen, rot, rot-real, rots, total, Commuting}
+use Rattle.groups.specs.Real.{cos2, sin2, cos2-add, cos2-flip, sin2-flip, map-cos2, IsReal, Gen, rot, rot-real, rots, total}
 use Rattle.groups.specs.Real.{intertwine, id-real}
 
 module _ (M : Ab) (Mr : Root M) where

@@ -6,7 +6,8 @@ use Prim.Native.Nat.{ℕ, zero, suc, _+_, _<_}
 use lib.ListN.{length}
 use Rattle.model.specs.Lists.{if_then_else_, keep, isEmpty}
 use Rattle.model.specs.Items.{Rot, isNonzero, dropZeroRots}
-use Rattle.model.specs.Layering.{mergeInto, mergesIn, Layers, Shift, commutesWithAll, joinLayer, joinLayers, moveRotation, moveRotations, sweepFrom, sweep}
+use Rattle.model.specs.Layering.{mergeInto, mergesIn, Layers, Shift, commutesWithAll, joinLayer, joinLayers, moveRotation, moveRotations, sweepFrom}
+use Rattle.model.specs.Layering.{sweep}
 use Rattle.model.specs.Layering.{dropZeroLayers, sweepsFrom, height, layerSegment}
 use Rattle.theory.specs.Cases.{by-if, on-if}
 use Rattle.theory.specs.Every.{Every, every-one, every-keep}

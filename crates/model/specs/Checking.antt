@@ -8,7 +8,8 @@ use Rattle.pauli.specs.Word.{width, phase}
 use Rattle.model.specs.declared.Options.{Options}
 use Rattle.model.specs.declared.Counts.{Counts}
 use Rattle.model.specs.declared.Answer.{Answer}
-use Rattle.model.specs.declared.Answer.the-variants.{Accepted, CountOutside, OptionOutside, SliceShort, BadNode, BadQubit, BadReference, BadOperation}
+use Rattle.model.specs.declared.Answer.the-variants.{Accepted, CountOutside, OptionOutside, SliceShort, BadNode, BadQubit, BadReference}
+use Rattle.model.specs.declared.Answer.the-variants.{BadOperation}
 use Rattle.model.specs.declared.Answer.the-variants.{BadOutcome}
 use Rattle.model.specs.Lists.{if_then_else_, member}
 use Rattle.model.specs.Interface.{accepts}

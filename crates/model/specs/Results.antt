@@ -8,7 +8,8 @@ use Rattle.pauli.specs.Word.{width}
 use Rattle.pauli.specs.Letter.{weight}
 use Rattle.model.specs.declared.Counters.{Counters}
 use Rattle.model.specs.Lists.{if_then_else_, countOf, sumOf, isOdd}
-use Rattle.model.specs.Program.{fieldOf, noOutcome, minusOne, Kind, rotate, measure, conditional, isMeasure, isRotate, Operation, PauliRef, Program}
+use Rattle.model.specs.Program.{fieldOf, noOutcome, minusOne, Kind, rotate, measure, conditional, isMeasure, isRotate, Operation, PauliRef}
+use Rattle.model.specs.Program.{Program}
 use Rattle.model.specs.Rules.{Rules}
 use Rattle.model.specs.Words.{wordOf}
 use Rattle.model.specs.Value.{valueAt}

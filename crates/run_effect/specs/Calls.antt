@@ -1,16 +1,16 @@
 -- Every accepted call of Rewriting, and every accepted listing, keeps the effect. Assumes nothing.
-use mathlib.Core.Path.{_≡_, refl, sym, _∙_, ap, ap₂, subst}
+use mathlib.Core.Path.{_≡_, sym, _∙_, ap, ap₂}
 use mathlib.Core.Bool.{Bool, false}
 use mathlib.Core.List.{List}
 use mathlib.Core.Option.{some}
 use Prim.Native.Nat.{ℕ, _-_}
-use lib.ListN.{length, length-map}
+use lib.ListN.{length}
 use Rattle.groups.specs.Abelian.{pow2}
 use Rattle.pauli.specs.Word.{width}
 use Rattle.model.specs.declared.Options.{Options}
 use Rattle.model.specs.declared.Answer.the-variants.{Accepted}
 use Rattle.model.specs.Program.{Job, Program, programOf}
-use Rattle.model.specs.Rules.{Rules, rulesOf}
+use Rattle.model.specs.Rules.{rulesOf}
 use Rattle.model.specs.Packing.{packed}
 use Rattle.model.specs.Run.{endOf}
 use Rattle.model.specs.Results.{operationResults, rowResults}
@@ -22,11 +22,12 @@ use Rattle.theory.specs.ListingCalls.{optionsOf, listingAnswer}
 use Rattle.effect.specs.Effect.{effectFrom}
 use Rattle.effect.specs.Packed as PackedWords
 use Rattle.stream_effect.specs.PackedAxes.{packedWord}
-use Rattle.result_effect.specs.Definitions.{resultOp, resultOps, resultRows, operationsRead, rowsRead}
+use Rattle.result_effect.specs.Definitions.{operationsRead, rowsRead}
 use Rattle.result_effect.specs.Records.{end-ops}
 use Rattle.result_effect.specs.Rows.{end-rows}
-use Rattle.result_effect.specs.Calls.{callEnd, leftAxes, leftOperations, leftRows, call-fine, call-hermitian, left-axes, left-operations, left-rows}
-use Rattle.result_effect.specs.Listing.{listedEnd, listedFirst, listedRest, listed-fine, listed-hermitian, listed-count, listedAxes, listed-ops, listed-frame}
+use Rattle.result_effect.specs.Calls.{leftAxes, leftOperations, leftRows, call-fine, call-hermitian, left-axes, left-operations, left-rows}
+use Rattle.result_effect.specs.Listing.{listedEnd, listedFirst, listedRest, listed-fine, listed-hermitian, listed-count, listedAxes, listed-ops}
+use Rattle.result_effect.specs.Listing.{listed-frame}
 use Rattle.run_effect.specs.Same.{picked}
 use Rattle.run_effect.specs.RunEffect.{Effects, sourceEffect, resultEffect, run-keeps-effect}
 
@@ -69,8 +70,8 @@ module _ (t : Read) (yes′ : listingAnswer (some t) ≡ Accepted) where
       let ops = listed-ops t yes′ (packedWord l) ∙ sym (end-ops p fine hermitian r (packedWord l) 8) in
       let rows = listed-frame t yes′ (packedWord l) ∙ sym (end-rows p fine hermitian r (packedWord l) 8) in
       let printed =
-          resultEffect p (listedAxes t yes′) (operationsRead (listedFirst t yes′) (listedRest t yes′))
-          (rowsRead (p .qubits) (listedFirst t yes′) (listedRest t yes′)) outcomes ns in
+      resultEffect p (listedAxes t yes′) (operationsRead (listedFirst t yes′) (listedRest t yes′))
+      (rowsRead (p .qubits) (listedFirst t yes′) (listedRest t yes′)) outcomes ns in
       ap (λ (n : ℕ). pow2 (Effects p) (length (p .operations) - n) printed) (listed-count t yes′)
       ∙ ap₂ (λ X Y. pow2 (Effects p) (length (p .operations) - length (operationResults p (listedEnd t yes′))) (effectFrom H outcomes X (picked H ns Y))) ops rows
       ∙ run-keeps-effect p fine hermitian r 8 outcomes ns

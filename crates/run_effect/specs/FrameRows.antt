@@ -1,19 +1,18 @@
 -- The frame rows at a point of a run: a root's is the work's, any other is the source's; a stream takes each to its image. Assumes nothing.
 use mathlib.Core.Path.{_≡_, refl, sym, _∙_, ap, ap₂, subst}
-use mathlib.Core.Logic.{_⊎_, inl, inr}
+use mathlib.Core.Logic.{inl, inr}
 use mathlib.Core.Bool.{Bool, true, false}
 use mathlib.Core.List.{List, [], _∷_, map}
-use Prim.Native.Nat.{ℕ, zero, suc, _*_, _<_}
+use Prim.Native.Nat.{ℕ, suc, _*_, _<_}
 use native.Mathlib.Omega.{arith}
-use lib.ListN.{length, length-map}
+use lib.ListN.{length}
 use Rattle.pauli.specs.Word.{width}
 use Rattle.model.specs.Lists.{if_then_else_, keep}
 use Rattle.model.specs.Program.{PauliRef, Program}
 use Rattle.model.specs.Rules.{Rules}
 use Rattle.model.specs.Words.{Value, asValue, scaled}
-use Rattle.model.specs.Value.{plainValue, valueAt}
-use Rattle.model.specs.Clifford.{wordImage}
-use Rattle.model.specs.Roots.{isRoot, rootRows}
+use Rattle.model.specs.Value.{valueAt}
+use Rattle.model.specs.Roots.{isRoot}
 use Rattle.model.specs.Packing.{valuesOf, packed, SignedAxis}
 use Rattle.model.specs.Stream.{stream, begin}
 use Rattle.model.specs.Rounds.{Work}
@@ -24,7 +23,7 @@ use Rattle.theory.specs.PlainValue.{plain-value}
 use Rattle.theory.specs.PackedRoots.{In}
 use Rattle.theory.specs.Checked.{Fine, RowIn}
 use Rattle.run_wellformed.specs.Points.{Reached}
-use Rattle.effect.specs.Phase.{Quarter, q0, quarter, count, quarter-count, add4-zero, _⊞₄_}
+use Rattle.effect.specs.Phase.{Quarter, q0, quarter, quarter-count, add4-zero, _⊞₄_}
 use Rattle.effect.specs.Clifford.{Cliff, carryRow}
 use Rattle.effect.specs.Packed.{Packed, packed-ext}
 use Rattle.effect.specs.Packed as PackedWords
@@ -64,7 +63,8 @@ module _ {W : Type 0} (word : List ℕ → W) (p : Program) where
       Later = (fs fs′ : List SignedAxis) → length fs ≡ length (keep (isRoot p) rest) → map (packedRow word ys) fs′ ≡ map g (map (packedRow word xs) fs)
           → workRowsFrom word p ys rest fs′ ≡ map g (workRowsFrom word p xs rest fs)
 
-      go : Later → (b : Bool) → isRoot p r ≡ b → (fs fs′ : List SignedAxis) → length fs ≡ length (if b then r ∷ keep (isRoot p) rest else keep (isRoot p) rest)
+      go : Later → (b : Bool) → isRoot p r ≡ b → (fs fs′ : List SignedAxis)
+          → length fs ≡ length (if b then r ∷ keep (isRoot p) rest else keep (isRoot p) rest)
           → map (packedRow word ys) fs′ ≡ map g (map (packedRow word xs) fs)
           → workRow word p ys b r fs′ ∷ workRowsFrom word p ys rest (axesLeft b fs′)
           ≡ map g (workRow word p xs b r fs ∷ workRowsFrom word p xs rest (axesLeft b fs))
@@ -86,7 +86,8 @@ module _ {W : Type 0} (word : List ℕ → W) (p : Program) where
       Later = (fs : List SignedAxis) → map (packedRow word xs) fs ≡ map (sourceRow word p) (keep (isRoot p) rest)
           → workRowsFrom word p xs rest fs ≡ map (sourceRow word p) rest
 
-      go : Later → (b : Bool) (fs : List SignedAxis) → map (packedRow word xs) fs ≡ map (sourceRow word p) (if b then r ∷ keep (isRoot p) rest else keep (isRoot p) rest)
+      go : Later → (b : Bool) (fs : List SignedAxis)
+          → map (packedRow word xs) fs ≡ map (sourceRow word p) (if b then r ∷ keep (isRoot p) rest else keep (isRoot p) rest)
           → workRow word p xs b r fs ∷ workRowsFrom word p xs rest (axesLeft b fs) ≡ sourceRow word p r ∷ map (sourceRow word p) rest
       go later false fs e = ap (λ (l : List Row). sourceRow word p r ∷ l) (later fs e)
       go later true [] e = let z : _≡_ {A = ℕ} 0 (suc (length (map (sourceRow word p) (keep (isRoot p) rest)))) = ap length e in absurd (omega arith)

@@ -2,20 +2,20 @@
 use mathlib.Core.Path.{_≡_, refl, sym, _∙_, ap, ap₂, subst}
 use mathlib.Core.Bool.{Bool, false}
 use mathlib.Core.List.{List, [], _∷_, map}
-use Prim.Native.Nat.{ℕ, _+_, _≤_, _<_}
+use Prim.Native.Nat.{ℕ, _+_}
 use native.Mathlib.Omega.{arith}
 use lib.ListN.{length}
 use Rattle.pauli.specs.Word.{width}
 use Rattle.pauli.specs.Word.{identity as identityWord}
-use Rattle.model.specs.Program.{PauliRef, Program}
+use Rattle.model.specs.Program.{Program}
 use Rattle.model.specs.Rules.{Rules}
-use Rattle.model.specs.Roots.{isRoot, rootRows}
-use Rattle.model.specs.Packing.{packed, SignedAxis}
-use Rattle.model.specs.Items.{Rot, Item, rotation, barrier}
+use Rattle.model.specs.Roots.{rootRows}
+use Rattle.model.specs.Packing.{packed}
+use Rattle.model.specs.Items.{Item, rotation, barrier}
 use Rattle.model.specs.Rounds.{Work, streamPass, exchangePass, layeringPass}
 use Rattle.model.specs.Run.{startOf}
 use Rattle.theory.specs.Cases.{by-if}
-use Rattle.theory.specs.Every.{Every, every-weaken}
+use Rattle.theory.specs.Every.{Every}
 use Rattle.theory.specs.StreamState.{AllIn}
 use Rattle.theory.specs.Checked.{Fine}
 use Rattle.words_wellformed.specs.PassWords.{WellItem}

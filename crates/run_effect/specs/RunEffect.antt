@@ -1,28 +1,25 @@
 -- The run keeps the effect: the results have the effect of the program that was handed in. Assumes nothing.
-use mathlib.Core.Path.{_≡_, refl, sym, _∙_, ap, ap₂, subst}
+use mathlib.Core.Path.{_≡_, refl, sym, _∙_, ap, ap₂}
 use mathlib.Core.Bool.{Bool, true, false}
 use mathlib.Core.List.{List, [], map}
-use Prim.Native.Nat.{ℕ, _-_, _≤_}
+use Prim.Native.Nat.{ℕ, _-_}
 use native.Mathlib.Omega.{arith}
 use lib.Dec.{eqb}
 use lib.ListN.{length, length-map}
 use borrow.Author.Tests.{eqb-true}
 use Rattle.groups.specs.Abelian.{Ab, pow2}
 use Rattle.pauli.specs.Word.{width}
-use Rattle.model.specs.Lists.{if_then_else_}
-use Rattle.model.specs.Program.{PauliRef, Program}
+use Rattle.model.specs.Program.{Program}
 use Rattle.model.specs.Rules.{Rules}
-use Rattle.model.specs.Packing.{packed, SignedAxis}
+use Rattle.model.specs.Packing.{packed}
 use Rattle.model.specs.Rounds.{Work}
 use Rattle.model.specs.Run.{startOf, endOf}
 use Rattle.model.specs.Results.{operationResults, rowResults}
 use Rattle.theory.specs.Cases.{if-false}
 use Rattle.theory.specs.Checked.{Fine}
-use Rattle.run_wellformed.specs.Points.{Reached, passes-reached}
+use Rattle.run_wellformed.specs.Points.{passes-reached}
 use Rattle.run_wellformed.specs.RunWellFormed.{results-length}
-use Rattle.effect.specs.Phase.{Quarter}
-use Rattle.effect.specs.Effect.{Op, complexSums, effectFrom}
-use Rattle.effect.specs.Packed.{Packed}
+use Rattle.effect.specs.Effect.{complexSums, effectFrom}
 use Rattle.effect.specs.Packed as PackedWords
 use Rattle.packing_effect.specs.Source.{sourceOp, sourceOps, sourceRow}
 use Rattle.stream_effect.specs.PackedAxes.{packedWord}
@@ -30,7 +27,7 @@ use Rattle.result_effect.specs.Definitions.{resultOp, resultOps, resultRows, wo
 use Rattle.result_effect.specs.Records.{end-ops}
 use Rattle.result_effect.specs.Rows.{workRows-kept, end-rows}
 use Rattle.run_effect.specs.Same.{picked, SameEffect, same-less}
-use Rattle.run_effect.specs.Points.{pointOps, pointRows, Keeps, point-keeps}
+use Rattle.run_effect.specs.Points.{pointRows, Keeps, point-keeps}
 
 -- ---- the two effects, as sums with complex coefficients: for a choice o of outcomes and the frame rows with the indices ns, multiplied in order
 

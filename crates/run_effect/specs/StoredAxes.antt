@@ -1,8 +1,8 @@
 -- Stored axes are words as the exchange and the layering ask. Assumes nothing.
-use mathlib.Core.Path.{_≡_, refl, sym, _∙_, ap, ap₂, subst}
+use mathlib.Core.Path.{_≡_, sym, _∙_, ap, ap₂, subst}
 use mathlib.Core.Bool.{true}
 use mathlib.Core.List.{List}
-use Prim.Native.Nat.{ℕ, _*_, _<_}
+use Prim.Native.Nat.{ℕ, _<_}
 use lib.ListN.{length}
 use Rattle.store.specs.Equal.{sameList, same-true, same-refl}
 use Rattle.pauli.specs.Word.{xorWords, phase}

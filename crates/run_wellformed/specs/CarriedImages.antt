@@ -14,7 +14,8 @@ use Rattle.pauli.specs.ProductLaws.{symplectic-xor, symplectic-lt}
 use Rattle.pauli.specs.LetterLaws.{acts-bit}
 use Rattle.model.specs.Lists.{if_then_else_, numbersFrom, isOdd}
 use Rattle.model.specs.Words.{Value, asValue, scaled, multiply, setBits, support}
-use Rattle.model.specs.Clifford.{Images, absorbImage, absorbImages, ownImages, Touched, touch, touchAll, absorbWord, imageOf, letterImage, multiplyImages}
+use Rattle.model.specs.Clifford.{Images, absorbImage, absorbImages, ownImages, Touched, touch, touchAll, absorbWord, imageOf, letterImage}
+use Rattle.model.specs.Clifford.{multiplyImages}
 use Rattle.model.specs.Clifford.{wordImage}
 use Rattle.theory.specs.Cases.{by-if, on-if}
 use Rattle.theory.specs.Every.{Every, every-flatten}

@@ -15,7 +15,8 @@ use Rattle.model.specs.declared.Answer.{Answer}
 use Rattle.model.specs.declared.Answer.the-variants.{Accepted, CountOutside, OptionOutside, SliceShort, NonHermitianAxis, ExpansionLimit}
 use Rattle.model.specs.Lists.{sumOf}
 use Rattle.model.specs.Interface.{accepts}
-use Rattle.model.specs.Program.{Job, operationRecords, rowRecords, Kind, rotate, measure, conditional, Operation, operationOf, PauliRef, rowOf, Program}
+use Rattle.model.specs.Program.{Job, operationRecords, rowRecords, Kind, rotate, measure, conditional, Operation, operationOf, PauliRef, rowOf}
+use Rattle.model.specs.Program.{Program}
 use Rattle.model.specs.Program.{programOf}
 use Rattle.model.specs.Rules.{Rules, rulesOf}
 use Rattle.model.specs.Words.{Value, wordOf, Store}
@@ -24,7 +25,8 @@ use Rattle.model.specs.Packing.{valuesOf, packed, SignedAxis, signedAxis}
 use Rattle.model.specs.Items.{Item, rotation, barrier}
 use Rattle.model.specs.Rounds.{Work}
 use Rattle.model.specs.Run.{itemOf, itemsFrom, startOf, endOf, endAnswer}
-use Rattle.model.specs.Results.{operationAt, barrierRecord, itemRecord, operationResults, keptRow, givenRow, rowRecord, axesLeft, rowResultsFrom, rowResults}
+use Rattle.model.specs.Results.{operationAt, barrierRecord, itemRecord, operationResults, keptRow, givenRow, rowRecord, axesLeft, rowResultsFrom}
+use Rattle.model.specs.Results.{rowResults}
 use Rattle.model.specs.Checking.{Lent, badCount, badOption, wordsAsked, numbersAsked, programShort, lentShort, checkProgram, checking}
 use Rattle.model.specs.Rewriting.{thenZeros, zeros, refused, stopped, accepted, afterEnding, rewriting}
 use Rattle.theory.specs.Cases.{by-if, neither}

@@ -13,7 +13,8 @@ use Rattle.model.specs.Roots.{roots}
 use Rattle.model.specs.Packing.{rootsAt, Pack, useNode, useChildren, takeSlot, packRoot, packRoots, packNode, packFrom, emptyPack, valuesOf, packed}
 use Rattle.model.specs.Packing.{SignedAxis}
 use Rattle.model.specs.Clifford.{Images, absorbImages, imageWords, ownImages, Touched, touch, touchAll, absorbWord}
-use Rattle.model.specs.Stream.{Pass, withLast, countMerge, setAngle, putOut, leaveZero, carryAxis, absorb, putOutRotation, carryRowsFrom, carryRows, begin}
+use Rattle.model.specs.Stream.{Pass, withLast, countMerge, setAngle, putOut, leaveZero, carryAxis, absorb, putOutRotation, carryRowsFrom, carryRows}
+use Rattle.model.specs.Stream.{begin}
 use Rattle.theory.specs.Cases.{by-if}
 use Rattle.run_wellformed.specs.StreamSteps.{KeptBySteps, carryRowsFrom-by, carryRows-by}
 

@@ -22,7 +22,8 @@ use Rattle.model.specs.Stream.{Pass, withLast, countMerge, setAngle, putOut, le
 use Rattle.model.specs.Stream.{carryRows, begin}
 use Rattle.model.specs.Exchange.{swaps}
 use Rattle.model.specs.Layering.{layerSegment}
-use Rattle.model.specs.Rounds.{Work, streamPass, exchangePass, layeringPass, mergeRound, RoundBefore, noRound, roundsFrom, closingStream, mergeRounds, litinskiFrom}
+use Rattle.model.specs.Rounds.{Work, streamPass, exchangePass, layeringPass, mergeRound, RoundBefore, noRound, roundsFrom, closingStream, mergeRounds}
+use Rattle.model.specs.Rounds.{litinskiFrom}
 use Rattle.model.specs.Rounds.{litinskiRounds, passes}
 use Rattle.model.specs.Run.{itemOf, itemsFrom, startOf}
 use Rattle.theory.specs.Cases.{by-if, on-if}
@@ -175,7 +176,8 @@ module _ (l : ℕ) (r : Rules) (merging : Bool) where
       rw (zero-add (length is)) at g
 
   -- and at the end
-  pub stream-formed : (st : Store) (is : List Item) → Every TurnsItem is → StoreFits l st → StreamFormed l (length is) (stream l r merging (begin st) is)
+  pub stream-formed : (st : Store) (is : List Item) → Every TurnsItem is → StoreFits l st
+      → StreamFormed l (length is) (stream l r merging (begin st) is)
   stream-formed st is b h =
       let g = stream-by l (StreamFormed l) (formed-kept l) (λ n p g. g .small) 0 r merging (begin st) is b (begin-formed st h) in
       rw (zero-add (length is)) at g

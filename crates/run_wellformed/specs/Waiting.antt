@@ -17,7 +17,8 @@ use Rattle.model.specs.Words.{Value, wordOf, Store}
 use Rattle.model.specs.Clifford.{absorbWord, wordImage}
 use Rattle.model.specs.Items.{Rot, rot, Item, rotation, barrier, withSign, isClifford}
 use Rattle.model.specs.Stream.{Place, nowhere, at, Pass, withLast, countMerge, setAngle, putOut, setLast, clearedLast, leaveZero, canReach, angleAt}
-use Rattle.model.specs.Stream.{axisImage, imageId, carryAxis, absorb, absorbWaitingAt, absorbWaiting, absorbAllWaiting, absorbBlocking, carryRotation, mergeAt}
+use Rattle.model.specs.Stream.{axisImage, imageId, carryAxis, absorb, absorbWaitingAt, absorbWaiting, absorbAllWaiting, absorbBlocking, carryRotation}
+use Rattle.model.specs.Stream.{mergeAt}
 use Rattle.model.specs.Stream.{putOutRotation, mergeOrPutOut, takeRotation, streamItem, stream, begin}
 use Rattle.theory.specs.Cases.{by-if, on-if}
 use Rattle.theory.specs.Every.{Every, every-one}
@@ -28,7 +29,8 @@ use Rattle.run_wellformed.specs.CliffordAngles.{and-left, and-right, and
 use Rattle.run_wellformed.specs.CarriedImages.{absorbed-image}
 use Rattle.run_wellformed.specs.WaitingItems.{no-zero, Still, zeroed, zeroed-still, Passes, Waits, waits-zero, Yields, Mutual, waits-mutual}
 use Rattle.run_wellformed.specs.WaitingItems.{waits-one, still-waits, waits-grows, yields-grows}
-use Rattle.run_wellformed.specs.WaitingItems.{Live, About, live-about, live-zero, live-turn, live-one, live-new, live-later, waits-turn, all-pass}
+use Rattle.run_wellformed.specs.WaitingItems.{Live, About, live-about, live-zero, live-turn, live-one, live-new, live-later, waits-turn}
+use Rattle.run_wellformed.specs.WaitingItems.{all-pass}
 
 -- ---- the invariant
 

@@ -5,7 +5,8 @@ use mathlib.Core.List.{[], _∷_}
 use Rattle.model.specs.declared.Strategy.the-variants.{Merge, Litinski}
 use Rattle.model.specs.Rules.{off, atOnce, lazy}
 use Rattle.model.specs.Everything.{everything}
-use Rattle.runs.specs.Shown.{I, X, Y, Z, product, rotate, measure, conditional, row, program, rules, rotated, measured-, conditioned, kept, given+}
+use Rattle.runs.specs.Shown.{I, X, Y, Z, product, rotate, measure, conditional, row, program, rules, rotated, measured-, conditioned, kept}
+use Rattle.runs.specs.Shown.{given+}
 use Rattle.runs.specs.Shown.{given-, nonHermitianAt, shows, shown}
 
 -- 01's listing

@@ -1,31 +1,27 @@
 -- The state of a stream follows what it has read: what it put out, then F, has the effect of that. Assumes nothing.
 use mathlib.Core.Path.{_≡_, refl, sym, _∙_, ap, subst}
-use mathlib.Core.Bool.{true}
 use mathlib.Core.List.{List, [], _∷_, _++_, map-append}
-use Prim.Native.Nat.{ℕ, zero, suc, _+_, _*_, _%_, _≤_, _<_}
+use Prim.Native.Nat.{ℕ, zero, _+_, _*_, _%_, _≤_, _<_}
 use native.Mathlib.Omega.{arith}
 use lib.IntN.{pos}
-use lib.ListN.{length, set}
-use lib.Seq.{set-append-seam}
+use lib.ListN.{length}
 use Rattle.groups.specs.Eighth.{eighth}
-use Rattle.pauli.specs.Word.{IsWord}
 use Rattle.model.specs.Program.{Operation}
 use Rattle.model.specs.Words.{Value, wordOf}
-use Rattle.model.specs.Items.{Rot, rot, Item, rotation, barrier, withSign}
+use Rattle.model.specs.Items.{rot, Item, rotation, barrier, withSign}
 use Rattle.model.specs.Results.{operationAt}
 use Rattle.model.specs.Stream.{Pass, axisImage, imageId, absorb, begin}
 use Rattle.theory.specs.Every.{Every}
 use Rattle.theory.specs.Ids.{Grows}
-use Rattle.theory.specs.StreamState.{AllIn, absorb-axes}
+use Rattle.theory.specs.StreamState.{AllIn}
 use Rattle.words_wellformed.specs.HeldImages.{IsSign}
 use Rattle.words_wellformed.specs.StoredWords.{StoredWords}
 use Rattle.run_wellformed.specs.CliffordAngles.{CliffordAngle, two, four, six}
-use Rattle.effect.specs.Phase.{Quarter, q0, count}
-use Rattle.effect.specs.Words.{Words, Setting}
+use Rattle.effect.specs.Phase.{q0, count}
 use Rattle.effect.specs.Effect.{Op, plain}
 use Rattle.effect.specs.Effect as Effect
 use Rattle.effect.specs.Equal.{≈-sym, ≈-trans, ≈-after}
-use Rattle.effect.specs.Clifford.{Cliff, nothing, absorbed, carry, Sim, sim-start, sim-push, sim-replace, sim-move}
+use Rattle.effect.specs.Clifford.{Cliff, nothing, absorbed, carry, Sim, sim-start, sim-replace, sim-move}
 use Rattle.effect.specs.Packed.{Packed, packed}
 use Rattle.effect.specs.Bridge as Bridge
 use Rattle.effect.specs.Bridge.{valueOf, Even, even-angle, Holds, holds-start, holds-absorb, holds-image}

@@ -1,6 +1,6 @@
 -- A rotation that has come merges, is absorbed or is put out: each follows what was read. Assumes nothing.
 use mathlib.Core.Path.{_≡_, refl, sym, _∙_, ap, subst}
-use mathlib.Core.Bool.{Bool, true, false, _&&_}
+use mathlib.Core.Bool.{Bool, true, _&&_}
 use mathlib.Core.List.{List, [], _∷_, _++_}
 use Prim.Native.Nat.{ℕ, zero, suc, _+_, _-_, _%_, _≤_, _<_}
 use native.Mathlib.Omega.{arith}
@@ -11,8 +11,9 @@ use borrow.Author.Tests.{eqb-true}
 use Rattle.model.specs.Program.{Operation}
 use Rattle.model.specs.Lists.{if_then_else_, allOf, isEven}
 use Rattle.model.specs.Rules.{Absorption, isAtOnce, Rules}
-use Rattle.model.specs.Items.{Rot, rot, Item, rotation, isClifford}
-use Rattle.model.specs.Stream.{Place, nowhere, at, Pass, withLast, countMerge, setAngle, leaveZero, putOutRotation, letsPass, canReach, angleAt, absorb, mergeAt}
+use Rattle.model.specs.Items.{rot, Item, rotation, isClifford}
+use Rattle.model.specs.Stream.{Place, nowhere, at, Pass, withLast, countMerge, setAngle, leaveZero, putOutRotation, letsPass, canReach, angleAt}
+use Rattle.model.specs.Stream.{absorb, mergeAt}
 use Rattle.model.specs.Stream.{mergeOrPutOut, takeRotation}
 use Rattle.theory.specs.Cases.{on-if, by-if}
 use Rattle.theory.specs.Every.{Every, every-right}

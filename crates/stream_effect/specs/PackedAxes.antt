@@ -1,11 +1,11 @@
 -- The stored axes as the effect's words: lists of exactly 2 l numbers. Assumes nothing.
-use mathlib.Core.Path.{_≡_, refl, sym, _∙_, ap}
+use mathlib.Core.Path.{_≡_, refl, _∙_, ap}
 use mathlib.Core.Bool.{false}
 use mathlib.Core.List.{List}
 use Prim.Native.Nat.{ℕ, _*_}
 use native.Mathlib.Decide.{ℕ-discrete}
 use lib.ListN.{length}
-use Rattle.pauli.specs.Word.{symplectic, anticommutes}
+use Rattle.pauli.specs.Word.{symplectic}
 use Rattle.pauli.specs.Word.{identity as identityWord}
 use Rattle.pauli.specs.LetterLaws.{identity-length}
 use Rattle.pauli.specs.ProductLaws.{anticommutes-none}
@@ -37,7 +37,8 @@ module _ (l : ℕ) where
   packedWord-own P = packedWord-is (P .0) (P .1)
 
   -- words that commute
-  pub packed-commute : (v w : List ℕ) → length v ≡ 2 * l → length w ≡ 2 * l → symplectic l v w ≡ 0 → odd (phase4 l (packedWord v) (packedWord w)) ≡ false
+  pub packed-commute : (v w : List ℕ) → length v ≡ 2 * l → length w ≡ 2 * l → symplectic l v w ≡ 0
+      → odd (phase4 l (packedWord v) (packedWord w)) ≡ false
   packed-commute v w hv hw e =
       ap (λ (P : Packed l). odd (phase4 l P (packedWord w))) (packedWord-is v hv) ∙ ap (λ (P : Packed l). odd (phase4 l (v, hv) P)) (packedWord-is w hw)
       ∙ odd-anticommutes l (v, hv) (w, hw) ∙ anticommutes-none l v w e

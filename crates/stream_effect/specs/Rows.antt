@@ -1,20 +1,18 @@
 -- "Frame rows are carried if anything was absorbed, else kept": the rows after a stream are the images of the rows before it. Assumes nothing.
-use mathlib.Core.Path.{_≡_, refl, sym, _∙_, ap, ap₂, subst}
-use mathlib.Core.Bool.{Bool, true, false}
+use mathlib.Core.Path.{_≡_, refl, sym, _∙_, ap, ap₂}
 use mathlib.Core.List.{List, [], _∷_, _++_, map, map-append, append-assoc, append-nil}
 use Prim.Native.Nat.{ℕ, _+_, _%_, _<_}
 use native.Mathlib.Nat.{le-trans}
 use lib.Dec.{eqb}
 use lib.ListN.{length}
 use borrow.Author.Tests.{eqb-true}
-use Rattle.model.specs.Lists.{if_then_else_}
 use Rattle.model.specs.Program.{Operation}
 use Rattle.model.specs.Words.{wordOf}
 use Rattle.model.specs.Packing.{SignedAxis}
 use Rattle.model.specs.Stream.{Pass, Rowed, axisImage, imageId, carryAxis, carryRowsFrom, carryRows}
 use Rattle.theory.specs.Cases.{by-if, on-if}
 use Rattle.theory.specs.Every.{Every, every-one}
-use Rattle.theory.specs.Ids.{Grows, grows-refl, grows-trans, intern-grows}
+use Rattle.theory.specs.Ids.{Grows, grows-refl, grows-trans}
 use Rattle.theory.specs.StreamState.{carried-id}
 use Rattle.words_wellformed.specs.HeldImages.{sign-add}
 use Rattle.words_wellformed.specs.PassWords.{WellRow, WellPass, rows-more, axisImage-signed, carryAxis-well}
@@ -132,7 +130,8 @@ module _ (l : ℕ) (operations : List Operation) where
             map-append (packedRow (packedWord l) ys) done (row ∷ [])
             ∙ ap₂ (λ (x : List (Quarter × W)) (y : Quarter × W). x ++ (y ∷ [])) (rowsOf-grows xs ys g done d) (carried-row p F holds w f (h .0 .0))
 
-    carryRowsFrom-images : (p : Pass) (done rest : List SignedAxis) → Holds l (p .held) F → Well p → WellRows (p .store .axes) done → WellRows (p .store .axes) rest
+    carryRowsFrom-images : (p : Pass) (done rest : List SignedAxis) → Holds l (p .held) F → Well p → WellRows (p .store .axes) done
+        → WellRows (p .store .axes) rest
         → rowsOf (carryRowsFrom l p done rest .pass .store .axes) (carryRowsFrom l p done rest .rows)
         ≡ rowsOf (p .store .axes) done ++ images (rowsOf (p .store .axes) rest)
     unfolding carryRowsFrom
@@ -146,7 +145,8 @@ module _ (l : ℕ) (operations : List Operation) where
         held : (p : Pass) (f : SignedAxis) → Holds l (p .held) F → Holds l (carryAxis l p (f .axis) .held) F
         held p f holds = unfold carryAxis in holds
 
-        more : (p : Pass) (done : List SignedAxis) (f : SignedAxis) → Well p → WellRows (p .store .axes) done → WellRow (Unit {0}) (length (p .store .axes)) f
+        more : (p : Pass) (done : List SignedAxis) (f : SignedAxis) → Well p → WellRows (p .store .axes) done
+            → WellRow (Unit {0}) (length (p .store .axes)) f
             → WellRows (carryAxis l p (f .axis) .store .axes) (done ++ (rowAfter (carryAxis l p (f .axis)) f ∷ []))
         more p done f w d h =
             let q = carryAxis l p (f .axis) in

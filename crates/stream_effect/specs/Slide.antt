@@ -7,9 +7,9 @@ use Prim.Native.Nat.{ℕ, _+_, _%_}
 use lib.Dec.{eqb}
 use lib.IntN.{pos, _+ℤ_, pos-+ℤ-pos}
 use borrow.Author.Tests.{eqb-true}
-use Rattle.groups.specs.Eighth.{Eighth, e0, eighth}
+use Rattle.groups.specs.Eighth.{Eighth, eighth}
 use Rattle.model.specs.Lists.{if_then_else_, keep}
-use Rattle.model.specs.Items.{Rot, rot, Item, rotation, barrier, isNonzero, stays, dropZeros}
+use Rattle.model.specs.Items.{Rot, rot, Item, rotation, barrier, isNonzero, dropZeros}
 use Rattle.theory.specs.Cases.{on-if}
 use Rattle.theory.specs.Every.{Every}
 use Rattle.effect.specs.Words.{Words, Setting}

@@ -1,15 +1,15 @@
 -- The output around the place that `last` names, and what a rotation about its axis passes. Assumes nothing.
-use mathlib.Core.Path.{_≡_, refl, sym, _∙_, ap}
-use mathlib.Core.Logic.{_⊎_, inl, inr}
-use mathlib.Core.List.{List, [], _∷_, _++_, map}
-use Prim.Native.Nat.{ℕ, zero, suc, _*_, _<_}
+use mathlib.Core.Path.{_≡_, refl, ap}
+use mathlib.Core.Logic.{inl, inr}
+use mathlib.Core.List.{List, [], _∷_, _++_}
+use Prim.Native.Nat.{ℕ, zero, suc, _<_}
 use native.Mathlib.Omega.{arith}
-use lib.ListN.{length, drop, getD}
+use lib.ListN.{length, drop}
 use Rattle.model.specs.Words.{wordOf}
 use Rattle.model.specs.Items.{Rot, rot, Item, rotation, barrier}
 use Rattle.model.specs.Stream.{angleAt}
 use Rattle.theory.specs.Every.{Every}
-use Rattle.theory.specs.StreamState.{withoutAngle, withoutAngles, outside, axisOf, AllIn, AllRotations, Names}
+use Rattle.theory.specs.StreamState.{withoutAngles, outside, axisOf, AllIn, AllRotations, Names}
 use Rattle.words_wellformed.specs.StoredWords.{StoredWords}
 use Rattle.run_wellformed.specs.WaitingItems.{Passes}
 use Rattle.effect.specs.Effect.{Op}

@@ -1,37 +1,29 @@
 -- Each step of a stream follows what it reads. Assumes nothing.
 use mathlib.Core.Path.{_≡_, refl, sym, _∙_, ap, subst}
-use mathlib.Core.Bool.{Bool, true, false, _&&_, false≢true}
+use mathlib.Core.Bool.{Bool, true, _&&_}
 use mathlib.Core.List.{List, [], _∷_, _++_, append-assoc}
-use Prim.Native.Nat.{ℕ, zero, suc, _+_, _-_, _%_, _≤_, _<_}
-use native.Mathlib.Nat.{le-trans}
+use Prim.Native.Nat.{ℕ, suc, _+_, _-_, _≤_}
 use native.Mathlib.Omega.{arith}
-use lib.Dec.{eqb, leb}
-use lib.ListN.{length, length-append, drop, set}
+use lib.ListN.{length, length-append, set}
 use lib.Seq.{set-append-seam}
-use borrow.Author.Tests.{eqb-true}
 use Rattle.model.specs.Program.{Operation}
-use Rattle.model.specs.Lists.{if_then_else_, allOf, isEven}
-use Rattle.model.specs.Rules.{Absorption, off, atOnce, lazy, isAtOnce, Rules}
-use Rattle.model.specs.Words.{Value, wordOf}
-use Rattle.model.specs.Items.{Rot, rot, Item, rotation, barrier, withSign, isClifford}
-use Rattle.model.specs.Stream.{Place, nowhere, at, Pass, withLast, countMerge, setAngle, putOut, clearedLast, leaveZero, putOutRotation, canReach, angleAt}
-use Rattle.model.specs.Stream.{axisImage, imageId, carryAxis, absorb, absorbWaitingAt, absorbWaiting, absorbAllWaiting, absorbBlocking, carryRotation, mergeAt}
-use Rattle.model.specs.Stream.{mergeOrPutOut, takeRotation}
-use Rattle.theory.specs.Cases.{on-if, by-if}
-use Rattle.theory.specs.Every.{Every, every-left, every-right, every-weaken}
+use Rattle.model.specs.Rules.{Absorption, off, atOnce, lazy}
+use Rattle.model.specs.Items.{rot, Item, rotation, barrier, isClifford}
+use Rattle.model.specs.Stream.{at, Pass, withLast, setAngle, putOut, leaveZero, putOutRotation}
+use Rattle.model.specs.Stream.{carryAxis, absorb, absorbWaitingAt, absorbWaiting, absorbAllWaiting, absorbBlocking, carryRotation}
+use Rattle.theory.specs.Cases.{on-if}
+use Rattle.theory.specs.Every.{Every, every-right}
 use Rattle.theory.specs.Ids.{Grows, intern-grows}
-use Rattle.theory.specs.StreamState.{AllIn, Names, Sound, absorb-axes, carryAxis-kept}
-use Rattle.words_wellformed.specs.StoredWords.{StoredWords}
+use Rattle.theory.specs.StreamState.{AllIn, absorb-axes}
 use Rattle.words_wellformed.specs.PassWords.{WellPut, WellPass, carryAxis-well, absorbWaitingAt-well, absorbBlocking-well}
-use Rattle.run_wellformed.specs.CliffordAngles.{and-left, and-right, SmallItem, clifford-angle, even-angle}
-use Rattle.run_wellformed.specs.WaitingItems.{zeroed, Passes, Waits, About, waits-seam, all-pass}
-use Rattle.run_wellformed.specs.Waiting.{Waiting, at-seam, carryAxis-waiting, absorbWaitingAt-out, absorbWaitingAt-waiting, absorbBlocking-waiting, absorbBlocking-axes}
+use Rattle.run_wellformed.specs.CliffordAngles.{and-left, clifford-angle}
+use Rattle.run_wellformed.specs.WaitingItems.{zeroed, Passes, Waits, waits-seam}
+use Rattle.run_wellformed.specs.Waiting.{Waiting, at-seam, carryAxis-waiting, absorbWaitingAt-out, absorbWaitingAt-waiting}
 use Rattle.effect.specs.Effect.{Op}
-use Rattle.effect.specs.Packed.{Packed, packed}
-use Rattle.stream_effect.specs.Slide.{Lets, zero-end}
-use Rattle.stream_effect.specs.Split.{Split, names-split, passes-lets}
-use Rattle.stream_effect.specs.Follows.{wordAt, barrierAt, opsOf, turnAt, opsOf-append, opsOf-grows, Follows, Streamed, Pending}
-use Rattle.stream_effect.specs.Follows.{follows-replaced, follows-same, follows-absorb, follows-lift, follows-lower, follows-merge}
+use Rattle.effect.specs.Packed.{Packed}
+use Rattle.stream_effect.specs.Split.{passes-lets}
+use Rattle.stream_effect.specs.Follows.{barrierAt, opsOf, turnAt, opsOf-append, opsOf-grows, Follows, Streamed, Pending}
+use Rattle.stream_effect.specs.Follows.{follows-same, follows-absorb, follows-lift}
 
 -- ids of an output in range
 pub put-inside : (m : ℕ) (is : List Item) → Every (WellPut (Unit {0}) m) is → AllIn m is
@@ -56,7 +48,7 @@ module _ (l : ℕ) (operations : List Operation) where
       let g : Grows (p .store .axes) (carryAxis l p a .store .axes) = unfold carryAxis in (intern-grows l _ (p .store) _) in
       let e = opsOf-grows l operations (p .store .axes) (carryAxis l p a .store .axes) g (p .out) (put-inside _ (p .out) (w .output)) in
       let f : opsOf l operations (carryAxis l p a .store .axes) (carryAxis l p a .out) ≡ opsOf l operations (carryAxis l p a .store .axes) (p .out)
-          = unfold carryAxis in refl in
+      = unfold carryAxis in refl in
       subst (λ (Y : List (Op W)). Follows l operations X Y (carryAxis l p a)) (sym (f ∙ e))
       (follows-same l operations X (opsOf l operations (p .store .axes) (p .out)) p (carryAxis l p a) (unfold carryAxis in refl) (unfold carryAxis in refl) h)
 
@@ -96,7 +88,8 @@ module _ (l : ℕ) (operations : List Operation) where
           ∙ ap (opsOf l operations axes) (set-append-seam front (rotation (rot a k)) back (rotation (rot a 0)))))
 
   -- one item of the output
-  absorbWaitingAt-follows : (X : List (Op W)) (picks : ℕ → Bool) (p : Pass) (front : List Item) (i : Item) (is : List Item) → p .out ≡ front ++ (i ∷ is)
+  absorbWaitingAt-follows : (X : List (Op W)) (picks : ℕ → Bool) (p : Pass) (front : List Item) (i : Item) (is : List Item)
+      → p .out ≡ front ++ (i ∷ is)
       → Well p → Waiting l p → S X p → S X (absorbWaitingAt l picks p (length front) i)
   unfolding absorbWaitingAt
   absorbWaitingAt-follows X picks p front (rotation r) is e w wait h =
@@ -143,7 +136,8 @@ module _ (l : ℕ) (operations : List Operation) where
       (subst (λ (n : ℕ). From X (absorbWaitingAt l picks p n i) (front ++ (zeroed picks i ∷ [])) is) e (absorbWaitingAt-from X picks p front i is h))
 
   -- "all are absorbed at a barrier or the end"
-  pub absorbAllWaiting-follows : (X : List (Op W)) (m : Absorption) (p : Pass) → Well p → (m ≡ lazy → Waiting l p) → S X p → S X (absorbAllWaiting l m p)
+  pub absorbAllWaiting-follows : (X : List (Op W)) (m : Absorption) (p : Pass) → Well p → (m ≡ lazy → Waiting l p) → S X p
+      → S X (absorbAllWaiting l m p)
   unfolding absorbAllWaiting
   absorbAllWaiting-follows X off p w wait h = h
   absorbAllWaiting-follows X atOnce p w wait h = h
@@ -161,7 +155,8 @@ module _ (l : ℕ) (operations : List Operation) where
       })
 
   -- "and that rotation is carried again from its original axis"
-  pub carryRotation-follows : (X : List (Op W)) (m : Absorption) (p : Pass) (a : ℕ) → Well p → (m ≡ lazy → Waiting l p) → S X p → S X (carryRotation l m p a)
+  pub carryRotation-follows : (X : List (Op W)) (m : Absorption) (p : Pass) (a : ℕ) → Well p → (m ≡ lazy → Waiting l p) → S X p
+      → S X (carryRotation l m p a)
   unfolding carryRotation
   carryRotation-follows X off p a w wait h = carryAxis-follows X p a w h
   carryRotation-follows X atOnce p a w wait h = carryAxis-follows X p a w h

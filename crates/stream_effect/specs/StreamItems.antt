@@ -1,5 +1,5 @@
 -- A stream follows the items that it reads: what it puts out, then F, has their effect. Assumes nothing.
-use mathlib.Core.Path.{_≡_, refl, sym, _∙_, ap, subst}
+use mathlib.Core.Path.{_≡_, refl, sym, subst}
 use mathlib.Core.Bool.{Bool, true}
 use mathlib.Core.List.{List, [], _∷_, _++_, append-assoc, append-nil}
 use Prim.Native.Nat.{ℕ, _+_, _%_, _≤_, _<_}
@@ -7,24 +7,27 @@ use native.Mathlib.Nat.{le-trans}
 use lib.ListN.{length}
 use Rattle.model.specs.Program.{Operation}
 use Rattle.model.specs.Rules.{Absorption, off, atOnce, lazy, Rules}
-use Rattle.model.specs.Words.{Value, wordOf, Store}
+use Rattle.model.specs.Words.{wordOf, Store}
 use Rattle.model.specs.Items.{Rot, Item, rotation, barrier, withSign}
-use Rattle.model.specs.Stream.{Pass, withLast, putOut, clearedLast, axisImage, imageId, carryAxis, absorbAllWaiting, absorbBlocking, carryRotation, takeRotation}
+use Rattle.model.specs.Stream.{Pass, withLast, putOut, clearedLast, axisImage, imageId, carryAxis, absorbAllWaiting, absorbBlocking, carryRotation}
+use Rattle.model.specs.Stream.{takeRotation}
 use Rattle.model.specs.Stream.{streamItem, stream, begin}
 use Rattle.theory.specs.Every.{Every}
 use Rattle.theory.specs.Ids.{id-word, Grows, grows-refl, grows-trans, grows-eq, intern-grows}
 use Rattle.theory.specs.StreamState.{axisOf, Sound, carryAxis-kept, carried-id, streamItem-stepped, begin-sound}
 use Rattle.words_wellformed.specs.HeldImages.{IsSign}
 use Rattle.words_wellformed.specs.StoredWords.{StoredWords}
-use Rattle.words_wellformed.specs.PassWords.{WellItem, WellPass, items-more, afterItems, stream-after, carryAxis-well, absorbAllWaiting-well, absorbBlocking-well}
+use Rattle.words_wellformed.specs.PassWords.{WellItem, WellPass, items-more, afterItems, stream-after, carryAxis-well, absorbAllWaiting-well}
+use Rattle.words_wellformed.specs.PassWords.{absorbBlocking-well}
 use Rattle.words_wellformed.specs.PassWords.{carryRotation-well, streamItem-well, begin-well}
 use Rattle.run_wellformed.specs.CliffordAngles.{TurnsItem, withSign-turns}
-use Rattle.run_wellformed.specs.Waiting.{Waiting, absorbWaiting-axes, absorbBlocking-axes, carryRotation-waiting, streamItem-waiting, begin-waiting, waiting-sound}
+use Rattle.run_wellformed.specs.Waiting.{Waiting, absorbWaiting-axes, absorbBlocking-axes, carryRotation-waiting, streamItem-waiting, begin-waiting}
+use Rattle.run_wellformed.specs.Waiting.{waiting-sound}
 use Rattle.effect.specs.Effect.{Op}
 use Rattle.effect.specs.Clifford.{carry, Sim, sim-push}
 use Rattle.effect.specs.Packed.{Packed, packed}
 use Rattle.items_effect.specs.Ops.{itemOp}
-use Rattle.stream_effect.specs.Follows.{wordAt, barrierAt, opsOf, turnAt, opsOf-append, opsOf-grows, opOf-grows, Follows, Streamed, Pending, begin-follows}
+use Rattle.stream_effect.specs.Follows.{wordAt, barrierAt, opsOf, turnAt, opsOf-append, opOf-grows, Follows, Streamed, Pending, begin-follows}
 use Rattle.stream_effect.specs.Follows.{follows-same, carried-turn, carried-barrier}
 use Rattle.stream_effect.specs.Steps.{carryAxis-follows, absorbAllWaiting-follows, carryRotation-follows}
 use Rattle.stream_effect.specs.Merges.{takeRotation-follows}
@@ -204,7 +207,8 @@ module _ (l : ℕ) (operations : List Operation) where
         (afterItems-reads (X ++ (op axes i ∷ [])) (streamItem l r merging p i) is (h .1) (streamItem-reads X p i (h .0) k))
 
   -- a whole stream
-  pub stream-follows : (r : Rules) (merging : Bool) (st : Store) (is : List Item) → StoredWords l (st .axes) → Every (WellItem (Unit {0}) (length (st .axes))) is
+  pub stream-follows : (r : Rules) (merging : Bool) (st : Store) (is : List Item) → StoredWords l (st .axes)
+      → Every (WellItem (Unit {0}) (length (st .axes))) is
       → S (opsOf l operations (st .axes) is) (stream l r merging (begin st) is)
   stream-follows r merging st is stored h =
       subst (S (opsOf l operations (st .axes) is)) (sym (stream-after l r merging (begin st) is))

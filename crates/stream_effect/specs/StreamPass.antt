@@ -1,5 +1,5 @@
 -- 01, Stream: a streaming pass keeps the effect up to its factors 2, and carries the frame rows. Assumes nothing.
-use mathlib.Core.Path.{_≡_, refl, sym, _∙_, ap, subst}
+use mathlib.Core.Path.{_≡_, sym, _∙_, ap, subst}
 use mathlib.Core.Bool.{Bool}
 use mathlib.Core.List.{List, [], _∷_, map}
 use Prim.Native.Nat.{ℕ, _<_}
@@ -14,7 +14,7 @@ use Rattle.theory.specs.StreamState.{axisOf, AllIn, stream-stepped, begin-sound
 use Rattle.theory.specs.Every.{Every, every-keep}
 use Rattle.words_wellformed.specs.PassWords.{WellItem, WellPass, rows-more, begin-well, stream-well}
 use Rattle.words_wellformed.specs.RunWords.{WellWork}
-use Rattle.effect.specs.Phase.{Quarter, q0}
+use Rattle.effect.specs.Phase.{q0}
 use Rattle.effect.specs.Effect.{Op}
 use Rattle.effect.specs.Effect as Effect
 use Rattle.effect.specs.Equal.{≈-sym}
@@ -22,7 +22,7 @@ use Rattle.effect.specs.Clifford.{Cliff, Sim, sim-replace, carryRow}
 use Rattle.effect.specs.Packed.{Packed, packed}
 use Rattle.effect.specs.Bridge.{Holds}
 use Rattle.stream_effect.specs.Slide.{dropZeros-effect}
-use Rattle.stream_effect.specs.Follows.{wordAt, barrierAt, opsOf, opsOf-grows, Follows, Streamed}
+use Rattle.stream_effect.specs.Follows.{wordAt, barrierAt, opsOf, opsOf-grows, Streamed}
 use Rattle.stream_effect.specs.Steps.{put-inside}
 use Rattle.stream_effect.specs.StreamItems.{stream-follows}
 use Rattle.stream_effect.specs.Rows.{rowsOf, rowsOf-grows, carryRows-grows, carryRows-images}

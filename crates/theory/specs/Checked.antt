@@ -14,7 +14,8 @@ use Rattle.model.specs.declared.Answer.the-variants.{Accepted, CountOutside, Op
 use Rattle.model.specs.declared.Answer.the-variants.{BadOutcome, NonHermitianAxis, ExpansionLimit, BadText}
 use Rattle.model.specs.Lists.{if_then_else_}
 use Rattle.model.specs.Interface.{accepts}
-use Rattle.model.specs.Program.{fieldOf, Job, nodeRecords, operationRecords, rowRecords, Node, identity, letter, product, nodeOfKind, nodeOf, Operation}
+use Rattle.model.specs.Program.{fieldOf, Job, nodeRecords, operationRecords, rowRecords, Node, identity, letter, product, nodeOfKind, nodeOf}
+use Rattle.model.specs.Program.{Operation}
 use Rattle.model.specs.Program.{operationOf, PauliRef, rowOf, Program, programOf}
 use Rattle.model.specs.Results.{noOperation, operationAt}
 use Rattle.model.specs.Checking.{Lent, andThen, badCount, badOption, checkNodeOfKind, checkNode, checkNodes, badOperation, badReference, measured}

@@ -15,7 +15,8 @@ use Rattle.model.specs.Exchange.{tryExchange, tryExchanges, tryTriple, runEndFr
 use Rattle.model.specs.Rounds.{Work, exchangePass}
 use Rattle.theory.specs.Cases.{by-if}
 use Rattle.theory.specs.Every.{Every, every-append, every-take}
-use Rattle.theory.specs.Measure.{Measure, sizeOf, sizeOfRots, sizeOf-nil, sizeOf-append, sizeOf-rotations, rots-nil, rots-append, rots-one, rots-cons}
+use Rattle.theory.specs.Measure.{Measure, sizeOf, sizeOfRots, sizeOf-nil, sizeOf-append, sizeOf-rotations, rots-nil, rots-append, rots-one}
+use Rattle.theory.specs.Measure.{rots-cons}
 use Rattle.theory.specs.Measure.{rots-keep, rots-reverse}
 
 module _ (m : ℕ → ℕ) (law : Measure m) where
@@ -69,7 +70,8 @@ module _ (m : ℕ → ℕ) (law : Measure m) where
       = getD-no-more _ (mergeBack l axes done r) (r ∷ done) (mergeBack-no-more l axes done r) (omega (arith, rots-cons m r done)) in
       omega (arith, mergeLocally-no-more l axes next rest, rots-cons m r rest)
 
-  improves-no-more : (l : ℕ) (axes : List (List ℕ)) (eager : Bool) (trial old : List Rot) → Below (sizeOfRots m trial) (improves l axes eager trial old)
+  improves-no-more : (l : ℕ) (axes : List (List ℕ)) (eager : Bool) (trial old : List Rot)
+      → Below (sizeOfRots m trial) (improves l axes eager trial old)
   unfolding improves dropZeroRots
   improves-no-more l axes eager trial old =
       by-if (Below (sizeOfRots m trial)) _ _ none

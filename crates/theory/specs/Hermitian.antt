@@ -17,7 +17,8 @@ use Rattle.model.specs.Rules.{rulesOf}
 use Rattle.model.specs.Words.{Value}
 use Rattle.model.specs.Value.{valueAt}
 use Rattle.model.specs.Roots.{isRoot, rootRows, operationRoot, roots}
-use Rattle.model.specs.Packing.{rootsAt, Pack, withRefusal, useNode, useChildren, takeSlot, packRoot, packRoots, packNode, packFrom, emptyPack, valuesOf}
+use Rattle.model.specs.Packing.{rootsAt, Pack, withRefusal, useNode, useChildren, takeSlot, packRoot, packRoots, packNode, packFrom, emptyPack}
+use Rattle.model.specs.Packing.{valuesOf}
 use Rattle.model.specs.Packing.{packed}
 use Rattle.model.specs.Run.{Ending, nonHermitian, finished, Run, endAnswer, answerOf}
 use Rattle.model.specs.Checking.{Lent, checking}
@@ -48,7 +49,8 @@ packRoot-even : (l n : ℕ) (v : Value) (p : Pack) (r : PauliRef) → EvenAt v r
 unfolding packRoot useNode
 packRoot-even l n v p r h = ap (λ (q : Pack). q .refused) (if-false (withRefusal p) _ h)
 
-packRoots-even : (l n : ℕ) (v : Value) (p : Pack) (rs : List PauliRef) → Every (EvenAt v) rs → p .refused ≡ false → packRoots l n v p rs .refused ≡ false
+packRoots-even : (l n : ℕ) (v : Value) (p : Pack) (rs : List PauliRef) → Every (EvenAt v) rs → p .refused ≡ false
+    → packRoots l n v p rs .refused ≡ false
 unfolding packRoots
 packRoots-even l n v p [] h e = e
 packRoots-even l n v p (r ∷ rs) h e =

@@ -7,7 +7,8 @@ use native.Mathlib.Nat.{le-refl, le-trans}
 use native.Mathlib.Omega.{arith}
 use Rattle.model.specs.Lists.{keep, sumOf}
 use Rattle.model.specs.Items.{Rot, rot, isNonzero, dropZeroRots}
-use Rattle.model.specs.Layering.{mergeInto, Layers, Shift, joinLayer, joinLayers, moveRotation, moveRotations, sweepFrom, sweep, dropZeroLayers, sweepsFrom}
+use Rattle.model.specs.Layering.{mergeInto, Layers, Shift, joinLayer, joinLayers, moveRotation, moveRotations, sweepFrom, sweep, dropZeroLayers}
+use Rattle.model.specs.Layering.{sweepsFrom}
 use Rattle.model.specs.Layering.{height, layerSegment}
 use Rattle.model.specs.Rounds.{Work, layeringPass}
 use Rattle.theory.specs.Cases.{by-if}

@@ -23,7 +23,8 @@ use Rattle.model.specs.Rounds.{Work}
 use Rattle.model.specs.Run.{Ending, nonHermitian, finished, Run, endOf, endAnswer, answerOf}
 use Rattle.model.specs.Results.{countersOf}
 use Rattle.model.specs.Checking.{badCount, badOption, checkProgram}
-use Rattle.model.specs.Listing.{linesFrom, fieldsFrom, sliceOf, plainLine, Read, tooMuch, readOf, readBody, readLines, read, textOf, refusalLines, firstLine}
+use Rattle.model.specs.Listing.{linesFrom, fieldsFrom, sliceOf, plainLine, Read, tooMuch, readOf, readBody, readLines, read, textOf, refusalLines}
+use Rattle.model.specs.Listing.{firstLine}
 use Rattle.model.specs.Listing.{endLines, runLines, listingChecks, jobLines, linesOf, listing}
 use Rattle.theory.specs.Cases.{by-if, on-if, if-true, if-false, neither}
 use Rattle.theory.specs.Checked.{accepts-only, not-refused, Fine, program-fine}

@@ -16,7 +16,8 @@ use Rattle.model.specs.Program.{Node, identity, letter, product, Kind, rotate, 
 use Rattle.model.specs.Words.{Value, tested}
 use Rattle.model.specs.Value.{valueAt}
 use Rattle.model.specs.Roots.{rootRows, operationRoot, roots}
-use Rattle.model.specs.Packing.{rootsAt, oneUseMore, oneUseLess, countChildren, countUses, useCounts, Pack, useNode, useChildren, takeSlot, packRoot, packRoots}
+use Rattle.model.specs.Packing.{rootsAt, oneUseMore, oneUseLess, countChildren, countUses, useCounts, Pack, useNode, useChildren, takeSlot, packRoot}
+use Rattle.model.specs.Packing.{packRoots}
 use Rattle.model.specs.Packing.{packNode, packFrom, emptyPack, valuesOf, packed, signedAxis}
 use Rattle.model.specs.Items.{Item}
 use Rattle.model.specs.Run.{itemOf, itemsFrom, startOf}
@@ -104,7 +105,8 @@ packRoots-later l n v p [] k b = refl
 packRoots-later l n v p (r ∷ rs) k b =
     packRoots-later l n v _ rs k b ∙ by-if (λ (q : Pack). getD (q .uses) k 0 ≡ getD (p .uses) k 0) _ _ _ refl (packRoot-later l n v p r k b)
 
-packNode-later : (l : ℕ) (rs : List PauliRef) (vs : List Value) (n : ℕ) (node : Node) (p : Pack) → ChildrenBefore n node → Later n p (packNode l rs vs n node p)
+packNode-later : (l : ℕ) (rs : List PauliRef) (vs : List Value) (n : ℕ) (node : Node) (p : Pack) → ChildrenBefore n node
+    → Later n p (packNode l rs vs n node p)
 unfolding packNode
 packNode-later l rs vs n node p h k b =
     by-if (λ (q : Pack). getD (q .uses) k 0 ≡ getD (p .uses) k 0) _ _ _ refl
@@ -160,7 +162,8 @@ packRoots-grows l n v p (r ∷ rs) =
     grows-trans (by-if (λ (q : Pack). Grows (p .store .axes) (q .store .axes)) (p .refused) p (packRoot l n v p r) (grows-refl _) (packRoot-grows l n v p r))
     (packRoots-grows l n v _ rs)
 
-packRoot-stored : (l n : ℕ) (v : Value) (p : Pack) (r : PauliRef) → packRoot l n v p r .refused ≡ false → Stored (packRoot l n v p r .store .axes) (v .word)
+packRoot-stored : (l n : ℕ) (v : Value) (p : Pack) (r : PauliRef) → packRoot l n v p r .refused ≡ false
+    → Stored (packRoot l n v p r .store .axes) (v .word)
 unfolding packRoot useNode
 packRoot-stored l n v p r =
     on-if (λ (q : Pack). q .refused ≡ false → Stored (q .store .axes) (v .word)) _ _ _ (λ e f. absurd (true≢false f)) (λ e f. id-in l _ (p .store) (v .word))

@@ -16,7 +16,8 @@ use Rattle.model.specs.Items.{Item, rotation, barrier}
 use Rattle.model.specs.Stream.{Place, nowhere, at, Pass, withLast, countMerge, setAngle, putOut, leaveZero, putOutRotation, Rowed, carryAxis, absorb}
 use Rattle.model.specs.Stream.{absorbWaitingAt, absorbWaiting, absorbAllWaiting, absorbBlocking, carryRotation, mergeAt, mergeOrPutOut, takeRotation}
 use Rattle.model.specs.Stream.{streamItem, stream, carryRowsFrom, carryRows, begin}
-use Rattle.model.specs.Rounds.{Work, streamPass, exchangePass, layeringPass, mergeRound, roundsFrom, closingStream, mergeRounds, litinskiFrom, litinskiRounds}
+use Rattle.model.specs.Rounds.{Work, streamPass, exchangePass, layeringPass, mergeRound, roundsFrom, closingStream, mergeRounds, litinskiFrom}
+use Rattle.model.specs.Rounds.{litinskiRounds}
 use Rattle.model.specs.Rounds.{passes}
 use Rattle.model.specs.Run.{startOf, Run, endOf, finishedRun, run}
 use Rattle.theory.specs.Cases.{by-if}

@@ -26,7 +26,8 @@ values-prefix l before (node ∷ rest) i h =
     ∙ List·getD-append before (v ∷ []) (asValue []) i h
 
 -- a node's value asks for its children's only
-nodeValue-same : (l n : ℕ) (f g : ℕ → Value) (node : Node) → ChildrenBefore n node → ((i : ℕ) → i < n → f i ≡ g i) → nodeValue l f node ≡ nodeValue l g node
+nodeValue-same : (l n : ℕ) (f g : ℕ → Value) (node : Node) → ChildrenBefore n node → ((i : ℕ) → i < n → f i ≡ g i)
+    → nodeValue l f node ≡ nodeValue l g node
 unfolding nodeValue
 nodeValue-same l n f g identity b h = refl
 nodeValue-same l n f g (letter q c) b h = refl

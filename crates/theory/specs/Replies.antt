@@ -16,7 +16,8 @@ use Rattle.model.specs.Interface.{numberOf, accepts}
 use Rattle.model.specs.Program.{fieldOf, Job, Program, programOf}
 use Rattle.model.specs.Rules.{Rules, rulesOf}
 use Rattle.model.specs.Run.{Ending, nonHermitian, finished, Run, run, endAnswer, answerOf}
-use Rattle.model.specs.Checking.{Lent, andThen, checkNodeOfKind, checkNode, checkNodes, measured, checkOperation, checkOperations, checkRow, checkRows}
+use Rattle.model.specs.Checking.{Lent, andThen, checkNodeOfKind, checkNode, checkNodes, measured, checkOperation, checkOperations, checkRow}
+use Rattle.model.specs.Checking.{checkRows}
 use Rattle.model.specs.Checking.{checkProgram, checking}
 use Rattle.model.specs.Rewriting.{Reply, refused, stopped, accepted, afterEnding, afterRun, rewriting}
 use Rattle.theory.specs.Cases.{by-if, on-if, if-true, if-false}

@@ -8,7 +8,8 @@ use Rattle.model.specs.Lists.{if_then_else_}
 use Rattle.model.specs.Items.{Rot, Item, rotation, barrier, isNonzero, stays, dropZeroRots, Segment, endSegment, rewriteFrom, rewriteSegments}
 use Rattle.model.specs.Exchange.{mergeBack, mergeLocally, improves, Cut, starts, ends, Triple, withEnds, withStarts, triples, shareAxis, Swap, swapOf}
 use Rattle.model.specs.Exchange.{tryExchange, tryExchanges, tryTriple, runEndFrom, runEnd, Swapping, nextStart, swapStep, swapsFrom, swaps}
-use Rattle.model.specs.Layering.{mergeInto, Layers, Shift, joinLayer, joinLayers, moveRotation, moveRotations, sweepFrom, sweep, dropZeroLayers, sweepsFrom}
+use Rattle.model.specs.Layering.{mergeInto, Layers, Shift, joinLayer, joinLayers, moveRotation, moveRotations, sweepFrom, sweep, dropZeroLayers}
+use Rattle.model.specs.Layering.{sweepsFrom}
 use Rattle.model.specs.Layering.{height, layerSegment}
 use Rattle.theory.specs.Cases.{by-if}
 use Rattle.theory.specs.Every.{Every, every-append, every-take, every-keep, every-reverse, every-flatten}

@@ -7,7 +7,8 @@ use native.Mathlib.Omega.{arith}
 use Rattle.model.specs.Lists.{sumOf}
 use Rattle.model.specs.Rules.{Absorption, off, atOnce, lazy, Rules}
 use Rattle.model.specs.Items.{rot, Item, rotation, barrier, withSign, angleOf, stays, dropZeros}
-use Rattle.model.specs.Stream.{Place, nowhere, at, Pass, withLast, countMerge, setAngle, putOut, clearedLast, leaveZero, putOutRotation, angleAt, axisImage}
+use Rattle.model.specs.Stream.{Place, nowhere, at, Pass, withLast, countMerge, setAngle, putOut, clearedLast, leaveZero, putOutRotation, angleAt}
+use Rattle.model.specs.Stream.{axisImage}
 use Rattle.model.specs.Stream.{imageId, carryAxis, absorb, absorbWaitingAt, absorbWaiting, absorbAllWaiting, absorbBlocking, carryRotation, mergeAt}
 use Rattle.model.specs.Stream.{mergeOrPutOut, takeRotation, streamItem, stream, begin}
 use Rattle.model.specs.Rounds.{Work, streamPass}

@@ -14,8 +14,10 @@ use Rattle.model.specs.Words.{Store, tested}
 use Rattle.model.specs.Packing.{SignedAxis}
 use Rattle.model.specs.Clifford.{Touched, touch, touchAll, absorbWord}
 use Rattle.model.specs.Items.{Rot, rot, Item, rotation, barrier, isNonzero, stays, dropZeros}
-use Rattle.model.specs.Stream.{Place, nowhere, at, Pass, withLast, countMerge, setAngle, putOut, setLast, clearedLast, leaveZero, putOutRotation, Rowed}
-use Rattle.model.specs.Stream.{axisImage, imageId, carryAxis, absorb, absorbWaitingAt, absorbWaiting, absorbAllWaiting, absorbBlocking, carryRotation, mergeAt}
+use Rattle.model.specs.Stream.{Place, nowhere, at, Pass, withLast, countMerge, setAngle, putOut, setLast, clearedLast, leaveZero, putOutRotation}
+use Rattle.model.specs.Stream.{Rowed}
+use Rattle.model.specs.Stream.{axisImage, imageId, carryAxis, absorb, absorbWaitingAt, absorbWaiting, absorbAllWaiting, absorbBlocking, carryRotation}
+use Rattle.model.specs.Stream.{mergeAt}
 use Rattle.model.specs.Stream.{mergeOrPutOut, takeRotation, streamItem, stream, carryRowsFrom, carryRows, begin}
 use Rattle.model.specs.Rounds.{Work, streamPass}
 use Rattle.theory.specs.Cases.{by-if, on-if}
@@ -53,7 +55,8 @@ unfolding withoutAngles
 withoutAngles-cons x xs = refl
 
 -- a place keeps its shape, whatever angle it gets
-withoutAngles-set : (xs : List Item) (j : ℕ) (x : Item) → getD (withoutAngles xs) j outside ≡ withoutAngle x → withoutAngles (set xs j x) ≡ withoutAngles xs
+withoutAngles-set : (xs : List Item) (j : ℕ) (x : Item) → getD (withoutAngles xs) j outside ≡ withoutAngle x
+    → withoutAngles (set xs j x) ≡ withoutAngles xs
 unfolding withoutAngles
 withoutAngles-set [] j x h = refl
 withoutAngles-set (y ∷ ys) zero x h = ap (λ (i : Item). i ∷ map withoutAngle ys) (sym h)
@@ -113,7 +116,8 @@ pub record Sound (p : Pass) : Type 0 where
   pub names : (a j : ℕ) → p .last a ≡ at j → Names (withoutAngles (p .out)) a j
 
 -- the store grows, nothing else
-grown : (p q : Pass) → Sound p → Grows (p .store .axes) (q .store .axes) → withoutAngles (q .out) ≡ withoutAngles (p .out) → q .last ≡ p .last → Sound q
+grown : (p q : Pass) → Sound p → Grows (p .store .axes) (q .store .axes) → withoutAngles (q .out) ≡ withoutAngles (p .out)
+    → q .last ≡ p .last → Sound q
 grown p q s g e f = record {
   ids = rw e (allIn-more _ _ (withoutAngles (p .out)) (g .longer) (s .ids));
   names = λ a j h. rw e (s .names a j (sym (ap (λ (g : ℕ → Place). g a) f) ∙ h));
@@ -333,7 +337,8 @@ module _ (l : ℕ) where
   unfolding countMerge
   countMerge-kept p s = record { sound = grown p (countMerge p) s (grows-refl _) refl refl; shaped = refl; grow = grows-refl _ }
 
-  mergeOrPutOut-stepped : (r : Rules) (p : Pass) (a k : ℕ) (pl : Place) → Sound p → a < length (p .store .axes) → ((j : ℕ) → pl ≡ at j → p .last a ≡ at j)
+  mergeOrPutOut-stepped : (r : Rules) (p : Pass) (a k : ℕ) (pl : Place) → Sound p → a < length (p .store .axes)
+      → ((j : ℕ) → pl ≡ at j → p .last a ≡ at j)
       → Stepped [] p (mergeOrPutOut l r p a k pl)
   unfolding mergeOrPutOut
   mergeOrPutOut-stepped r p a k nowhere s h f = putOutRotation-stepped p a k s h
@@ -352,7 +357,8 @@ module _ (l : ℕ) where
       (λ j. by-if (λ (x : Place). x ≡ at j → p .last a ≡ at j) merging (p .last a) nowhere (λ e. e)
       (λ e. let z : _≡_ {A = ℕ} 0 1 = cc in absurd (omega arith))))
 
-  barrier-stepped : (p : Pass) (o a s : ℕ) → Sound p → a < length (p .store .axes) → Stepped (o ∷ []) p (putOut (barrier o a s) (withLast clearedLast p))
+  barrier-stepped : (p : Pass) (o a s : ℕ) → Sound p → a < length (p .store .axes)
+      → Stepped (o ∷ []) p (putOut (barrier o a s) (withLast clearedLast p))
   unfolding putOut withLast
   barrier-stepped p o a s t h = record {
     sound =

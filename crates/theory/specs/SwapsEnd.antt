@@ -10,7 +10,8 @@ use lib.ListN.{length, length-append}
 use borrow.Author.Tests.{lt-ltb}
 use Rattle.model.specs.Lists.{if_then_else_, allOf, isEmpty}
 use Rattle.model.specs.Items.{Rot}
-use Rattle.model.specs.Exchange.{improves, Cut, starts, ends, Triple, withEnds, withStarts, triples, shareAxis, Swap, swapOf, tryExchange, tryExchanges}
+use Rattle.model.specs.Exchange.{improves, Cut, starts, ends, Triple, withEnds, withStarts, triples, shareAxis, Swap, swapOf, tryExchange}
+use Rattle.model.specs.Exchange.{tryExchanges}
 use Rattle.model.specs.Exchange.{tryTriple, runEndFrom, runEnd, noTriple, Swapping, nextStart, swapStep, swapsFrom}
 use Rattle.theory.specs.Cases.{by-if, if-true, if-false}
 use Rattle.theory.specs.Every.{Every, every-append, every-take}

@@ -135,7 +135,8 @@ module _ (l : ℕ) (axes : List (List ℕ)) where
   sweeps-stopped (suc k) m ls = refl
 
   -- so more sweeps than the height change nothing
-  pub sweeps-enough : (k k′ m : ℕ) (ls : List (List Rot)) → height ls < k → height ls < k′ → sweepsFrom l axes k true m ls ≡ sweepsFrom l axes k′ true m ls
+  pub sweeps-enough : (k k′ m : ℕ) (ls : List (List Rot)) → height ls < k → height ls < k′
+      → sweepsFrom l axes k true m ls ≡ sweepsFrom l axes k′ true m ls
   unfolding sweepsFrom
   sweeps-enough zero k′ m ls h h′ = absurd (omega arith)
   sweeps-enough (suc k) zero m ls h h′ = absurd (omega arith)

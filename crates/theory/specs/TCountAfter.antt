@@ -64,7 +64,8 @@ tCount-barrier o a s is = omega arith
 
 module _ (ops : List Operation) (small : (o : ℕ) → operationAt ops o .angle ≤ 7) where
   -- one barrier more
-  pub barrier-one : (o : ℕ) (os : List ℕ) → barriersOdd ops (o ∷ os) ≡ kindOdd (operationAt ops o .kind) (operationAt ops o .angle) + barriersOdd ops os
+  pub barrier-one : (o : ℕ) (os : List ℕ)
+      → barriersOdd ops (o ∷ os) ≡ kindOdd (operationAt ops o .kind) (operationAt ops o .angle) + barriersOdd ops os
   unfolding barriersOdd sumOf
   barrier-one o os = refl
 

@@ -21,7 +21,8 @@ use Rattle.theory.specs.Every.{Every, every-one, every-set, every-weaken}
 use Rattle.theory.specs.Ids.{intern-grows}
 use Rattle.theory.specs.StreamState.{absorb-axes, carried-id}
 use Rattle.words_wellformed.specs.StoredWords.{StoredWords, intern-stored}
-use Rattle.words_wellformed.specs.HeldImages.{IsSign, sign-add, IsQuarters, SignedWord, HeldImages, none-held, absorbWord-images, wordImage-signed}
+use Rattle.words_wellformed.specs.HeldImages.{IsSign, sign-add, IsQuarters, SignedWord, HeldImages, none-held, absorbWord-images}
+use Rattle.words_wellformed.specs.HeldImages.{wordImage-signed}
 
 -- ---- items and rows, where there are m axes
 

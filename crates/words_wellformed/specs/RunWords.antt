@@ -21,7 +21,8 @@ use Rattle.model.specs.Items.{Rot, Item, rotation, barrier, withSign, isNonzero
 use Rattle.model.specs.Stream.{stream, begin}
 use Rattle.model.specs.Exchange.{swaps}
 use Rattle.model.specs.Layering.{layerSegment}
-use Rattle.model.specs.Rounds.{Work, streamPass, exchangePass, layeringPass, mergeRound, RoundBefore, noRound, roundsFrom, closingStream, mergeRounds, litinskiFrom}
+use Rattle.model.specs.Rounds.{Work, streamPass, exchangePass, layeringPass, mergeRound, RoundBefore, noRound, roundsFrom, closingStream, mergeRounds}
+use Rattle.model.specs.Rounds.{litinskiFrom}
 use Rattle.model.specs.Rounds.{litinskiRounds, passes}
 use Rattle.model.specs.Run.{itemOf, itemsFrom, startOf}
 use Rattle.theory.specs.Cases.{by-if, on-if}
@@ -184,7 +185,8 @@ module _ (l : ℕ) (r : Rules) (Angles : Type 0) (stay : Angles → AnglesStay l
 
   -- ---- rounds
 
-  roundsFrom-well : (k : ℕ) (going : Bool) (before : RoundBefore) (w : Work) → WellWork l Angles w → WellWork l Angles (roundsFrom l r k going before w)
+  roundsFrom-well : (k : ℕ) (going : Bool) (before : RoundBefore) (w : Work) → WellWork l Angles w
+      → WellWork l Angles (roundsFrom l r k going before w)
   unfolding roundsFrom mergeRound
   roundsFrom-well zero going before w h = h
   roundsFrom-well (suc k) false before w h = h
