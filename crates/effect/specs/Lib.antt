@@ -13,6 +13,7 @@ pub mod Single
 pub mod Frame
 pub mod Clifford
 pub mod Packed
+pub mod Examples
 pub mod Support
 pub mod Apart
 pub mod Held

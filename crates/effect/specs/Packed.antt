@@ -1,12 +1,14 @@
 -- The theory's words are the model's packed words of one width l: the lists of exactly 2 l numbers. Assumes nothing.
 use mathlib.Core.Path.{_≡_, refl, sym, _∙_, ap}
-use mathlib.Core.HLevel.{Σ-prop-path, Σ-prop-discrete, hedberg}
-use mathlib.Core.List.{List, [], _∷_, List-discrete}
+use mathlib.Core.HLevel.{Σ-prop-path, hedberg}
+use mathlib.Core.Bool.{Bool, true, false, true≢false}
+use mathlib.Core.List.{List, [], _∷_}
 use Prim.Native.Nat.{ℕ, _+_, _*_, _%_}
 use native.Mathlib.Omega.{arith}
 use native.Mathlib.Decide.{ℕ-discrete}
 use lib.IntN.{pos}
 use lib.ListN.{length, replicate}
+use Rattle.store.specs.Equal.{sameList, same-refl, same-true}
 use Rattle.groups.specs.Abelian.{neg-unique}
 use Rattle.groups.specs.Normaliser.{at, _⊞_, ⊟_, ab}
 use Rattle.groups.specs.Coeff.{Coeff, coeffRoot}
@@ -137,8 +139,13 @@ module _ (l : ℕ) where
     ph-odd = phase4-odd;
   }
 
+  -- words are told apart as the model does it
+  abbrev pub decided : (P Q : Packed l) (b : Bool) → sameList (P .0) (Q .0) ≡ b → Dec (P ≡ Q)
+  decided P Q true e = yes (packed-ext l P Q (same-true (P .0) (Q .0) e))
+  decided P Q false e = no (λ r. true≢false (sym (same-refl (P .0)) ∙ ap (λ (R : Packed l). sameList (P .0) (R .0)) r ∙ e))
+
   unfoldable pub samePacked : (P Q : Packed l) → Dec (P ≡ Q)
-  samePacked = Σ-prop-discrete (λ p. hedberg ℕ-discrete (length p) (2 * l)) (List-discrete ℕ-discrete)
+  samePacked P Q = decided P Q (sameList (P .0) (Q .0)) refl
 
   -- "Coefficients are a + b√2 with whole a, b"
   abbrev pub packed : Setting

@@ -1,9 +1,9 @@
 pub mod Abelian
 pub mod Normaliser
-pub mod Exchange
-pub mod Root
 pub mod Combined
-pub mod Eighth
-pub mod Real
+pub mod Root
 pub mod Coeff
+pub mod Eighth
+pub mod Exchange
+pub mod Real
 pub mod Rules

@@ -4,7 +4,8 @@ use mathlib.Core.List.{List, [], _∷_}
 use Prim.Native.Nat.{zero, suc}
 use lib.IntN.{ℤ, pos, negsuc, predℤ, negℤ, _+ℤ_, sucℤ-+ℤ, predℤ-+ℤ, +ℤ-idl}
 use lib.ListN.{length}
-use Rattle.groups.specs.Abelian.{Ab, nsm, zsm, zsm-of-add, neg-neg, neg-zer, neg-of-add, swap-mid, IsAdd, map-zer, map-neg, map-zsm, dbl, pow2}
+use Rattle.groups.specs.Abelian.{Ab, nsm, zsm, zsm-of-add, zer-add, neg-neg, neg-zer, neg-of-add, swap-mid, IsAdd, map-zer, map-neg, map-zsm}
+use Rattle.groups.specs.Abelian.{dbl, pow2}
 use Rattle.groups.specs.Normaliser.{NoTorsion, halve, cancel2}
 use Rattle.groups.specs.Exchange.{Turns, Rot}
 use Rattle.groups.specs.Exchange as X
@@ -67,7 +68,13 @@ module _ (M : Ab) (Mr : Root M) where
       → _≡_ {A = C × C}
       (value M Mr (z .0 ∷ z .1 ∷ []) (turnᵉ reᵉ s e), value M Mr (z .0 ∷ z .1 ∷ []) (turnᵉ imᵉ s e))
       (value M Mr (z .0 ∷ z .1 ∷ []) (twiceᵉ reᵉ t), value M Mr (z .0 ∷ z .1 ∷ []) (twiceᵉ imᵉ t))
-  by-parts s e t z h k = λ i. (lin M Mr (z .0 ∷ z .1 ∷ []) (turnᵉ reᵉ s e) (twiceᵉ reᵉ t) h i, lin M Mr (z .0 ∷ z .1 ∷ []) (turnᵉ imᵉ s e) (twiceᵉ imᵉ t) k i)
+  by-parts s e t z h k = λ i. (real i, imaginary i)
+    where
+      real : value M Mr (z .0 ∷ z .1 ∷ []) (turnᵉ reᵉ s e) ≡ value M Mr (z .0 ∷ z .1 ∷ []) (twiceᵉ reᵉ t)
+      real = lin M Mr (z .0 ∷ z .1 ∷ []) (turnᵉ reᵉ s e) (twiceᵉ reᵉ t) h
+
+      imaginary : value M Mr (z .0 ∷ z .1 ∷ []) (turnᵉ imᵉ s e) ≡ value M Mr (z .0 ∷ z .1 ∷ []) (twiceᵉ imᵉ t)
+      imaginary = lin M Mr (z .0 ∷ z .1 ∷ []) (turnᵉ imᵉ s e) (twiceᵉ imᵉ t) k
 
   turn-next : (e : Eighth) (z : C × C) → turn e1 (turn e z) ≡ dbl (M ×ᵃ M) (turn (next e) z)
   turn-next e0 z = by-parts e1 e0 e1 z refl refl
@@ -140,7 +147,9 @@ module _ (M : Ab) (Mr : Root M) where
   lift-turn f F e z = λ i. (left i, right i)
     where
       left : f (cos2 e (z .0) ⊹ neg (sin2 e (z .1))) ≡ cos2 e (f (z .0)) ⊹ neg (sin2 e (f (z .1)))
-      left = F .0 (cos2 e (z .0)) (neg (sin2 e (z .1))) ∙ ap₂ _⊹_ (map-cos2 f F e (z .0)) (map-neg M f (F .0) (sin2 e (z .1)) ∙ ap neg (map-cos2 f F (prev (prev e)) (z .1)))
+      left =
+          F .0 (cos2 e (z .0)) (neg (sin2 e (z .1)))
+          ∙ ap₂ _⊹_ (map-cos2 f F e (z .0)) (map-neg M f (F .0) (sin2 e (z .1)) ∙ ap neg (map-cos2 f F (prev (prev e)) (z .1)))
 
       right : f (sin2 e (z .0) ⊹ cos2 e (z .1)) ≡ sin2 e (f (z .0)) ⊹ cos2 e (f (z .1))
       right = F .0 (sin2 e (z .0)) (cos2 e (z .1)) ∙ ap₂ _⊹_ (map-cos2 f F (prev (prev e)) (z .0)) (map-cos2 f F e (z .1))
@@ -149,10 +158,14 @@ module _ (M : Ab) (Mr : Root M) where
   turn-add e z w = λ i. (left i, right i)
     where
       left : cos2 e (z .0 ⊹ w .0) ⊹ neg (sin2 e (z .1 ⊹ w .1)) ≡ (cos2 e (z .0) ⊹ neg (sin2 e (z .1))) ⊹ (cos2 e (w .0) ⊹ neg (sin2 e (w .1)))
-      left = ap₂ _⊹_ (cos2-add e (z .0) (w .0)) (ap neg (cos2-add (prev (prev e)) (z .1) (w .1)) ∙ neg-of-add M (sin2 e (z .1)) (sin2 e (w .1))) ∙ swap-mid M (cos2 e (z .0)) (cos2 e (w .0)) (neg (sin2 e (z .1))) (neg (sin2 e (w .1)))
+      left =
+          ap₂ _⊹_ (cos2-add e (z .0) (w .0)) (ap neg (cos2-add (prev (prev e)) (z .1) (w .1)) ∙ neg-of-add M (sin2 e (z .1)) (sin2 e (w .1)))
+          ∙ swap-mid M (cos2 e (z .0)) (cos2 e (w .0)) (neg (sin2 e (z .1))) (neg (sin2 e (w .1)))
 
       right : sin2 e (z .0 ⊹ w .0) ⊹ cos2 e (z .1 ⊹ w .1) ≡ (sin2 e (z .0) ⊹ cos2 e (z .1)) ⊹ (sin2 e (w .0) ⊹ cos2 e (w .1))
-      right = ap₂ _⊹_ (cos2-add (prev (prev e)) (z .0) (w .0)) (cos2-add e (z .1) (w .1)) ∙ swap-mid M (sin2 e (z .0)) (sin2 e (w .0)) (cos2 e (z .1)) (cos2 e (w .1))
+      right =
+          ap₂ _⊹_ (cos2-add (prev (prev e)) (z .0) (w .0)) (cos2-add e (z .1) (w .1))
+          ∙ swap-mid M (sin2 e (z .0)) (sin2 e (w .0)) (cos2 e (z .1)) (cos2 e (w .1))
 
   pub pair-torsion : NoTorsion (M ×ᵃ M)
   pair-torsion n x h = λ i. (torsion n (x .0) (ap (λ t. t .0) e) i, torsion n (x .1) (ap (λ t. t .1) e) i)
@@ -161,19 +174,32 @@ module _ (M : Ab) (Mr : Root M) where
       e = sym (nsm-pair M M (suc n) x) ∙ h
 
   pub turn-zero : (z : C × C) → turn e0 z ≡ dbl (M ×ᵃ M) z
-  turn-zero z = λ i. (lin M Mr (z .0 ∷ z .1 ∷ []) (cosᵉ e0 (at 0) ⊞ ⊟ (sinᵉ e0 (at 1))) (at 0 ⊞ at 0) refl i, lin M Mr (z .0 ∷ z .1 ∷ []) (sinᵉ e0 (at 0) ⊞ cosᵉ e0 (at 1)) (at 1 ⊞ at 1) refl i)
+  turn-zero z = λ i. (real i, zer-add M (z .1 ⊹ z .1) i)
+    where
+      real : (z .0 ⊹ z .0) ⊹ neg zer ≡ z .0 ⊹ z .0
+      real = ap (λ t. (z .0 ⊹ z .0) ⊹ t) (neg-zer M) ∙ add-zer (z .0 ⊹ z .0)
 
   turn-up : (e g : Eighth) (w z : C × C) → turn e w ≡ dbl (M ×ᵃ M) (turn g z) → turn (next e) w ≡ dbl (M ×ᵃ M) (turn (next g) z)
-  turn-up e g w z h = halve (M ×ᵃ M) pair-torsion (turn (next e) w) (dbl (M ×ᵃ M) (turn (next g) z)) (sym (turn-next e w) ∙ ap (turn e1) h ∙ turn-add e1 (turn g z) (turn g z) ∙ ap (dbl (M ×ᵃ M)) (turn-next g z))
+  turn-up e g w z h =
+      halve (M ×ᵃ M) pair-torsion (turn (next e) w) (dbl (M ×ᵃ M) (turn (next g) z))
+      (sym (turn-next e w) ∙ ap (turn e1) h ∙ turn-add e1 (turn g z) (turn g z) ∙ ap (dbl (M ×ᵃ M)) (turn-next g z))
 
   turn-down : (e g : Eighth) (w z : C × C) → turn e w ≡ dbl (M ×ᵃ M) (turn g z) → turn (prev e) w ≡ dbl (M ×ᵃ M) (turn (prev g) z)
-  turn-down e g w z h = halve (M ×ᵃ M) pair-torsion (turn (prev e) w) (dbl (M ×ᵃ M) (turn (prev g) z)) (sym (turn-prev e w) ∙ ap (turn e7) h ∙ turn-add e7 (turn g z) (turn g z) ∙ ap (dbl (M ×ᵃ M)) (turn-prev g z))
+  turn-down e g w z h =
+      halve (M ×ᵃ M) pair-torsion (turn (prev e) w) (dbl (M ×ᵃ M) (turn (prev g) z))
+      (sym (turn-prev e w) ∙ ap (turn e7) h ∙ turn-add e7 (turn g z) (turn g z) ∙ ap (dbl (M ×ᵃ M)) (turn-prev g z))
 
   pub turn-mul : (a b : ℤ) (z : C × C) → turn (eighth a) (turn (eighth b) z) ≡ dbl (M ×ᵃ M) (turn (eighth (a +ℤ b)) z)
   turn-mul (pos zero) b z = turn-zero (turn (eighth b) z) ∙ ap (λ t. dbl (M ×ᵃ M) (turn (eighth t) z)) (sym (+ℤ-idl b))
-  turn-mul (pos (suc n)) b z = turn-up (eighth (pos n)) (eighth (pos n +ℤ b)) (turn (eighth b) z) z (turn-mul (pos n) b z) ∙ ap (λ t. dbl (M ×ᵃ M) (turn t z)) (sym (ap eighth (sucℤ-+ℤ (pos n) b) ∙ eighth-suc (pos n +ℤ b)))
-  turn-mul (negsuc zero) b z = turn-prev (eighth b) z ∙ ap (λ t. dbl (M ×ᵃ M) (turn t z)) (sym (ap eighth (predℤ-+ℤ (pos 0) b ∙ ap predℤ (+ℤ-idl b)) ∙ eighth-pred b))
-  turn-mul (negsuc (suc n)) b z = turn-down (eighth (negsuc n)) (eighth (negsuc n +ℤ b)) (turn (eighth b) z) z (turn-mul (negsuc n) b z) ∙ ap (λ t. dbl (M ×ᵃ M) (turn t z)) (sym (ap eighth (predℤ-+ℤ (negsuc n) b) ∙ eighth-pred (negsuc n +ℤ b)))
+  turn-mul (pos (suc n)) b z =
+      turn-up (eighth (pos n)) (eighth (pos n +ℤ b)) (turn (eighth b) z) z (turn-mul (pos n) b z)
+      ∙ ap (λ t. dbl (M ×ᵃ M) (turn t z)) (sym (ap eighth (sucℤ-+ℤ (pos n) b) ∙ eighth-suc (pos n +ℤ b)))
+  turn-mul (negsuc zero) b z =
+      turn-prev (eighth b) z
+      ∙ ap (λ t. dbl (M ×ᵃ M) (turn t z)) (sym (ap eighth (predℤ-+ℤ (pos 0) b ∙ ap predℤ (+ℤ-idl b)) ∙ eighth-pred b))
+  turn-mul (negsuc (suc n)) b z =
+      turn-down (eighth (negsuc n)) (eighth (negsuc n +ℤ b)) (turn (eighth b) z) z (turn-mul (negsuc n) b z)
+      ∙ ap (λ t. dbl (M ×ᵃ M) (turn t z)) (sym (ap eighth (predℤ-+ℤ (negsuc n) b) ∙ eighth-pred (negsuc n +ℤ b)))
 
   abbrev pub turns : Turns (M ×ᵃ M)
   turns = record { c = λ m. turn (eighth m); c-add = λ m. turn-add (eighth m); c-zero = turn-zero; c-mul = turn-mul; torsion = pair-torsion }
@@ -190,7 +216,10 @@ module _ (M : Ab) (Mr : Root M) where
     pub cube : (x : C) → J (J (J x)) ≡ neg (J x)
 
   pub sum-real : (f g : C → C) → IsReal f → IsReal g → IsReal (λ x. f x ⊹ g x)
-  sum-real f g F G = (λ x y. ap₂ _⊹_ (F .0 x y) (G .0 x y) ∙ swap-mid M (f x) (f y) (g x) (g y), λ x. ap₂ _⊹_ (F .1 x) (G .1 x) ∙ sym (r-add (f x) (g x)))
+  sum-real f g F G = (
+    λ x y. ap₂ _⊹_ (F .0 x y) (G .0 x y) ∙ swap-mid M (f x) (f y) (g x) (g y),
+    λ x. ap₂ _⊹_ (F .1 x) (G .1 x) ∙ sym (r-add (f x) (g x)),
+  )
 
   pub neg-real : IsReal neg
   neg-real = (neg-of-add M, λ x. sym (map-neg M r r-add x))
@@ -247,17 +276,31 @@ module _ (M : Ab) (Mr : Root M) where
     D-turn : (e : Eighth) (z : C × C) → Dᶜ (turn e z) ≡ turn e (Dᶜ z)
     D-turn e z = λ i. (left i, right i)
       where
+        back : neg (sin2 e (neg (J (z .0)))) ≡ sin2 e (J (z .0))
+        back = ap neg (map-neg M (sin2 e) (cos2-add (prev (prev e))) (J (z .0))) ∙ neg-neg M (sin2 e (J (z .0)))
+
         left : J (sin2 e (z .0) ⊹ cos2 e (z .1)) ≡ cos2 e (J (z .1)) ⊹ neg (sin2 e (neg (J (z .0))))
         left = real .0 (sin2 e (z .0)) (cos2 e (z .1)) ∙ add-comm (J (sin2 e (z .0))) (J (cos2 e (z .1)))
-            ∙ ap₂ _⊹_ (map-cos2 J real e (z .1)) (map-cos2 J real (prev (prev e)) (z .0) ∙ sym (ap neg (map-neg M (sin2 e) (cos2-add (prev (prev e))) (J (z .0))) ∙ neg-neg M (sin2 e (J (z .0)))))
+            ∙ ap₂ _⊹_ (map-cos2 J real e (z .1)) (map-cos2 J real (prev (prev e)) (z .0) ∙ sym back)
+
+        through : J (cos2 e (z .0) ⊹ neg (sin2 e (z .1))) ≡ cos2 e (J (z .0)) ⊹ neg (sin2 e (J (z .1)))
+        through =
+            real .0 (cos2 e (z .0)) (neg (sin2 e (z .1)))
+            ∙ ap₂ _⊹_ (map-cos2 J real e (z .0)) (J-neg (sin2 e (z .1)) ∙ ap neg (map-cos2 J real (prev (prev e)) (z .1)))
 
         right : neg (J (cos2 e (z .0) ⊹ neg (sin2 e (z .1)))) ≡ sin2 e (J (z .1)) ⊹ cos2 e (neg (J (z .0)))
-        right = ap neg (real .0 (cos2 e (z .0)) (neg (sin2 e (z .1))) ∙ ap₂ _⊹_ (map-cos2 J real e (z .0)) (J-neg (sin2 e (z .1)) ∙ ap neg (map-cos2 J real (prev (prev e)) (z .1))))
-            ∙ lin M Mr (cos2 e (J (z .0)) ∷ sin2 e (J (z .1)) ∷ []) (⊟ (at 0 ⊞ ⊟ at 1)) (at 1 ⊞ ⊟ at 0) refl
+        right =
+            ap neg through ∙ lin M Mr (cos2 e (J (z .0)) ∷ sin2 e (J (z .1)) ∷ []) (⊟ (at 0 ⊞ ⊟ at 1)) (at 1 ⊞ ⊟ at 0) refl
             ∙ ap (λ t. sin2 e (J (z .1)) ⊹ t) (sym (map-neg M (cos2 e) (cos2-add e) (J (z .0))))
 
     still : (z : C × C) → Dᶜ z ≡ (zer, zer) → lift (rot (eighth k) J) z ≡ dbl (M ×ᵃ M) z
-    still z h = λ i. (rot-still (eighth k) J real (z .0) (sym (neg-neg M (J (z .0))) ∙ ap neg (ap (λ t. t .1) h) ∙ neg-zer M) i, rot-still (eighth k) J real (z .1) (ap (λ t. t .0) h) i)
+    still z h = λ i. (rot-still (eighth k) J real (z .0) none i, rot-still (eighth k) J real (z .1) (ap (λ t. t .0) h) i)
+      where
+        none : J (z .0) ≡ zer
+        none = sym (neg-neg M (J (z .0))) ∙ ap neg (ap (λ t. t .1) h) ∙ neg-zer M
+
+    sin-neg : (x : C) → sin2 (eighth k) (neg x) ≡ neg (sin2 (eighth k) x)
+    sin-neg x = map-neg M (sin2 (eighth k)) (cos2-add (prev (prev (eighth k)))) x
 
     forth : (z : C × C) → Dᶜ z ≡ z → lift (rot (eighth k) J) z ≡ turn (eighth k) z
     forth z h = λ i. (left i, right i)
@@ -269,7 +312,9 @@ module _ (M : Ab) (Mr : Root M) where
         j1 = ap (λ t. t .0) h
 
         left : rot (eighth k) J (z .0) ≡ cos2 (eighth k) (z .0) ⊹ neg (sin2 (eighth k) (z .1))
-        left = rot-plane (eighth k) J (z .0) (neg (z .1)) j0 (J-neg (z .1) ∙ ap neg j1) ∙ add-comm (sin2 (eighth k) (neg (z .1))) (cos2 (eighth k) (z .0)) ∙ ap (λ t. cos2 (eighth k) (z .0) ⊹ t) (map-neg M (sin2 (eighth k)) (cos2-add (prev (prev (eighth k)))) (z .1))
+        left =
+            rot-plane (eighth k) J (z .0) (neg (z .1)) j0 (J-neg (z .1) ∙ ap neg j1)
+            ∙ add-comm (sin2 (eighth k) (neg (z .1))) (cos2 (eighth k) (z .0)) ∙ ap (λ t. cos2 (eighth k) (z .0) ⊹ t) (sin-neg (z .1))
 
         right : rot (eighth k) J (z .1) ≡ sin2 (eighth k) (z .0) ⊹ cos2 (eighth k) (z .1)
         right = rot-plane (eighth k) J (z .1) (z .0) j1 j0
@@ -284,10 +329,14 @@ module _ (M : Ab) (Mr : Root M) where
         j1 = ap (λ t. t .0) h
 
         left : rot (eighth k) J (z .0) ≡ cos2 (flip (eighth k)) (z .0) ⊹ neg (sin2 (flip (eighth k)) (z .1))
-        left = rot-plane (eighth k) J (z .0) (z .1) j0 j1 ∙ add-comm (sin2 (eighth k) (z .1)) (cos2 (eighth k) (z .0)) ∙ sym (ap₂ _⊹_ (cos2-flip (eighth k) (z .0)) (ap neg (sin2-flip (eighth k) (z .1)) ∙ neg-neg M (sin2 (eighth k) (z .1))))
+        left =
+            rot-plane (eighth k) J (z .0) (z .1) j0 j1 ∙ add-comm (sin2 (eighth k) (z .1)) (cos2 (eighth k) (z .0))
+            ∙ sym (ap₂ _⊹_ (cos2-flip (eighth k) (z .0)) (ap neg (sin2-flip (eighth k) (z .1)) ∙ neg-neg M (sin2 (eighth k) (z .1))))
 
         right : rot (eighth k) J (z .1) ≡ sin2 (flip (eighth k)) (z .0) ⊹ cos2 (flip (eighth k)) (z .1)
-        right = rot-plane (eighth k) J (z .1) (neg (z .0)) j1 (J-neg (z .0) ∙ ap neg j0) ∙ sym (ap₂ _⊹_ (sin2-flip (eighth k) (z .0) ∙ sym (map-neg M (sin2 (eighth k)) (cos2-add (prev (prev (eighth k)))) (z .0))) (cos2-flip (eighth k) (z .1)))
+        right =
+            rot-plane (eighth k) J (z .1) (neg (z .0)) j1 (J-neg (z .0) ∙ ap neg j0)
+            ∙ sym (ap₂ _⊹_ (sin2-flip (eighth k) (z .0) ∙ sym (sin-neg (z .0))) (cos2-flip (eighth k) (z .1)))
 
     rotᶜ : Rot (M ×ᵃ M) turns
     rotᶜ = record {
@@ -321,7 +370,9 @@ module _ (M : Ab) (Mr : Root M) where
   pub total-real : (A : List Gen) → IsReal (total A)
   unfolding total
   total-real [] = (λ x y. sym (add-zer zer), λ x. sym (map-zer M r r-add))
-  total-real (g ∷ A) = sum-real (λ x. zsm M (g .k) (g .J x)) (total A) (comp-real (zsm M (g .k)) (g .J) (zsm-of-add M (g .k), λ x. sym (map-zsm M r r-add (g .k) x)) (g .real)) (total-real A)
+  total-real (g ∷ A) =
+      let times : IsReal (zsm M (g .k)) = (zsm-of-add M (g .k), λ x. sym (map-zsm M r r-add (g .k) x)) in
+      sum-real (λ x. zsm M (g .k) (g .J x)) (total A) (comp-real (zsm M (g .k)) (g .J) times (g .real)) (total-real A)
 
   pub rots-real : (A : List Gen) → IsReal (rots A)
   unfolding rots
@@ -340,8 +391,17 @@ module _ (M : Ab) (Mr : Root M) where
   arms-N : (A : List Gen) (z : C × C) → X.N (M ×ᵃ M) turns (armsᶜ A) z ≡ (total A (z .1), neg (total A (z .0)))
   unfolding armsᶜ total X.N rotᶜ
   arms-N [] z = λ i. (zer, sym (neg-zer M) i)
-  arms-N (g ∷ A) z = ap₂ ((M ×ᵃ M) .add) (zsm-pair M M (g .k) (Dᶜ g z)) (arms-N A z)
-      ∙ (λ i. (zsm M (g .k) (g .J (z .1)) ⊹ total A (z .1), (ap (λ t. t ⊹ neg (total A (z .0))) (map-neg M (zsm M (g .k)) (zsm-of-add M (g .k)) (g .J (z .0))) ∙ sym (neg-of-add M (zsm M (g .k) (g .J (z .0))) (total A (z .0)))) i))
+  arms-N (g ∷ A) z =
+      ap₂ ((M ×ᵃ M) .add) (zsm-pair M M (g .k) (Dᶜ g z)) (arms-N A z)
+      ∙ (λ i. (zsm M (g .k) (g .J (z .1)) ⊹ total A (z .1), second i))
+    where
+      term : C
+      term = zsm M (g .k) (g .J (z .0))
+
+      second : zsm M (g .k) (neg (g .J (z .0))) ⊹ neg (total A (z .0)) ≡ neg (term ⊹ total A (z .0))
+      second =
+          ap (λ t. t ⊹ neg (total A (z .0))) (map-neg M (zsm M (g .k)) (zsm-of-add M (g .k)) (g .J (z .0)))
+          ∙ sym (neg-of-add M term (total A (z .0)))
 
   arms-ρs : (A : List Gen) (z : C × C) → X.ρs (M ×ᵃ M) turns (armsᶜ A) z ≡ lift (rots A) z
   unfolding armsᶜ rots X.ρs rotᶜ
@@ -351,23 +411,52 @@ module _ (M : Ab) (Mr : Root M) where
   arms-good : (A : List Gen) → Commuting A → X.Good (M ×ᵃ M) turns (armsᶜ A)
   unfolding armsᶜ rotᶜ
   arms-good [] G = tt
-  arms-good (g ∷ A) G = (λ z. ap (Dᶜ g) (arms-N A z) ∙ (λ i. ((J-neg g (total A (z .0)) ∙ ap neg (G .0 (z .0))) i, neg (G .0 (z .1) i))) ∙ sym (arms-N A (Dᶜ g z) ∙ (λ i. (map-neg M (total A) (total-real A .0) (g .J (z .0)) i, neg (total A (g .J (z .1)))))), arms-good A (G .1))
+  arms-good (g ∷ A) G = (commutes, arms-good A (G .1))
+    where
+      through : (z : C × C) → Dᶜ g (total A (z .1), neg (total A (z .0))) ≡ (neg (total A (g .J (z .0))), neg (total A (g .J (z .1))))
+      through z = λ i. ((J-neg g (total A (z .0)) ∙ ap neg (G .0 (z .0))) i, neg (G .0 (z .1) i))
 
-  -- a real map that carries the sum of A to that of B carries the rotations of A to those of B
+      after : (z : C × C) → X.N (M ×ᵃ M) turns (armsᶜ A) (Dᶜ g z) ≡ (neg (total A (g .J (z .0))), neg (total A (g .J (z .1))))
+      after z =
+          arms-N A (Dᶜ g z) ∙ (λ i. (map-neg M (total A) (total-real A .0) (g .J (z .0)) i, neg (total A (g .J (z .1)))))
+
+      commutes : (z : C × C) → Dᶜ g (X.N (M ×ᵃ M) turns (armsᶜ A) z) ≡ X.N (M ×ᵃ M) turns (armsᶜ A) (Dᶜ g z)
+      commutes z = ap (Dᶜ g) (arms-N A z) ∙ through z ∙ sym (after z)
+
+  -- ---- a real map that carries the sum of A to that of B carries the rotations of A to those of B
+
   pub intertwine : (A B : List Gen) → Commuting A → Commuting B → (f : C → C) → IsReal f → ((x : C) → f (total A x) ≡ total B (f x))
       → (x : C) → pow2 M (length B) (f (rots A x)) ≡ pow2 M (length A) (rots B (f x))
-  intertwine A B GA GB f F h x = ap (λ t. t .0)
-      (sym (ap₂ (λ n t. pow2 (M ×ᵃ M) n (lift f t)) (arms-length B) (arms-ρs A (x, x)) ∙ pow2-pair M M (length B) (f (rots A x), f (rots A x)))
-      ∙ X.intertwine (M ×ᵃ M) turns (armsᶜ A) (armsᶜ B) (arms-good A GA) (arms-good B GB) (lift f)
-      (λ z w i. (F .0 (z .0) (w .0) i, F .0 (z .1) (w .1) i))
-      (λ m. lift-turn f F (eighth m))
-      (λ z. ap (lift f) (arms-N A z) ∙ (λ i. (h (z .1) i, (map-neg M f (F .0) (total A (z .0)) ∙ ap neg (h (z .0))) i)) ∙ sym (arms-N B (lift f z)))
-      (x, x)
-      ∙ ap₂ (λ n t. pow2 (M ×ᵃ M) n t) (arms-length A) (arms-ρs B (f x, f x)) ∙ pow2-pair M M (length A) (rots B (f x), rots B (f x)))
-
-  pub exchange : (A B : List Gen) → Commuting A → Commuting B → ((x : C) → total A (total B x) ≡ total B (total A x)) → (x : C)
-      → rots A (rots B x) ≡ rots B (rots A x)
-  exchange A B GA GB h x = cancel2 M torsion (length A) (rots A (rots B x)) (rots B (rots A x)) (sym (intertwine A A GA GA (rots B) (rots-real B) swap x))
+  intertwine A B GA GB f F h x = ap (λ t. t .0) (sym left ∙ complex ∙ right)
     where
-      swap : (x : C) → rots B (total A x) ≡ total A (rots B x)
-      swap x = sym (cancel2 M torsion (length B) (total A (rots B x)) (rots B (total A x)) (intertwine B B GB GB (total A) (total-real A) h x))
+      carried : (z : C × C) → lift f (X.N (M ×ᵃ M) turns (armsᶜ A) z) ≡ X.N (M ×ᵃ M) turns (armsᶜ B) (lift f z)
+      carried z =
+          ap (lift f) (arms-N A z) ∙ (λ i. (h (z .1) i, (map-neg M f (F .0) (total A (z .0)) ∙ ap neg (h (z .0))) i))
+          ∙ sym (arms-N B (lift f z))
+
+      complex : pow2 (M ×ᵃ M) (length (armsᶜ B)) (lift f (X.ρs (M ×ᵃ M) turns (armsᶜ A) (x, x)))
+          ≡ pow2 (M ×ᵃ M) (length (armsᶜ A)) (X.ρs (M ×ᵃ M) turns (armsᶜ B) (lift f (x, x)))
+      complex =
+          X.intertwine (M ×ᵃ M) turns (armsᶜ A) (armsᶜ B) (arms-good A GA) (arms-good B GB) (lift f)
+          (λ z w i. (F .0 (z .0) (w .0) i, F .0 (z .1) (w .1) i)) (λ m. lift-turn f F (eighth m)) carried (x, x)
+
+      left : pow2 (M ×ᵃ M) (length (armsᶜ B)) (lift f (X.ρs (M ×ᵃ M) turns (armsᶜ A) (x, x)))
+          ≡ (pow2 M (length B) (f (rots A x)), pow2 M (length B) (f (rots A x)))
+      left =
+          ap₂ (λ n t. pow2 (M ×ᵃ M) n (lift f t)) (arms-length B) (arms-ρs A (x, x))
+          ∙ pow2-pair M M (length B) (f (rots A x), f (rots A x))
+
+      right : pow2 (M ×ᵃ M) (length (armsᶜ A)) (X.ρs (M ×ᵃ M) turns (armsᶜ B) (f x, f x))
+          ≡ (pow2 M (length A) (rots B (f x)), pow2 M (length A) (rots B (f x)))
+      right =
+          ap₂ (λ n t. pow2 (M ×ᵃ M) n t) (arms-length A) (arms-ρs B (f x, f x))
+          ∙ pow2-pair M M (length A) (rots B (f x), rots B (f x))
+
+  pub exchange : (A B : List Gen) → Commuting A → Commuting B → ((x : C) → total A (total B x) ≡ total B (total A x))
+      → (x : C) → rots A (rots B x) ≡ rots B (rots A x)
+  exchange A B GA GB h x =
+      cancel2 M torsion (length A) (rots A (rots B x)) (rots B (rots A x))
+      (sym (intertwine A A GA GA (rots B) (rots-real B) (λ y. sym (half y)) x))
+    where
+      half : (y : C) → total A (rots B y) ≡ rots B (total A y)
+      half y = cancel2 M torsion (length B) (total A (rots B y)) (rots B (total A y)) (intertwine B B GB GB (total A) (total-real A) h y)

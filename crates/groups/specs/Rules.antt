@@ -81,7 +81,8 @@ module _ (M : Ab) (Mr : Root M) where
     -- a a p - 2 a p a + p a a = -p
     square : (x : C) → (a (a (p x)) ⊹ p (a (a x))) ⊹ p x ≡ dbl M (a (p (a x)))
     square x =
-        lin M Mr (aap ∷ apa ∷ paa ∷ p x ∷ []) ((at 0 ⊞ at 2) ⊞ at 3) ((((at 0 ⊞ ⊟ at 1) ⊞ ⊟ (at 1 ⊞ ⊟ at 2)) ⊞ at 3) ⊞ (at 1 ⊞ at 1)) refl
+        lin M Mr (aap ∷ apa ∷ paa ∷ p x ∷ [])
+        ((at 0 ⊞ at 2) ⊞ at 3) ((((at 0 ⊞ ⊟ at 1) ⊞ ⊟ (at 1 ⊞ ⊟ at 2)) ⊞ at 3) ⊞ (at 1 ⊞ at 1)) refl
         ∙ ap (λ t. (t ⊹ p x) ⊹ dbl M apa) flat
         ∙ lin M Mr (apa ∷ p x ∷ []) ((⊟ at 1 ⊞ at 1) ⊞ (at 0 ⊞ at 0)) (at 0 ⊞ at 0) refl
       where
@@ -162,9 +163,11 @@ module _ (M : Ab) (Mr : Root M) where
     quarter x =
         lin M Mr (p x ∷ a (p x) ∷ a (a (p x)) ∷ p (a (a x)) ∷ p (a x) ∷ [])
         (((at 0 ⊞ at 2) ⊞ (at 0 ⊞ at 2)) ⊞ ⊟ ∅ ⊞ (at 1 ⊞ at 1))
-        (((at 2 ⊞ at 3 ⊞ at 0) ⊞ (at 2 ⊞ at 3 ⊞ at 0)) ⊞ ((at 1 ⊞ ⊟ at 4 ⊞ at 4) ⊞ (at 1 ⊞ ⊟ at 4 ⊞ at 4)) ⊞ (⊟ at 3 ⊞ ⊟ at 3)) refl
+        (((at 2 ⊞ at 3 ⊞ at 0) ⊞ (at 2 ⊞ at 3 ⊞ at 0)) ⊞ ((at 1 ⊞ ⊟ at 4 ⊞ at 4) ⊞ (at 1 ⊞ ⊟ at 4 ⊞ at 4))
+        ⊞ (⊟ at 3 ⊞ ⊟ at 3)) refl
         ∙ ap (λ t. (dbl M t ⊹ dbl M ((a (p x) ⊹ neg (p (a x))) ⊹ p (a x))) ⊹ dbl M (neg (p (a (a x))))) (sum-none x)
         ∙ ap₂ (λ s t. (dbl M zer ⊹ dbl M s) ⊹ dbl M t) (ap₂ _⊹_ (pq x) (sym (q-twice x))) (sym (q-once x))
         ∙ lin M Mr (q x ∷ q (a x) ∷ q (a (a x)) ∷ [])
-        (((∅ ⊞ ∅) ⊞ ((at 0 ⊞ at 2) ⊞ (at 0 ⊞ at 2))) ⊞ (at 1 ⊞ at 1)) ((((at 0 ⊞ at 2) ⊞ (at 0 ⊞ at 2)) ⊞ ⊟ ∅) ⊞ (at 1 ⊞ at 1)) refl
+        (((∅ ⊞ ∅) ⊞ ((at 0 ⊞ at 2) ⊞ (at 0 ⊞ at 2))) ⊞ (at 1 ⊞ at 1))
+        ((((at 0 ⊞ at 2) ⊞ (at 0 ⊞ at 2)) ⊞ ⊟ ∅) ⊞ (at 1 ⊞ at 1)) refl
         ∙ sym (q-rot x)
