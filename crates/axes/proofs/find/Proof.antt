@@ -1,0 +1,61 @@
+-- The loop's invariant: none of the first id axes is w. Assumes nothing.
+use Prim.Native.Nat.{_≤_, _-_}
+use Rattle.model.specs.Words.{idOf}
+use Rattle.axes.specs.View.{axesOf, axis-in}
+use Rattle.axes.specs.Find.{id-here, id-next, id-none}
+use native.Mathlib.Omega.{arith}
+use borrow.Author.Needs.{needs}
+use Rattle.axes.proofs.find.Statement.{statement}
+use Rattle.axes.proofs.find.Tie as tie
+
+abbrev Inv-loop : tie.InvT-loop
+Inv-loop words w count l id₀ id = (id ≤ count) × (id ≤ idOf (axesOf l count words) w)
+
+abbrev μ-loop : tie.MeasureT-loop
+μ-loop words w count l id₀ id = count - id
+
+loop-holds : tie.Need-loop-holds Inv-loop μ-loop
+loop-holds c = omega arith
+
+axis-requires : tie.Need-axis-requires Inv-loop μ-loop
+axis-requires c κs = let s = c .before .before .before .before in omega (arith, axis-in (s .args .l) _ _ (c .loop-test .taken))
+
+same-requires : tie.Need-same-requires Inv-loop μ-loop
+same-requires c κs = search needs
+
+returns : tie.Need-returns Inv-loop μ-loop
+returns c =
+    let turn = c .before .before .before in
+    id-here _ _ _ _ _ (turn .before .loop .inv .1) (turn .loop-test .taken)
+    (c .before .same .ensures) (c .if1 .taken) (c .before .before .axis .ensures _ (turn .loop-test .taken))
+
+add-id : tie.Need-add-id Inv-loop μ-loop
+add-id c = omega arith
+
+loop-less : tie.Need-loop-less Inv-loop μ-loop
+loop-less c = omega arith
+
+loop-again : tie.Need-loop-again Inv-loop μ-loop
+loop-again c =
+    let turn = c .before .before .before in
+    let more = id-next _ _ _ _ _ (turn .before .loop .inv .1) (turn .loop-test .taken)
+    (c .before .same .ensures) (c .if1 .left) (c .before .before .axis .ensures _ (turn .loop-test .taken)) in
+    (omega arith, more)
+
+returns-2 : tie.Need-returns-2 Inv-loop μ-loop
+returns-2 c = id-none _ _ _ _ (omega arith)
+
+pub find-spec : {M : Type 1} → statement M
+find-spec =
+    tie.close
+    (tie.spec
+    Inv-loop
+    μ-loop
+    loop-holds
+    axis-requires
+    same-requires
+    returns
+    add-id
+    loop-less
+    loop-again
+    returns-2)

@@ -1,0 +1,69 @@
+-- Three cases: the word is stored, the limit refuses it, or it is laid behind the axes. Assumes nothing.
+use mathlib.Core.Logic.{inr}
+use Rattle.axes.specs.Intern.{stores-old, stores-full, stores-new}
+use native.Mathlib.Omega.{arith}
+use borrow.Author.Needs.{needs}
+use Rattle.axes.proofs.intern.Statement.{statement}
+use Rattle.axes.proofs.intern.Tie as tie
+
+word-at-requires : tie.Need-word-at-requires
+word-at-requires c κs = search needs
+
+find-requires : tie.Need-find-requires
+find-requires c κs = search needs
+
+same-length : tie.Need-same-length
+same-length c = search needs
+
+returns : tie.Need-returns
+returns c = let f = c .before in stores-old _ _ _ _ _ _ _ (f .find .ensures) (f .before .word-at .ensures) (c .if1 .taken)
+
+mul-n : tie.Need-mul-n
+mul-n c = search needs
+
+mul-end : tie.Need-mul-end
+mul-end c = search needs
+
+add-if2 : tie.Need-add-if2
+add-if2 c = search needs
+
+add-if2-2 : tie.Need-add-if2-2
+add-if2-2 c = search needs
+
+same-length-2 : tie.Need-same-length-2
+same-length-2 c = search needs
+
+returns-2 : tie.Need-returns-2
+returns-2 c =
+    let f = c .before .before in
+    stores-full _ _ _ _ _ _ _ (f .find .ensures) (f .before .word-at .ensures) (c .before .if1 .left) (c .if2 .taken)
+
+copy-within-requires : tie.Need-copy-within-requires
+copy-within-requires c κs = record { source = omega arith; target = omega arith; apart = inr (omega arith) }
+
+same-length-3 : tie.Need-same-length-3
+same-length-3 c = search needs
+
+returns-3 : tie.Need-returns-3
+returns-3 c =
+    let f = c .before .before .before .before .before .before in
+    stores-new _ _ _ _ _ _ _ (f .find .ensures) (f .before .word-at .ensures) _ (omega arith) (omega arith)
+    (c .before .before .copy-within .ensures)
+
+pub intern-spec : {M : Type 1} → statement M
+intern-spec =
+    tie.close
+    (tie.spec
+    word-at-requires
+    find-requires
+    same-length
+    returns
+    mul-n
+    mul-end
+    add-if2
+    add-if2-2
+    same-length-2
+    returns-2
+    copy-within-requires
+    same-length-3
+    returns-3)

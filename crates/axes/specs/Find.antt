@@ -1,0 +1,42 @@
+-- A scan for a word's id: "no axis so far is w" is the number fact `a ≤ idOf axes w`. Assumes nothing.
+use mathlib.Core.Path.{_≡_, ap, _∙_}
+use mathlib.Core.Bool.{Bool, true, false}
+use mathlib.Core.List.{List, [], _∷_}
+use mathlib.Core.Logic.{⊎-elim}
+use Prim.Native.Nat.{ℕ, zero, suc, _+_, _≤_, _<_}
+use native.Mathlib.Nat.{le-refl, eq-or-lt-of-le}
+use native.Mathlib.Omega.{arith}
+use lib.ListN.{length}
+use Rattle.store.specs.Equal.{sameList, same-refl, said-same, said-other}
+use Rattle.model.specs.Words.{idOf, wordOf}
+use Rattle.theory.specs.Cases.{by-if, if-true}
+use Rattle.theory.specs.Ids.{id-le, id-word}
+use Rattle.axes.specs.View.{axesOf, axes-length}
+
+id-first : (axes : List (List ℕ)) (w : List ℕ) (a : ℕ) → a < length axes → wordOf axes a ≡ w → idOf axes w ≤ a
+unfolding idOf
+id-first [] w a h e = absurd (omega arith)
+id-first (x ∷ axes) w zero h e = let f : sameList x w ≡ true = rw e (same-refl w) in rw (if-true 0 (suc (idOf axes w)) f) (le-refl _)
+id-first (x ∷ axes) w (suc a) h e = by-if (λ (n : ℕ). n ≤ suc a) _ _ _ (omega arith) (omega (arith, id-first axes w a (omega arith) e))
+
+module _ (l n : ℕ) (s w : List ℕ) where
+  -- p, which is axis a, was compared with w: it is w
+  pub id-here : (a : ℕ) {r : Bool} {p : List ℕ} → a ≤ idOf (axesOf l n s) w → a < n
+      → r ≡ sameList p w → r ≡ true → p ≡ wordOf (axesOf l n s) a → a ≡ idOf (axesOf l n s) w
+  id-here a h k f t e =
+      let g : idOf (axesOf l n s) w ≤ a = id-first (axesOf l n s) w a (omega (arith, axes-length l n s)) (said-same f t e) in
+      omega arith
+
+  -- it is another word
+  pub id-next : (a : ℕ) {r : Bool} {p : List ℕ} → a ≤ idOf (axesOf l n s) w → a < n
+      → r ≡ sameList p w → r ≡ false → p ≡ wordOf (axesOf l n s) a → a + 1 ≤ idOf (axesOf l n s) w
+  id-next a h k f t e =
+      ⊎-elim
+      (λ (q : a ≡ idOf (axesOf l n s) w).
+      absurd (said-other f t e (ap (wordOf (axesOf l n s)) q ∙ id-word (axesOf l n s) w (omega (arith, axes-length l n s)))))
+      (λ (b : a < idOf (axesOf l n s) w). omega arith)
+      (eq-or-lt-of-le h)
+
+  -- no axis is w
+  pub id-none : n ≤ idOf (axesOf l n s) w → n ≡ idOf (axesOf l n s) w
+  id-none h = omega (arith, id-le (axesOf l n s) w, axes-length l n s)

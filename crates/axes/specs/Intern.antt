@@ -1,0 +1,138 @@
+-- What storing a word answers and leaves, by the model's `intern`. Assumes nothing.
+use mathlib.Core.Path.{_≡_, refl, sym, ap, _∙_}
+use mathlib.Core.List.{List, [], _∷_, _++_}
+use Prim.Native.Nat.{ℕ, _+_, _*_, _≤_, _<_, max}
+use native.Mathlib.Omega.{arith}
+use lib.Dec.{ltb, eqb}
+use lib.ListN.{length}
+use borrow.Author.Tests.{lt-ltb, le-ltb, eq-eqb, ne-eqb}
+use Rattle.store.specs.Part.{put}
+use Rattle.model.specs.Lists.{if_then_else_}
+use Rattle.model.specs.Words.{idOf, Store, intern}
+use Rattle.theory.specs.Cases.{if-true, if-false}
+use Rattle.axes.specs.View.{axesOf, wordAt, axes-length}
+use Rattle.axes.specs.declared.Interned.{Interned}
+use Rattle.axes.specs.declared.Interned.the-variants.{Id, Full}
+
+-- the words that are counted when one is stored behind n axes
+abbrev pub sumWith : ℕ → ℕ → ℕ → ℕ
+sumWith l others n = n * (2 * l) + 2 * l + others
+
+-- what storing demands: the word stands behind the limit, or among the other words that are counted, which end at the limit
+pub record InternPre (l others limit n : ℕ) (s : List ℕ) (at : ℕ) : Type 0 where
+  pub stored : n * (2 * l) ≤ limit
+  pub counted : others ≤ limit
+  pub inside : limit ≤ length s
+  pub word-in : at + 2 * l ≤ length s
+  pub behind : limit ≤ at + others
+
+-- the model's store before its first test
+abbrev pub untested : List (List ℕ) → Store
+untested axes = record { axes = axes; peak = 0 }
+
+-- refused where the sum that `intern` tests exceeds the limit
+unfoldable pub answerOf : ℕ → ℕ → ℕ → List (List ℕ) → List ℕ → Interned
+answerOf l others limit axes w = if ltb limit (intern l others (untested axes) w .peak) then Full else Id (idOf axes w)
+
+-- the word store by the answer: a new word is laid behind the n axes
+unfoldable pub laidBy : Interned → ℕ → ℕ → List ℕ → List ℕ → List ℕ
+laidBy (Id id) l n s w = if ltb id n then s else put s (n * (2 * l)) w
+laidBy Full l n s w = s
+
+pub record Stores (l others limit n : ℕ) (s : List ℕ) (at : ℕ) (r : Interned) (t : List ℕ) : Type 0 where
+  pub answer : r ≡ answerOf l others limit (axesOf l n s) (wordAt l s at)
+  pub words : t ≡ laidBy r l n s (wordAt l s at)
+
+-- ---- the model's `intern`, case by case
+
+pub intern-old : (l others : ℕ) (st : Store) (w : List ℕ) → idOf (st .axes) w < length (st .axes) → intern l others st w ≡ st
+unfolding intern
+intern-old l others st w h = if-true _ _ (lt-ltb _ _ h)
+
+pub intern-new : (l others : ℕ) (st : Store) (w : List ℕ) → length (st .axes) ≤ idOf (st .axes) w
+    → intern l others st w ≡ record { axes = st .axes ++ (w ∷ []); peak = max (st .peak) (sumWith l others (length (st .axes))) }
+unfolding intern
+intern-new l others st w h = if-false _ _ (le-ltb _ _ h)
+
+zero-max : (k : ℕ) → max 0 k ≡ k
+zero-max k = omega arith
+
+-- ---- the answer and the word store, case by case
+
+module _ (l others limit n : ℕ) (s w : List ℕ) where
+  -- the sum that is tested: none where the word is stored
+  tested-old : idOf (axesOf l n s) w < n → intern l others (untested (axesOf l n s)) w .peak ≡ 0
+  tested-old h = ap (λ (x : Store). x .peak) (intern-old l others (untested (axesOf l n s)) w (omega (arith, axes-length l n s)))
+
+  tested-new : n ≤ idOf (axesOf l n s) w → intern l others (untested (axesOf l n s)) w .peak ≡ sumWith l others n
+  tested-new h =
+      let e = ap (λ (x : Store). x .peak) (intern-new l others (untested (axesOf l n s)) w (omega (arith, axes-length l n s))) in
+      e ∙ ap (λ (k : ℕ). max 0 (sumWith l others k)) (axes-length l n s) ∙ zero-max (sumWith l others n)
+
+  answer-id : intern l others (untested (axesOf l n s)) w .peak ≤ limit
+      → Id (idOf (axesOf l n s) w) ≡ answerOf l others limit (axesOf l n s) w
+  unfolding answerOf
+  answer-id h = sym (if-false _ _ (le-ltb limit (intern l others (untested (axesOf l n s)) w .peak) h))
+
+  answer-full : limit < intern l others (untested (axesOf l n s)) w .peak → Full ≡ answerOf l others limit (axesOf l n s) w
+  unfolding answerOf
+  answer-full h = sym (if-true _ _ (lt-ltb limit (intern l others (untested (axesOf l n s)) w .peak) h))
+
+  pub laid-old : (id : ℕ) → id < n → laidBy (Id id) l n s w ≡ s
+  unfolding laidBy
+  laid-old id h = if-true _ _ (lt-ltb _ _ h)
+
+  pub laid-new : (id : ℕ) → n ≤ id → laidBy (Id id) l n s w ≡ put s (n * (2 * l)) w
+  unfolding laidBy
+  laid-new id h = if-false _ _ (le-ltb _ _ h)
+
+-- ---- what the code answers, from the id that it found of the word that it read
+
+module _ (l others limit n : ℕ) (s : List ℕ) (at id : ℕ) {p : List ℕ} (found : id ≡ idOf (axesOf l n s) p) (read : p ≡ wordAt l s at) where
+  id-of : id ≡ idOf (axesOf l n s) (wordAt l s at)
+  id-of = found ∙ ap (idOf (axesOf l n s)) read
+
+  pub stores-old : id < n → Stores l others limit n s at (Id id) s
+  stores-old h = record {
+    answer =
+        ap Id id-of
+        ∙ answer-id l others limit n s _ (omega (arith, tested-old l others limit n s (wordAt l s at) (omega (arith, id-of))));
+    words = sym (laid-old l others limit n s _ id h);
+  }
+
+  pub stores-full : n ≤ id → limit < sumWith l others n → Stores l others limit n s at Full s
+  unfolding laidBy
+  stores-full h k = record {
+    answer = answer-full l others limit n s _ (omega (arith, tested-new l others limit n s (wordAt l s at) (omega (arith, id-of))));
+    words = refl;
+  }
+
+  pub stores-new : (t : List ℕ) → n ≤ id → sumWith l others n ≤ limit → t ≡ put s (n * (2 * l)) (wordAt l s at)
+      → Stores l others limit n s at (Id id) t
+  stores-new t h k e = record {
+    answer =
+        ap Id id-of
+        ∙ answer-id l others limit n s _ (omega (arith, tested-new l others limit n s (wordAt l s at) (omega (arith, id-of))));
+    words = e ∙ sym (laid-new l others limit n s _ id h);
+  }
+
+-- there is one answer
+pub stores-one : {l others limit n : ℕ} {s : List ℕ} {at : ℕ} {r q : Interned} {t u : List ℕ} → Stores l others limit n s at r t
+    → Stores l others limit n s at q u → (r ≡ q) × (t ≡ u)
+stores-one {l} {others} {limit} {n} {s} {at} a b =
+    let e = a .answer ∙ sym (b .answer) in
+    (e, a .words ∙ ap (λ (x : Interned). laidBy x l n s (wordAt l s at)) e ∙ sym (b .words))
+
+-- ---- the count
+
+-- how many axes there are once id is among them
+unfoldable pub countWith : ℕ → ℕ → ℕ
+countWith n id = if eqb id n then n + 1 else n
+
+pub count-new : (n id : ℕ) → id ≡ n → n + 1 ≡ countWith n id
+unfolding countWith
+count-new n id e = sym (if-true _ _ (eq-eqb id n e))
+
+pub count-old : (n id : ℕ) → (id ≡ n → ⊥) → n ≡ countWith n id
+unfolding countWith
+count-old n id e = sym (if-false _ _ (ne-eqb id n e))

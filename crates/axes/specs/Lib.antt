@@ -1,0 +1,4 @@
+pub mod View
+pub mod Find
+pub mod Intern
+pub mod Stored

@@ -1,0 +1,129 @@
+-- What an answer of `intern` means for the model's store `st`, whose axes the word store holds. Assumes nothing.
+use mathlib.Core.Path.{_≡_, refl, sym, ap, _∙_, subst}
+use mathlib.Core.Bool.{Bool, true, false, true≢false}
+use mathlib.Core.List.{List, [], _∷_, _++_}
+use mathlib.Core.Logic.{inl}
+use Prim.Native.Nat.{ℕ, _+_, _*_, _≤_, _<_}
+use native.Mathlib.Nat.{suc-mul}
+use native.Mathlib.Numerals.{add-one}
+use native.Mathlib.Decide.{decLt}
+use native.Mathlib.Omega.{arith}
+use lib.ListN.{length}
+use Rattle.store.specs.Part.{part, put, part-length, put-length, part-put-apart}
+use Rattle.model.specs.Words.{idOf, Store, intern}
+use Rattle.theory.specs.Ids.{id-le}
+use Rattle.axes.specs.View.{axesOf, wordAt, axes-length, axes-put}
+use Rattle.axes.specs.Intern.{sumWith, InternPre, Stores, intern-old, intern-new, stores-old, stores-full, stores-new, stores-one}
+use Rattle.axes.specs.Intern.{countWith, count-new, count-old}
+use Rattle.axes.specs.declared.Interned.{Interned}
+use Rattle.axes.specs.declared.Interned.the-variants.{Id, Full}
+
+-- what a word's id means to the caller: the axes in memory are the model's, no tested sum exceeds the limit,
+-- and the words that are counted, and those behind the limit, are as they were
+pub record Accepted (l others limit n : ℕ) (s : List ℕ) (st : Store) (w : List ℕ) (id : ℕ) (t : List ℕ) : Type 0 where
+  pub id-is : id ≡ idOf (st .axes) w
+  pub axes-are : axesOf l (countWith n id) t ≡ intern l others st w .axes
+  pub fits : intern l others st w .peak ≤ limit
+  pub stored : countWith n id * (2 * l) ≤ limit
+  pub long : length t ≡ length s
+  pub rest : (b m : ℕ) → limit ≤ b + others → b + m ≤ length s → part t b m ≡ part s b m
+
+-- what a refusal means
+pub record Refused (l others limit : ℕ) (s : List ℕ) (st : Store) (w : List ℕ) (t : List ℕ) : Type 0 where
+  pub exceeds : limit < intern l others st w .peak
+  pub kept : t ≡ s
+
+-- the answer's id, and whether there is none
+unfoldable idIn : Interned → ℕ
+idIn (Id id) = id
+idIn Full = 0
+
+unfoldable isFull : Interned → Bool
+isFull (Id id) = false
+isFull Full = true
+
+same-id : {a b : ℕ} → Id a ≡ Id b → a ≡ b
+unfolding idIn
+same-id e = ap idIn e
+
+no-id : {a : ℕ} → Full ≡ Id a → ⊥
+unfolding isFull
+no-id e = true≢false (ap isFull e)
+
+one-more : (l n : ℕ) → (n + 1) * (2 * l) ≡ n * (2 * l) + 2 * l
+one-more l n = rw (add-one n) (omega (arith, suc-mul n (2 * l)))
+
+module _ (l others limit n : ℕ) (s : List ℕ) (at : ℕ) (pre : InternPre l others limit n s at) (st : Store)
+    (held : st .axes ≡ axesOf l n s) where
+  count : length (st .axes) ≡ n
+  count = ap length held ∙ axes-length l n s
+
+  found : idOf (st .axes) (wordAt l s at) ≡ idOf (axesOf l n s) (wordAt l s at)
+  found = ap (λ (axes : List (List ℕ)). idOf axes (wordAt l s at)) held
+
+  old : st .peak ≤ limit → (id : ℕ) → id ≡ idOf (axesOf l n s) (wordAt l s at) → id < n
+      → Accepted l others limit n s st (wordAt l s at) id s
+  old p id e h =
+      let k = intern-old l others st (wordAt l s at) (omega (arith, count, found)) in
+      record {
+        id-is = e ∙ sym found;
+        axes-are = ap (λ (c : ℕ). axesOf l c s) (sym (count-old n id (omega arith))) ∙ sym (ap (λ (x : Store). x .axes) k ∙ held);
+        fits = omega (arith, ap (λ (x : Store). x .peak) k);
+        stored = subst (λ (c : ℕ). c * (2 * l) ≤ limit) (count-old n id (omega arith)) (pre .stored);
+        long = refl;
+        rest = λ b m i j. refl;
+      }
+
+  new : st .peak ≤ limit → (id : ℕ) → id ≡ idOf (axesOf l n s) (wordAt l s at) → id ≡ n → sumWith l others n ≤ limit
+      → Accepted l others limit n s st (wordAt l s at) id (put s (n * (2 * l)) (wordAt l s at))
+  new p id e f h =
+      let k = intern-new l others st (wordAt l s at) (omega (arith, count, found)) in
+      let g : length (wordAt l s at) ≡ 2 * l = part-length s at (2 * l) (pre .word-in) in
+      let sum : sumWith l others (length (st .axes)) ≡ sumWith l others n = ap (sumWith l others) count in
+      record {
+        id-is = e ∙ sym found;
+        axes-are =
+            ap (λ (c : ℕ). axesOf l c (put s (n * (2 * l)) (wordAt l s at))) (sym (count-new n id f))
+            ∙ axes-put l n s (wordAt l s at) (omega (arith, pre .inside)) g
+            ∙ ap (λ (axes : List (List ℕ)). axes ++ (wordAt l s at ∷ [])) (sym held)
+            ∙ sym (ap (λ (x : Store). x .axes) k);
+        fits = omega (arith, ap (λ (x : Store). x .peak) k, sum);
+        stored = subst (λ (c : ℕ). c * (2 * l) ≤ limit) (count-new n id f) (omega (arith, one-more l n));
+        long = put-length s (n * (2 * l)) (wordAt l s at) (omega (arith, pre .inside));
+        rest = λ b m i j. part-put-apart s (n * (2 * l)) (wordAt l s at) b m (omega (arith, pre .inside)) j (inl (omega arith));
+      }
+
+  full : idOf (axesOf l n s) (wordAt l s at) ≡ n → limit < sumWith l others n → Refused l others limit s st (wordAt l s at) s
+  full e h =
+      let k = intern-new l others st (wordAt l s at) (omega (arith, count, found)) in
+      let sum : sumWith l others (length (st .axes)) ≡ sumWith l others n = ap (sumWith l others) count in
+      record { exceeds = omega (arith, ap (λ (x : Store). x .peak) k, sum); kept = refl }
+
+  pub accepted : (r : Interned) (t : List ℕ) → Stores l others limit n s at r t → st .peak ≤ limit → (id : ℕ) → r ≡ Id id
+      → Accepted l others limit n s st (wordAt l s at) id t
+  accepted r t h p id e = go (decLt (idOf (axesOf l n s) (wordAt l s at)) n) (decLt limit (sumWith l others n))
+    where
+      go : Dec (idOf (axesOf l n s) (wordAt l s at) < n) → Dec (limit < sumWith l others n)
+          → Accepted l others limit n s st (wordAt l s at) id t
+      go (yes a) d =
+          let u = stores-one h (stores-old l others limit n s at _ refl refl a) in
+          subst (Accepted l others limit n s st (wordAt l s at) id) (sym (u .1))
+          (let f : id ≡ idOf (axesOf l n s) (wordAt l s at) = same-id (sym e ∙ u .0) in old p id f (omega arith))
+      go (no a) (yes b) = absurd (no-id (sym (stores-one h (stores-full l others limit n s at _ refl refl (omega arith) b) .0) ∙ e))
+      go (no a) (no b) =
+          let u = stores-one h (stores-new l others limit n s at _ refl refl _ (omega arith) (omega arith) refl) in
+          let f : id ≡ idOf (axesOf l n s) (wordAt l s at) = same-id (sym e ∙ u .0) in
+          subst (Accepted l others limit n s st (wordAt l s at) id) (sym (u .1))
+          (new p id f (omega (arith, id-le (axesOf l n s) (wordAt l s at), axes-length l n s)) (omega arith))
+
+  pub refused : (r : Interned) (t : List ℕ) → Stores l others limit n s at r t → r ≡ Full → Refused l others limit s st (wordAt l s at) t
+  refused r t h e = go (decLt (idOf (axesOf l n s) (wordAt l s at)) n) (decLt limit (sumWith l others n))
+    where
+      go : Dec (idOf (axesOf l n s) (wordAt l s at) < n) → Dec (limit < sumWith l others n) → Refused l others limit s st (wordAt l s at) t
+      go (yes a) d = absurd (no-id (sym e ∙ stores-one h (stores-old l others limit n s at _ refl refl a) .0))
+      go (no a) (no b) =
+          absurd (no-id (sym e ∙ stores-one h (stores-new l others limit n s at _ refl refl _ (omega arith) (omega arith) refl) .0))
+      go (no a) (yes b) =
+          let u = stores-one h (stores-full l others limit n s at _ refl refl (omega arith) b) in
+          subst (Refused l others limit s st (wordAt l s at)) (sym (u .1))
+          (full (omega (arith, id-le (axesOf l n s) (wordAt l s at), axes-length l n s)) b)

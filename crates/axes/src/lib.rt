@@ -1,0 +1,87 @@
+// Stored axes: words of 2 l numbers from the start of the word store, axis id at id * 2 l.
+ghost use mathlib.Core.Path.{_≡_};
+ghost use Prim.Native.Nat.{ℕ, _+_, _*_, _^_, _<_, _≤_};
+ghost use lib.ListN.{length};
+ghost use Rattle.model.specs.Words.{anticommute, idOf, wordOf};
+ghost use Rattle.axes.specs.View.{axesOf, wordAt};
+ghost use Rattle.axes.specs.Intern.{InternPre, Stores, countWith};
+use pauli::anticommutes;
+use pauli::same;
+use store::copy_within;
+
+// Whether a word has an id: the limit may refuse a new one.
+pub enum Interned {
+    Id(usize),
+    Full,
+}
+
+// The word at a place, inside the store.
+pub fn word_at(words: &[u64], at: usize, l: usize) -> &[u64]
+    requires { ⌜ at + 2 * l ≤ length (now words) ⌝ }
+    ensures { λ r. ⌜ now r ≡ wordAt l (now (words .entry)) at ⌝ }
+{
+    let e = at + 2 * l;
+    &words[at..e]
+}
+
+// The word of axis id, inside the store.
+pub fn axis(words: &[u64], id: usize, l: usize) -> &[u64]
+    requires { ⌜ id * (2 * l) + 2 * l ≤ length (now words) ⌝ }
+    ensures { λ r. ⌜ ((n : ℕ) → id < n → now r ≡ wordOf (axesOf l n (now (words .entry))) id) ⌝ }
+{
+    word_at(words, id * (2 * l), l)
+}
+
+// Whether axes a and b anticommute.
+pub fn anticommute(words: &[u64], a: usize, b: usize, l: usize) -> bool
+    requires { ⌜ (a * (2 * l) + 2 * l ≤ length (now words)) × (b * (2 * l) + 2 * l ≤ length (now words)) ⌝ }
+    ensures { λ r. ⌜ ((n : ℕ) → a < n → b < n → r ≡ anticommute l (axesOf l n (now (words .entry))) a b) ⌝ }
+{
+    anticommutes(axis(words, a, l), axis(words, b, l), l)
+}
+
+// The id of w among the count axes; count if it is none of them.
+pub fn find(words: &[u64], w: &[u64], count: usize, l: usize) -> usize
+    requires { ⌜ count * (2 * l) ≤ length (now words) ⌝ }
+    ensures { λ r. ⌜ r ≡ idOf (axesOf l count (now (words .entry))) (now (w .entry)) ⌝ }
+{
+    for id in 0..count {
+        if same(axis(words, id, l), w) {
+            return id;
+        }
+    }
+    count
+}
+
+// The id of the word at a place, stored as axis count if it is new. The limit is tested with the others counted besides the axes.
+pub fn intern(
+    words: &mut [u64],
+    at: usize,
+    count: usize,
+    others: usize,
+    limit: usize,
+    l: usize,
+) -> Interned
+    requires { ⌜ InternPre l others limit count (now words) at ⌝ }
+    ensures { λ r. ⌜ Stores l others limit count (now (words .entry)) at r (now (words .exit)) ⌝ }
+{
+    let id = find(&words[..], word_at(&words[..], at, l), count, l);
+    if id < count {
+        return Interned::Id(id);
+    }
+    let n = 2 * l;
+    let end = count * n;
+    if limit < end + n + others {
+        return Interned::Full;
+    }
+    copy_within(words, at, end, n);
+    Interned::Id(id)
+}
+
+// How many axes there are once id is among them.
+pub fn count_with(count: usize, id: usize) -> usize
+    requires { ⌜ count < 2 ^ 63 ⌝ }
+    ensures { λ r. ⌜ r ≡ countWith count id ⌝ }
+{
+    if id == count { count + 1 } else { count }
+}
