@@ -1,1 +1,1 @@
-// theorems about the model's runs: angles, lengths, waiting rotations, memory; no code
+// the stream keeps the effect: theorems, no code
