@@ -1,0 +1,294 @@
+// Checking: refusals 1 to 8. It takes no slice by &mut, so it writes nothing.
+ghost use mathlib.Core.Path.{_≡_};
+ghost use mathlib.Core.Bool.{false};
+ghost use mathlib.Core.List.{[]};
+ghost use Prim.Native.Nat.{_+_, _*_, _<_, _≤_};
+ghost use lib.ListN.{length};
+ghost use Rattle.model.specs.Checking.{badCount, badOption, programShort, lentShort};
+ghost use Rattle.model.specs.Checking.{checkNode, checkNodes, badReference, badOperation, badOutcome, checkOperation, checkOperations};
+ghost use Rattle.model.specs.Checking.{checkRow, checkRows, checkProgram, checking};
+ghost use Rattle.model.specs.Lists.{member};
+ghost use Rattle.model.specs.Program.{fieldOf, records};
+ghost use Rattle.checking.specs.Call.{jobOf, lentOf};
+ghost use Rattle.checking.specs.Outcomes.{seenBy, measuresIt};
+use model::Answer;
+use model::Counts;
+use model::Options;
+
+// The most that lookback, window, candidates and word limit may be.
+const MOST: usize = 1048576;
+
+const LARGEST_OUTCOME: u32 = 65534;
+
+const NO_OUTCOME: u32 = 65535;
+
+// Refusal 1.
+fn bad_count(c: Counts) -> bool
+    ensures { λ r. ⌜ r ≡ badCount c ⌝ }
+{
+    (c.qubits > 4096) | (c.nodes < 1) | (c.nodes > 65535) | (c.operations > 65535)
+}
+
+// Refusal 2.
+fn bad_option(o: Options) -> bool
+    ensures { λ r. ⌜ r ≡ badOption o ⌝ }
+{
+    (o.rounds > 255)
+        | (o.lookback > MOST)
+        | (o.window > MOST)
+        | (o.candidates > MOST)
+        | (o.max_packed_words > MOST)
+}
+
+// Refusal 3, of the program.
+fn program_short(c: Counts, nodes: &[u32], operations: &[u32], rows: &[u32]) -> bool
+    requires { ⌜ badCount c ≡ false ⌝ }
+    ensures { λ r. ⌜ r ≡ programShort (jobOf c (now (nodes .entry)) (now (operations .entry)) (now (rows .entry))) ⌝ }
+{
+    (nodes.len() < 5 * c.nodes)
+        | (operations.len() < 6 * c.operations)
+        | (rows.len() < 8 * c.qubits)
+}
+
+// Refusal 3, of the work stores and the results.
+fn lent_short(
+    c: Counts,
+    o: Options,
+    words: &[u64],
+    numbers: &[u32],
+    operations: &[u32],
+    rows: &[u32],
+) -> bool
+    requires { ⌜ (badCount c ≡ false) × (badOption o ≡ false) ⌝ }
+    ensures { λ r. ⌜ r ≡ lentShort c (lentOf (now (words .entry)) (now (numbers .entry)) (now (operations .entry)) (now (rows .entry))) (o .«max_packed_words») ⌝ }
+{
+    let l = pauli::width(c.qubits);
+    let limit = o.max_packed_words;
+    let asked = 24 * (c.nodes + c.operations + 2 * c.qubits + limit / (2 * l) + 1);
+    (words.len() < limit + 16 * l)
+        | (numbers.len() < asked)
+        | (operations.len() < 6 * c.operations)
+        | (rows.len() < 8 * c.qubits)
+}
+
+// Refusals 4 and 5 of node i, which is a letter.
+fn check_letter(r: &[u32], i: usize, qubits: usize) -> Answer
+    requires { ⌜ (length (now r) ≡ 5) × (0 < i) × (fieldOf (now r) 0 ≡ 1) ⌝ }
+    ensures { λ a. ⌜ a ≡ checkNode qubits i (now (r .entry)) ⌝ }
+{
+    if r[2] > 3 {
+        return Answer::BadNode;
+    }
+    if qubits <= r[1] as usize {
+        return Answer::BadQubit;
+    }
+    Answer::Accepted
+}
+
+// Refusals 4 and 5 of node i.
+fn check_node(r: &[u32], i: usize, qubits: usize) -> Answer
+    requires { ⌜ length (now r) ≡ 5 ⌝ }
+    ensures { λ a. ⌜ a ≡ checkNode qubits i (now (r .entry)) ⌝ }
+{
+    if r[0] == 0 {
+        return Answer::Accepted;
+    }
+    if i == 0 {
+        return Answer::BadNode;
+    }
+    if r[0] == 1 {
+        return check_letter(r, i, qubits);
+    }
+    if r[0] > 2 {
+        return Answer::BadNode;
+    }
+    if (r[2] > 3) | (r[4] > 3) | (i <= r[1] as usize) | (i <= r[3] as usize) {
+        return Answer::BadNode;
+    }
+    Answer::Accepted
+}
+
+// Refusal 6: a node or a phase out of range.
+fn bad_reference(nodes: usize, node: u32, phase: u32) -> bool
+    ensures { λ r. ⌜ r ≡ badReference nodes node phase ⌝ }
+{
+    (nodes <= node as usize) | (phase > 3)
+}
+
+// Refusal 7.
+fn bad_operation(r: &[u32]) -> bool
+    requires { ⌜ length (now r) ≡ 6 ⌝ }
+    ensures { λ a. ⌜ a ≡ badOperation (now (r .entry)) ⌝ }
+{
+    let kind = r[0];
+    (kind == 0)
+        | (kind > 3)
+        | (r[3] > 7)
+        | (r[5] > NO_OUTCOME)
+        | ((kind != 1) & (r[4] > LARGEST_OUTCOME))
+}
+
+// Refusal 6 of frame row i.
+fn check_row(r: &[u32], i: usize, nodes: usize) -> Answer
+    requires { ⌜ length (now r) ≡ 4 ⌝ }
+    ensures { λ a. ⌜ a ≡ checkRow nodes i (now (r .entry)) ⌝ }
+{
+    if (r[0] as usize != i / 2) | (r[1] as usize != i % 2) | bad_reference(nodes, r[2], r[3]) {
+        return Answer::BadReference;
+    }
+    Answer::Accepted
+}
+
+// Refusals 4 and 5.
+fn check_nodes(nodes: &[u32], count: usize, qubits: usize) -> Answer
+    requires { ⌜ 5 * count ≤ length (now nodes) ⌝ }
+    ensures { λ a. ⌜ a ≡ checkNodes qubits 0 (records 5 count (now (nodes .entry))) ⌝ }
+{
+    for i in 0..count {
+        let at = i * 5;
+        let e = at + 5;
+        let a = check_node(&nodes[at..e], i, qubits);
+        if model::number_of(a) != 0 {
+            return a;
+        }
+    }
+    Answer::Accepted
+}
+
+// Refusal 6 of the frame rows.
+fn check_rows(rows: &[u32], count: usize, nodes: usize) -> Answer
+    requires { ⌜ 4 * count ≤ length (now rows) ⌝ }
+    ensures { λ a. ⌜ a ≡ checkRows nodes 0 (records 4 count (now (rows .entry))) ⌝ }
+{
+    for i in 0..count {
+        let at = i * 4;
+        let e = at + 4;
+        let a = check_row(&rows[at..e], i, nodes);
+        if model::number_of(a) != 0 {
+            return a;
+        }
+    }
+    Answer::Accepted
+}
+
+// Whether an operation measures the outcome.
+fn measures(r: &[u32], outcome: u32) -> bool
+    requires { ⌜ length (now r) ≡ 6 ⌝ }
+    ensures { λ m. ⌜ m ≡ measuresIt outcome (now (r .entry)) ⌝ }
+{
+    (r[0] == 2) & (outcome == r[4])
+}
+
+// Whether one of the first n operations measures the outcome.
+fn measured_before(operations: &[u32], n: usize, outcome: u32) -> bool
+    requires { ⌜ 6 * n ≤ length (now operations) ⌝ }
+    ensures { λ m. ⌜ m ≡ member outcome (seenBy n (now (operations .entry))) ⌝ }
+{
+    for i in 0..n {
+        let at = i * 6;
+        let e = at + 6;
+        if measures(&operations[at..e], outcome) {
+            return true;
+        }
+    }
+    false
+}
+
+// Refusal 8 of operation i, whose record is r.
+fn bad_outcome(operations: &[u32], i: usize, r: &[u32]) -> bool
+    requires { ⌜ (6 * i ≤ length (now operations)) × (length (now r) ≡ 6) ⌝ }
+    ensures { λ b. ⌜ b ≡ badOutcome (seenBy i (now (operations .entry))) (now (r .entry)) ⌝ }
+{
+    let kind = r[0];
+    // a plain rotation has no outcome to look for
+    if kind == 1 {
+        return false;
+    }
+    let before = measured_before(operations, i, r[4]);
+    ((kind == 2) & before) | ((kind == 3) & !before)
+}
+
+// Refusals 7, 6 and 8 of operation i, whose record is r.
+fn check_operation(operations: &[u32], i: usize, r: &[u32], nodes: usize) -> Answer
+    requires { ⌜ (6 * i ≤ length (now operations)) × (length (now r) ≡ 6) ⌝ }
+    ensures { λ a. ⌜ a ≡ checkOperation nodes (seenBy i (now (operations .entry))) (now (r .entry)) ⌝ }
+{
+    if bad_operation(r) {
+        return Answer::BadOperation;
+    }
+    if bad_reference(nodes, r[1], r[2]) {
+        return Answer::BadReference;
+    }
+    if bad_outcome(operations, i, r) {
+        return Answer::BadOutcome;
+    }
+    Answer::Accepted
+}
+
+// Refusals 7, 6 and 8.
+fn check_operations(operations: &[u32], count: usize, nodes: usize) -> Answer
+    requires { ⌜ 6 * count ≤ length (now operations) ⌝ }
+    ensures { λ a. ⌜ a ≡ checkOperations nodes [] (records 6 count (now (operations .entry))) ⌝ }
+{
+    for i in 0..count {
+        let at = i * 6;
+        let e = at + 6;
+        let a = check_operation(operations, i, &operations[at..e], nodes);
+        if model::number_of(a) != 0 {
+            return a;
+        }
+    }
+    Answer::Accepted
+}
+
+// Refusals 4 to 8 of a program whose slices are long enough.
+fn check_program(c: Counts, nodes: &[u32], operations: &[u32], rows: &[u32]) -> Answer
+    requires { ⌜ (badCount c ≡ false) × (programShort (jobOf c (now nodes) (now operations) (now rows)) ≡ false) ⌝ }
+    ensures { λ a. ⌜ a ≡ checkProgram (jobOf c (now (nodes .entry)) (now (operations .entry)) (now (rows .entry))) ⌝ }
+{
+    let a = check_nodes(nodes, c.nodes, c.qubits);
+    if model::number_of(a) != 0 {
+        return a;
+    }
+    let b = check_operations(operations, c.operations, c.nodes);
+    if model::number_of(b) != 0 {
+        return b;
+    }
+    check_rows(rows, 2 * c.qubits, c.nodes)
+}
+
+// Refusals 1 to 8; 0 passes.
+pub fn checking(
+    counts: Counts,
+    options: Options,
+    nodes: &[u32],
+    operations: &[u32],
+    rows: &[u32],
+    words: &[u64],
+    numbers: &[u32],
+    result_operations: &[u32],
+    result_rows: &[u32],
+) -> Answer
+    ensures { λ a. ⌜ a ≡ checking options (jobOf counts (now (nodes .entry)) (now (operations .entry)) (now (rows .entry)))
+        (lentOf (now (words .entry)) (now (numbers .entry)) (now («result_operations» .entry)) (now («result_rows» .entry))) ⌝ }
+{
+    if bad_count(counts) {
+        return Answer::CountOutside;
+    }
+    if bad_option(options) {
+        return Answer::OptionOutside;
+    }
+    if program_short(counts, nodes, operations, rows)
+        | lent_short(
+            counts,
+            options,
+            words,
+            numbers,
+            result_operations,
+            result_rows,
+        )
+    {
+        return Answer::SliceShort;
+    }
+    check_program(counts, nodes, operations, rows)
+}
