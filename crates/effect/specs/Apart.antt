@@ -93,7 +93,9 @@ single-apart l p q c b h i d = go (ℕ-discrete i q)
 
 -- the letter I on a qubit is the identity
 pub single-none : (l q : ℕ) → q < 64 * l → single l q 0 ≡ identity l
-single-none l q b = letters-ext l (single l q 0) (identity l) (single-word l q 0 b) (identity-word l) (λ i d. go i d (ℕ-discrete i q) ∙ sym (identity-letter l i))
+single-none l q b =
+    letters-ext l (single l q 0) (identity l) (single-word l q 0 b) (identity-word l)
+    (λ i d. go i d (ℕ-discrete i q) ∙ sym (identity-letter l i))
   where
     go : (i : ℕ) → i < 64 * l → Dec (i ≡ q) → letterAt l (single l q 0) i ≡ 0
     go i d (yes e) = ap (letterAt l (single l q 0)) e ∙ single-letter l q 0 b (omega arith)

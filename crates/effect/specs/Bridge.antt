@@ -94,7 +94,9 @@ module _ (l : ℕ) where
   -- an odd phase says that the words anticommute
   pub odd-anticommutes : (P Q : Packed l) → odd (phase4 l P Q) ≡ anticommutes l (P .0) (Q .0)
   unfolding phase4 quarter
-  odd-anticommutes P Q = sym (odd-half (phase l (P .0) (Q .0))) ∙ ap (λ (n : ℕ). odd (quarter n)) (phase-odd l (P .0) (Q .0)) ∙ go (anticommutes l (P .0) (Q .0)) refl
+  odd-anticommutes P Q =
+      sym (odd-half (phase l (P .0) (Q .0))) ∙ ap (λ (n : ℕ). odd (quarter n)) (phase-odd l (P .0) (Q .0)) ∙ go
+      (anticommutes l (P .0) (Q .0)) refl
     where
       go : (d : Bool) → anticommutes l (P .0) (Q .0) ≡ d → odd (quarter (symplectic l (P .0) (Q .0))) ≡ d
       go true e = ap (λ (n : ℕ). odd (quarter n)) (anticommutes-true l (P .0) (Q .0) e)
@@ -203,7 +205,8 @@ module _ (l : ℕ) where
     letters-product (suc n) b =
         ap (walk step (q0, one l)) (numbers-last n) ∙ walk-append step (q0, one l) (numbersFrom 0 n) (n ∷ [])
         ∙ ap (λ v. step v n) (letters-product n (omega arith))
-        ∙ (λ i. (quarter (next-letter l (letterAt l w) n (omega arith) i), packed-ext l (mul l (prefix n) (letterWord n (letterAt l w n))) (prefix (suc n)) refl i))
+        ∙ (λ i. (quarter (next-letter l (letterAt l w) n (omega arith) i), packed-ext l (mul l (prefix n) (letterWord n (letterAt l w n)))
+        (prefix (suc n)) refl i))
       where
         step : Quarter × Packed l → ℕ → Quarter × Packed l
         step = withLetter (λ P. (q0, P))
@@ -297,7 +300,8 @@ module _ (l : ℕ) where
   unfolding nothing
   bridge st rs w h =
       let F = absorbAll (packed l) (nothing (packed l)) (map turnOf rs) in
-      holds-image (absorbWords (record { store = st; held = [] }) rs .held) F (holds-all (record { store = st; held = [] }) (nothing (packed l)) rs holds-start) w h
+      holds-image (absorbWords (record { store = st; held = [] }) rs .held) F
+      (holds-all (record { store = st; held = [] }) (nothing (packed l)) rs holds-start) w h
       ∙ ap (valueOf l) (absorbAll-im (packed l) (nothing (packed l)) (map turnOf rs) (w, h .long))
 
   -- ---- what follows

@@ -95,7 +95,8 @@ module _ (H : Setting) where
 
         second : (g : C) (R : W) → K .add (J H B (image g) R) (K .neg (image (J H B g) R)) ≡ K .neg (times H χ P g R)
         second g R =
-            ap₂ (K .add) (act-map K (act K (σ (ph B (B ⊕ R)))) (act-add K (σ (ph B (B ⊕ R)))) s (t g (B ⊕ R))) (sym (map-neg K (act K s) (act-add K s) (t (J H B g) R)))
+            ap₂ (K .add) (act-map K (act K (σ (ph B (B ⊕ R)))) (act-add K (σ (ph B (B ⊕ R)))) s (t g (B ⊕ R)))
+            (sym (map-neg K (act K s) (act-add K s) (t (J H B g) R)))
             ∙ sym (act-add K s (J H B (t g) R) (K .neg (t (J H B g) R)))
             ∙ ap (act K s) (br B (B ⊕ P) g R) ∙ act-mul K s (σ (ph B (B ⊕ P))) (times H χ (B ⊕ (B ⊕ P)) g R)
             ∙ ap₂ (λ q X. act K (s ·ˢ σ q) (times H χ X g R)) (ph-cancel B P) (⊕-cancel B P)

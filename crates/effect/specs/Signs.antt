@@ -41,8 +41,12 @@ module _ (K : Ab) where
 
   -- equations between signs hold of what they act on
   pub act-diff : (a b c : Sgn) → isZero ((toℤ a +ℤ negℤ (toℤ b)) +ℤ negℤ (toℤ c)) ≡ true → (x : C) → act a x ⊹ neg (act b x) ≡ act c x
-  act-diff a b c h x = ap₂ (λ s t. s ⊹ neg t) (act-zsm a x) (act-zsm b x) ∙ ap (λ t. zsm K (toℤ a) x ⊹ t) (sym (zsm-neg K (toℤ b) x)) ∙ sym (zsm-add K (toℤ a) (negℤ (toℤ b)) x)
+  act-diff a b c h x =
+      ap₂ (λ s t. s ⊹ neg t) (act-zsm a x) (act-zsm b x) ∙ ap (λ t. zsm K (toℤ a) x ⊹ t) (sym (zsm-neg K (toℤ b) x)) ∙ sym
+      (zsm-add K (toℤ a) (negℤ (toℤ b)) x)
       ∙ ap (λ t. zsm K t x) e ∙ sym (act-zsm c x)
     where
       e : toℤ a +ℤ negℤ (toℤ b) ≡ toℤ c
-      e = sym (+ℤ-assoc (toℤ a +ℤ negℤ (toℤ b)) (negℤ (toℤ c)) (toℤ c) ∙ ap (λ t. (toℤ a +ℤ negℤ (toℤ b)) +ℤ t) (+ℤ-invl (toℤ c)) ∙ +ℤ-idr (toℤ a +ℤ negℤ (toℤ b))) ∙ ap (λ t. t +ℤ toℤ c) (zero-of ((toℤ a +ℤ negℤ (toℤ b)) +ℤ negℤ (toℤ c)) h) ∙ +ℤ-idl (toℤ c)
+      e =
+          sym (+ℤ-assoc (toℤ a +ℤ negℤ (toℤ b)) (negℤ (toℤ c)) (toℤ c) ∙ ap (λ t. (toℤ a +ℤ negℤ (toℤ b)) +ℤ t) (+ℤ-invl (toℤ c)) ∙ +ℤ-idr
+          (toℤ a +ℤ negℤ (toℤ b))) ∙ ap (λ t. t +ℤ toℤ c) (zero-of ((toℤ a +ℤ negℤ (toℤ b)) +ℤ negℤ (toℤ c)) h) ∙ +ℤ-idl (toℤ c)

@@ -73,5 +73,6 @@ module _ (t : Read) (yes′ : listingAnswer (some t) ≡ Accepted) where
       resultEffect p (listedAxes t yes′) (operationsRead (listedFirst t yes′) (listedRest t yes′))
       (rowsRead (p .qubits) (listedFirst t yes′) (listedRest t yes′)) outcomes ns in
       ap (λ (n : ℕ). pow2 (Effects p) (length (p .operations) - n) printed) (listed-count t yes′)
-      ∙ ap₂ (λ X Y. pow2 (Effects p) (length (p .operations) - length (operationResults p (listedEnd t yes′))) (effectFrom H outcomes X (picked H ns Y))) ops rows
+      ∙ ap₂ (λ X Y. pow2 (Effects p) (length (p .operations) - length (operationResults p (listedEnd t yes′)))
+      (effectFrom H outcomes X (picked H ns Y))) ops rows
       ∙ run-keeps-effect p fine hermitian r 8 outcomes ns

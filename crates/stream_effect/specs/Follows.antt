@@ -66,7 +66,8 @@ module _ (l : ℕ) (operations : List Operation) where
       → itemOp (wordAt ys) (barrierAt ys) i ≡ itemOp (wordAt xs) (barrierAt xs) i
   opOf-grows xs ys g (rotation r) h = ap (λ (w : List ℕ). plain (eighth (pos (r .angle))) (packedWord l w)) (g .keeps (r .axis) (h .0))
   opOf-grows xs ys g (barrier o a s) h =
-      ap (λ (w : List ℕ). opAbout (operationAt operations o .kind) (signOf s) (packedWord l w) (operationAt operations o .angle) (operationAt operations o .outcome))
+      ap (λ (w : List ℕ). opAbout (operationAt operations o .kind) (signOf s) (packedWord l w) (operationAt operations o .angle)
+      (operationAt operations o .outcome))
       (g .keeps a (h .0))
 
   -- more axes change no operation

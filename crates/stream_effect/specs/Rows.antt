@@ -44,7 +44,8 @@ module _ (l : ℕ) (operations : List Operation) where
   pub rowsOf-grows : (xs ys : List (List ℕ)) → Grows xs ys → (fs : List SignedAxis) → WellRows xs fs → rowsOf ys fs ≡ rowsOf xs fs
   rowsOf-grows xs ys g [] h = refl
   rowsOf-grows xs ys g (f ∷ fs) h =
-      ap₂ (λ (w : List ℕ) (rest : List (Quarter × W)). (quarter (f .sign), packedWord l w) ∷ rest) (g .keeps (f .axis) (h .0 .0)) (rowsOf-grows xs ys g fs (h .1))
+      ap₂ (λ (w : List ℕ) (rest : List (Quarter × W)). (quarter (f .sign), packedWord l w) ∷ rest) (g .keeps (f .axis) (h .0 .0))
+      (rowsOf-grows xs ys g fs (h .1))
 
   -- ---- one row is carried
 

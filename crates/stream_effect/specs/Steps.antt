@@ -60,7 +60,8 @@ module _ (l : ℕ) (operations : List Operation) where
       → S X p → S X (leaveZero (length front) a (absorb l p a k))
   absorbed-place X p front a k back e w b c passes h =
       subst (λ (Y : List (Op W)). Follows l operations X Y q) (sym out)
-      (follows-same l operations X (opsOf l operations axes zeroed) (absorb l p a k) q (unfold leaveZero setAngle withLast in refl) (unfold leaveZero setAngle withLast in refl)
+      (follows-same l operations X (opsOf l operations axes zeroed) (absorb l p a k) q (unfold leaveZero setAngle withLast in refl)
+      (unfold leaveZero setAngle withLast in refl)
       (follows-absorb l operations X (opsOf l operations axes zeroed) p a k (w .stored) (inside .0) (clifford-angle k b c)
       (follows-lift l operations X p axes front back a k
       (passes-lets l axes (w .stored) (barrierAt l operations axes) a (inside .0) back (inside .1) passes)
@@ -95,7 +96,8 @@ module _ (l : ℕ) (operations : List Operation) where
   absorbWaitingAt-follows X picks p front (rotation r) is e w wait h =
       on-if (S X) (isClifford (r .angle) && picks (r .axis)) (leaveZero (length front) (r .axis) (absorb l p (r .axis) (r .angle))) p
       (λ c. let even = and-left (isClifford (r .angle)) (picks (r .axis)) c in
-      absorbed-place X p front (r .axis) (r .angle) is e w (small .1 tt) even (waits-seam l (p .store .axes) front r is (subst (Waits l (p .store .axes)) e (wait .commute)) even) h)
+      absorbed-place X p front (r .axis) (r .angle) is e w (small .1 tt) even
+      (waits-seam l (p .store .axes) front r is (subst (Waits l (p .store .axes)) e (wait .commute)) even) h)
       (λ c. h)
     where
       small : WellPut (Unit {0}) (length (p .store .axes)) (rotation r)
@@ -141,7 +143,8 @@ module _ (l : ℕ) (operations : List Operation) where
   unfolding absorbAllWaiting
   absorbAllWaiting-follows X off p w wait h = h
   absorbAllWaiting-follows X atOnce p w wait h = h
-  absorbAllWaiting-follows X lazy p w wait h = absorbWaiting-follows X (λ b. true) p 0 [] (p .out) refl (record { out = refl; well = w; wait = wait refl; follows = h })
+  absorbAllWaiting-follows X lazy p w wait h =
+      absorbWaiting-follows X (λ b. true) p 0 [] (p .out) refl (record { out = refl; well = w; wait = wait refl; follows = h })
 
   -- "those that anticommute with the next rotation are absorbed first, in order"
   absorbBlocking-follows : (X : List (Op W)) (p : Pass) (a : ℕ) → Well p → Waiting l p → S X p → S X (absorbBlocking l p a)

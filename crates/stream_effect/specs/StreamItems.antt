@@ -95,7 +95,8 @@ module _ (l : ℕ) (operations : List Operation) where
         (sim-push (packed l) X (opsOf l operations (p .store .axes) (p .out)) (h .F) x (h .sim));
   }
 
-  module _ (X : List (Op W)) (q : Pass) (a : ℕ) (w : Well q) (inside : a < length (q .store .axes)) (id : imageId l q a < length (q .store .axes)) (h : S X q) where
+  module _ (X : List (Op W)) (q : Pass) (a : ℕ) (w : Well q) (inside : a < length (q .store .axes))
+      (id : imageId l q a < length (q .store .axes)) (h : S X q) where
     rotation-comes : (k : ℕ) → k ≤ 7
         → Pending l operations (X ++ (turnAt l operations (q .store .axes) a k ∷ [])) q (imageId l q a) (withSign (axisImage l q a .turns) k)
     rotation-comes k b =
@@ -203,7 +204,8 @@ module _ (l : ℕ) (operations : List Operation) where
     unfolding afterItems
     afterItems-reads X p [] h k = subst (λ (Y : List (Op W)). Reads Y p) (sym (append-nil X)) k
     afterItems-reads X p (i ∷ is) h k =
-        subst (λ (Y : List (Op W)). Reads Y (afterItems l r merging (streamItem l r merging p i) is)) (append-assoc X (op axes i ∷ []) (opsOf l operations axes is))
+        subst (λ (Y : List (Op W)). Reads Y (afterItems l r merging (streamItem l r merging p i) is))
+        (append-assoc X (op axes i ∷ []) (opsOf l operations axes is))
         (afterItems-reads (X ++ (op axes i ∷ [])) (streamItem l r merging p i) is (h .1) (streamItem-reads X p i (h .0) k))
 
   -- a whole stream
@@ -212,7 +214,8 @@ module _ (l : ℕ) (operations : List Operation) where
       → S (opsOf l operations (st .axes) is) (stream l r merging (begin st) is)
   stream-follows r merging st is stored h =
       subst (S (opsOf l operations (st .axes) is)) (sym (stream-after l r merging (begin st) is))
-      (absorbAllWaiting-follows l operations (opsOf l operations (st .axes) is) (r .absorption) (afterItems l r merging (begin st) is) (k .well) (k .wait) (k .follows))
+      (absorbAllWaiting-follows l operations (opsOf l operations (st .axes) is) (r .absorption) (afterItems l r merging (begin st) is)
+      (k .well) (k .wait) (k .follows))
     where
       k : Reads r merging (st .axes) (opsOf l operations (st .axes) is) (afterItems l r merging (begin st) is)
       k = afterItems-reads r merging (st .axes) [] (begin st) is h (record {

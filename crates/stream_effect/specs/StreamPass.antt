@@ -39,10 +39,14 @@ module _ (l : ℕ) (operations : List Operation) (r : Rules) (merging : Bool) (w
   after = streamPass l r merging w
 
   ended : WellPass l (Unit {0}) passEnd
-  ended = stream-well l (Unit {0}) r merging (begin (w .store)) (w .items) (begin-well l (Unit {0}) (w .store) (well .stored)) (unfold begin in (well .items)) .well
+  ended =
+      stream-well l (Unit {0}) r merging (begin (w .store)) (w .items) (begin-well l (Unit {0}) (w .store) (well .stored))
+      (unfold begin in (well .items)) .well
 
   grown : Grows (w .store .axes) (passEnd .store .axes)
-  grown = unfold begin in (stream-stepped l r merging (begin (w .store)) (w .items) (begin-sound (w .store)) (unfold begin in (items-inside (w .items) (well .items))) .grow)
+  grown =
+      unfold begin in (stream-stepped l r merging (begin (w .store)) (w .items) (begin-sound (w .store))
+      (unfold begin in (items-inside (w .items) (well .items))) .grow)
     where
       items-inside : (is : List Item) → Every (WellItem (Unit {0}) (length (w .store .axes))) is → AllIn (length (w .store .axes)) is
       items-inside [] h = tt
@@ -75,7 +79,8 @@ module _ (l : ℕ) (operations : List Operation) (r : Rules) (merging : Bool) (w
       let kept = dropZeros (passEnd .out) in
       let more = carryRows l passEnd (w .rows) .pass .store .axes in
       subst (λ (Y : List (Op W)). Sim (packed l) X Y (follows .F))
-      (sym (opsOf-grows l operations axes more (carryRows-grows l operations passEnd (w .rows)) kept (kept-inside (passEnd .out) (put-inside _ (passEnd .out) (ended .output)))))
+      (sym (opsOf-grows l operations axes more (carryRows-grows l operations passEnd (w .rows)) kept
+      (kept-inside (passEnd .out) (put-inside _ (passEnd .out) (ended .output)))))
       (sim-replace (packed l) X (opsOf l operations axes (passEnd .out)) (opsOf l operations axes kept) (follows .F)
       (≈-sym (packed l) (opsOf l operations axes kept) (opsOf l operations axes (passEnd .out))
       (dropZeros-effect (packed l) (wordAt l operations axes) (barrierAt l operations axes) (passEnd .out))) (follows .sim))

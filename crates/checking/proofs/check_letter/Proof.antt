@@ -21,10 +21,16 @@ cast-if2 : tie.Need-cast-if2
 cast-if2 c = let f = c .shared-slice-known2 .given 1 in omega arith
 
 returns-2 : tie.Need-returns-2
-returns-2 c = let p = c .before .before .before .before .pre in sym (node-letter _ _ _ (p .1) (p .2) ∙ if-false _ _ (le-ltb _ _ (c .before .before .if1 .left)) ∙ if-true _ _ (le-leb _ _ (c .if2 .taken)))
+returns-2 c =
+    let p = c .before .before .before .before .pre in
+    sym (node-letter _ _ _ (p .1) (p .2) ∙ if-false _ _ (le-ltb _ _ (c .before .before .if1 .left)) ∙ if-true _ _
+    (le-leb _ _ (c .if2 .taken)))
 
 returns-3 : tie.Need-returns-3
-returns-3 c = let p = c .before .before .before .before .pre in sym (node-letter _ _ _ (p .1) (p .2) ∙ if-false _ _ (le-ltb _ _ (c .before .before .if1 .left)) ∙ if-false _ _ (lt-leb _ _ (c .if2 .left)))
+returns-3 c =
+    let p = c .before .before .before .before .pre in
+    sym (node-letter _ _ _ (p .1) (p .2) ∙ if-false _ _ (le-ltb _ _ (c .before .before .if1 .left)) ∙ if-false _ _
+    (lt-leb _ _ (c .if2 .left)))
 
 pub check-letter-spec : {M : Type 1} → statement M
 check-letter-spec =

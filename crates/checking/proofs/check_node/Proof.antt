@@ -58,11 +58,19 @@ cast-if5-2 c = let f = c .before .shared-slice-known7 .given 3 in omega arith
 
 returns-5 : tie.Need-returns-5
 unfolding badProduct
-returns-5 c = let k = second _ (c .before .before .before .before .before .before .before .before .before .before .if1 .left) (c .before .before .before .before .before .before .before .if3 .left) (c .before .before .before .before .before .if4 .left) in sym (node-product _ _ _ (above _ (c .before .before .before .before .before .before .before .before .before .if2 .left)) k ∙ if-true _ _ (c .if5 .taken))
+returns-5 c =
+    let k = second _ (c .before .before .before .before .before .before .before .before .before .before .if1 .left)
+        (c .before .before .before .before .before .before .before .if3 .left) (c .before .before .before .before .before .if4 .left) in
+    sym (node-product _ _ _ (above _ (c .before .before .before .before .before .before .before .before .before .if2 .left)) k
+    ∙ if-true _ _ (c .if5 .taken))
 
 returns-6 : tie.Need-returns-6
 unfolding badProduct
-returns-6 c = let k = second _ (c .before .before .before .before .before .before .before .before .before .before .if1 .left) (c .before .before .before .before .before .before .before .if3 .left) (c .before .before .before .before .before .if4 .left) in sym (node-product _ _ _ (above _ (c .before .before .before .before .before .before .before .before .before .if2 .left)) k ∙ if-false _ _ (c .if5 .left))
+returns-6 c =
+    let k = second _ (c .before .before .before .before .before .before .before .before .before .before .if1 .left)
+        (c .before .before .before .before .before .before .before .if3 .left) (c .before .before .before .before .before .if4 .left) in
+    sym (node-product _ _ _ (above _ (c .before .before .before .before .before .before .before .before .before .if2 .left)) k
+    ∙ if-false _ _ (c .if5 .left))
 
 pub check-node-spec : {M : Type 1} → statement M
 check-node-spec =

@@ -24,18 +24,26 @@ bad-reference-requires c κs = search needs
 
 returns-2 : tie.Need-returns-2
 unfolding checkOperation
-returns-2 c = sym (if-false _ _ (sym (c .before .before .before .before .before .bad-operation .ensures) ∙ c .before .before .before .before .if1 .left) ∙ if-true _ _ (sym (c .before .bad-reference .ensures) ∙ c .if2 .taken))
+returns-2 c =
+    sym (if-false _ _ (sym (c .before .before .before .before .before .bad-operation .ensures)
+    ∙ c .before .before .before .before .if1 .left) ∙ if-true _ _ (sym (c .before .bad-reference .ensures) ∙ c .if2 .taken))
 
 bad-outcome-requires : tie.Need-bad-outcome-requires
 bad-outcome-requires c κs = search needs
 
 returns-3 : tie.Need-returns-3
 unfolding checkOperation
-returns-3 c = sym (if-false _ _ (sym (c .before .before .before .before .before .before .before .bad-operation .ensures) ∙ c .before .before .before .before .before .before .if1 .left) ∙ if-false _ _ (sym (c .before .before .before .bad-reference .ensures) ∙ c .before .before .if2 .left) ∙ if-true _ _ (sym (c .before .bad-outcome .ensures) ∙ c .if3 .taken))
+returns-3 c =
+    sym (if-false _ _ (sym (c .before .before .before .before .before .before .before .bad-operation .ensures)
+    ∙ c .before .before .before .before .before .before .if1 .left) ∙ if-false _ _ (sym (c .before .before .before .bad-reference .ensures)
+    ∙ c .before .before .if2 .left) ∙ if-true _ _ (sym (c .before .bad-outcome .ensures) ∙ c .if3 .taken))
 
 returns-4 : tie.Need-returns-4
 unfolding checkOperation
-returns-4 c = sym (if-false _ _ (sym (c .before .before .before .before .before .before .before .bad-operation .ensures) ∙ c .before .before .before .before .before .before .if1 .left) ∙ if-false _ _ (sym (c .before .before .before .bad-reference .ensures) ∙ c .before .before .if2 .left) ∙ if-false _ _ (sym (c .before .bad-outcome .ensures) ∙ c .if3 .left))
+returns-4 c =
+    sym (if-false _ _ (sym (c .before .before .before .before .before .before .before .bad-operation .ensures)
+    ∙ c .before .before .before .before .before .before .if1 .left) ∙ if-false _ _ (sym (c .before .before .before .bad-reference .ensures)
+    ∙ c .before .before .if2 .left) ∙ if-false _ _ (sym (c .before .bad-outcome .ensures) ∙ c .if3 .left))
 
 pub check-operation-spec : {M : Type 1} → statement M
 check-operation-spec =

@@ -13,7 +13,9 @@ use Rattle.checking.proofs.check_operations.Statement.{statement}
 use Rattle.checking.proofs.check_operations.Tie as tie
 
 abbrev Inv-loop : tie.InvT-loop
-Inv-loop operations count nodes i₀ i = (i ≤ count) × (checkOperations nodes [] (records 6 count operations) ≡ checkOperations nodes (seenBy i operations) (recordsFrom 6 count i operations))
+Inv-loop operations count nodes i₀ i =
+    (i ≤ count) × (checkOperations nodes [] (records 6 count operations) ≡ checkOperations nodes (seenBy i operations)
+    (recordsFrom 6 count i operations))
 
 abbrev μ-loop : tie.MeasureT-loop
 μ-loop operations count nodes i₀ i = count - i
@@ -46,7 +48,9 @@ number-of-requires : tie.Need-number-of-requires Inv-loop μ-loop
 number-of-requires c κs = search needs
 
 returns : tie.Need-returns Inv-loop μ-loop
-returns c = sym (c .before .before .before .before .before .loop .inv .1 ∙ operations-stop _ _ _ _ _ (omega arith) (c .before .before .check-operation .ensures) (λ h. c .if1 .taken (c .before .number-of .ensures ∙ h)))
+returns c =
+    sym (c .before .before .before .before .before .loop .inv .1 ∙ operations-stop _ _ _ _ _ (omega arith)
+    (c .before .before .check-operation .ensures) (λ h. c .if1 .taken (c .before .number-of .ensures ∙ h)))
 
 add-i : tie.Need-add-i Inv-loop μ-loop
 add-i c = omega arith
@@ -55,7 +59,9 @@ loop-less : tie.Need-loop-less Inv-loop μ-loop
 loop-less c = omega arith
 
 loop-again : tie.Need-loop-again Inv-loop μ-loop
-loop-again c = (omega arith, c .before .before .before .before .before .loop .inv .1 ∙ operations-next _ _ _ _ _ (omega arith) (c .before .before .check-operation .ensures) (sym (c .before .number-of .ensures) ∙ c .if1 .left))
+loop-again c =
+    (omega arith, c .before .before .before .before .before .loop .inv .1 ∙ operations-next _ _ _ _ _ (omega arith)
+    (c .before .before .check-operation .ensures) (sym (c .before .number-of .ensures) ∙ c .if1 .left))
 
 returns-2 : tie.Need-returns-2 Inv-loop μ-loop
 returns-2 c = sym (c .before .loop .inv .1 ∙ operations-end _ _ _ _ (omega arith))

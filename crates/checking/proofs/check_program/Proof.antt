@@ -23,16 +23,26 @@ number-of-requires-2 : tie.Need-number-of-requires-2
 number-of-requires-2 c κs = search needs
 
 returns-2 : tie.Need-returns-2
-returns-2 c = operation-refused _ _ _ (c .before .before .before .before .before .check-nodes .ensures) (sym (c .before .before .before .before .number-of .ensures) ∙ c .before .before .before .if1 .left) (c .before .before .check-operations .ensures) (λ h. c .if2 .taken (c .before .number-of2 .ensures ∙ h))
+returns-2 c =
+    operation-refused _ _ _ (c .before .before .before .before .before .check-nodes .ensures)
+    (sym (c .before .before .before .before .number-of .ensures) ∙ c .before .before .before .if1 .left)
+    (c .before .before .check-operations .ensures) (λ h. c .if2 .taken (c .before .number-of2 .ensures ∙ h))
 
 mul-check-rows : tie.Need-mul-check-rows
 mul-check-rows c = let p = c .before .before .before .before .before .before .before .before .before .before .pre in let f = counts-fit _ (p .0) in omega arith
 
 check-rows-requires : tie.Need-check-rows-requires
-check-rows-requires c κs = let p = c .before .before .before .before .before .before .before .before .before .before .pre in let l = program-long _ (p .1) .2 in omega arith
+check-rows-requires c κs =
+    let p = c .before .before .before .before .before .before .before .before .before .before .pre in
+    let l = program-long _ (p .1) .2 in
+    omega arith
 
 returns-3 : tie.Need-returns-3
-returns-3 c = rows-decide _ _ _ _ (c .before .before .before .before .before .before .before .check-nodes .ensures) (sym (c .before .before .before .before .before .before .number-of .ensures) ∙ c .before .before .before .before .before .if1 .left) (c .before .before .before .before .check-operations .ensures) (sym (c .before .before .before .number-of2 .ensures) ∙ c .before .before .if2 .left) (c .check-rows .ensures)
+returns-3 c =
+    rows-decide _ _ _ _ (c .before .before .before .before .before .before .before .check-nodes .ensures)
+    (sym (c .before .before .before .before .before .before .number-of .ensures) ∙ c .before .before .before .before .before .if1 .left)
+    (c .before .before .before .before .check-operations .ensures)
+    (sym (c .before .before .before .number-of2 .ensures) ∙ c .before .before .if2 .left) (c .check-rows .ensures)
 
 pub check-program-spec : {M : Type 1} → statement M
 check-program-spec =

@@ -44,7 +44,9 @@ number-of-requires : tie.Need-number-of-requires Inv-loop μ-loop
 number-of-requires c κs = search needs
 
 returns : tie.Need-returns Inv-loop μ-loop
-returns c = sym (c .before .before .before .before .before .loop .inv .1 ∙ rows-stop _ _ _ _ _ (omega arith) (c .before .before .check-row .ensures) (λ h. c .if1 .taken (c .before .number-of .ensures ∙ h)))
+returns c =
+    sym (c .before .before .before .before .before .loop .inv .1 ∙ rows-stop _ _ _ _ _ (omega arith)
+    (c .before .before .check-row .ensures) (λ h. c .if1 .taken (c .before .number-of .ensures ∙ h)))
 
 add-i : tie.Need-add-i Inv-loop μ-loop
 add-i c = omega arith
@@ -53,7 +55,9 @@ loop-less : tie.Need-loop-less Inv-loop μ-loop
 loop-less c = omega arith
 
 loop-again : tie.Need-loop-again Inv-loop μ-loop
-loop-again c = (omega arith, c .before .before .before .before .before .loop .inv .1 ∙ rows-next _ _ _ _ _ (omega arith) (c .before .before .check-row .ensures) (sym (c .before .number-of .ensures) ∙ c .if1 .left))
+loop-again c =
+    (omega arith, c .before .before .before .before .before .loop .inv .1 ∙ rows-next _ _ _ _ _ (omega arith)
+    (c .before .before .check-row .ensures) (sym (c .before .number-of .ensures) ∙ c .if1 .left))
 
 returns-2 : tie.Need-returns-2 Inv-loop μ-loop
 returns-2 c = sym (c .before .loop .inv .1 ∙ rows-end _ _ _ _ (omega arith))
