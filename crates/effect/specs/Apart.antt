@@ -55,7 +55,8 @@ min-none a b (inl e) = omega arith
 min-none a b (inr e) = omega arith
 
 cross-apart : (l : ℕ) (p q : List ℕ) → IsWord l p → IsWord l q → Apart l p q → cross l p q ≡ 0
-cross-apart l p q wp wq h = common-none (zWord l p) (xWord q) l (λ j b. bit-ext (bitAnd (zWord l p j) (xWord q j)) 0 (λ t. at j b t ∙ sym (zero-bit t)))
+cross-apart l p q wp wq h =
+    common-none (zWord l p) (xWord q) l (λ j b. bit-ext (bitAnd (zWord l p j) (xWord q j)) 0 (λ t. at j b t ∙ sym (zero-bit t)))
   where
     inside : (j t : ℕ) → j < l → t < 64 → min (bit (zWord l p j) t) (bit (xWord q j) t) ≡ 0
     inside j t b c =

@@ -262,7 +262,8 @@ module _ (l : ℕ) where
         λ z v. ap (λ (c : ℕ). pmul (packed l) v (F .im (letterWord q c))) e ∙ ap (pmul (packed l) v) (letter-none F q b) ∙ times-one v,
       )
       at q (suc c) b d e = (
-        λ z v. ap (multiply l (valueOf l v)) (k .letters q (letterAt l w q) b (subst Letter (sym e) (letter-of (suc c) (omega arith) d))) ∙ times-value v _,
+        λ z v. ap (multiply l (valueOf l v)) (k .letters q (letterAt l w q) b (subst Letter (sym e) (letter-of (suc c) (omega arith) d)))
+        ∙ times-value v _,
         λ z. absurd (omega arith),
       )
 

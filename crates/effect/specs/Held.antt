@@ -54,7 +54,8 @@ module _ (l : ℕ) where
   letterImage-touch : (t : Touched) (p q : ℕ) {c : ℕ} → Letter c → letterImage l (touch l t p .held) q c ≡ letterImage l (t .held) q c
   unfolding touch
   letterImage-touch t p q {c} k =
-      by-if (λ (x : Touched). letterImage l (x .held) q c ≡ letterImage l (t .held) q c) (isHeld p (t .held)) t _ refl (letterImage-own (t .held) p q k)
+      by-if (λ (x : Touched). letterImage l (x .held) q c ≡ letterImage l (t .held) q c) (isHeld p (t .held)) t _ refl
+      (letterImage-own (t .held) p q k)
 
   pub letterImage-touchAll : (t : Touched) (qs : List ℕ) (q : ℕ) {c : ℕ} → Letter c
       → letterImage l (touchAll l t qs .held) q c ≡ letterImage l (t .held) q c
@@ -80,7 +81,8 @@ module _ (l : ℕ) where
   unfolding touch
   touch-absent t p q =
       on-if (λ (x : Touched). isHeld q (x .held) ≡ false → (isHeld q (t .held) ≡ false) × (p ≡ q → ⊥)) (isHeld p (t .held)) t _
-      (λ e h. (h, λ s. let z : _≡_ {A = Bool} true false = sym e ∙ ap (λ (n : ℕ). isHeld n (t .held)) s ∙ h in let n : _≡_ {A = ℕ} 0 1 = cc in omega arith))
+      (λ e h. (h, λ s. let z : _≡_ {A = Bool} true false = sym e ∙ ap (λ (n : ℕ). isHeld n (t .held)) s ∙ h in let n : _≡_
+      {A = ℕ} 0 1 = cc in omega arith))
       (λ e h. let r = held-append q (t .held) (ownImages l p) h in (r .0, eqb-false p q (unfold ownImages in (r .1))))
 
   touchAll-absent : (t : Touched) (qs : List ℕ) (q : ℕ) → isHeld q (touchAll l t qs .held) ≡ false → (isHeld q (t .held) ≡ false) × Absent q qs

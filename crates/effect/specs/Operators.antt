@@ -45,7 +45,8 @@ module _ (H : Setting) where
 
   still-at : (e : Eighth) (a : C) → dbl K a ≡ exp2 e a zer zer
   still-at e a =
-      sym (ap₂ (λ s t. (dbl K (a ⊹ zer) ⊹ neg s) ⊹ t) (map-zer K (cos2 K Kr e) (cos2-add K Kr e)) (map-zer K (sin2 K Kr e) (cos2-add K Kr (prev (prev e))))
+      sym (ap₂ (λ s t. (dbl K (a ⊹ zer) ⊹ neg s) ⊹ t) (map-zer K (cos2 K Kr e) (cos2-add K Kr e))
+      (map-zer K (sin2 K Kr e) (cos2-add K Kr (prev (prev e))))
       ∙ lin K Kr (a ∷ []) ((((at 0 ⊞ ∅) ⊞ (at 0 ⊞ ∅)) ⊞ ⊟ ∅) ⊞ ∅) (at 0 ⊞ at 0) refl)
 
   moved-at : (e : Eighth) (a c : C) → cos2 K Kr e a ⊹ sin2 K Kr e c ≡ exp2 e a (neg a) c

@@ -78,7 +78,8 @@ module _ (H : Setting) (l : ℕ) (axes : List (List ℕ)) (A : AxisWords H l axe
   unfolding keep
   commute-keep f [] h = tt
   commute-keep f (x ∷ xs) h =
-      by-if AllCommute (f x) (x ∷ keep f xs) (keep f xs) (every-keep (CommutesWith x) f xs (h .0), commute-keep f xs (h .1)) (commute-keep f xs (h .1))
+      by-if AllCommute (f x) (x ∷ keep f xs) (keep f xs) (every-keep (CommutesWith x) f xs (h .0), commute-keep f xs (h .1))
+      (commute-keep f xs (h .1))
 
   -- a rotation that commutes with all of a layer is laid into it
   commute-into : (layer : List Rot) (r : Rot) → AllCommute layer → Every (CommutesWith r) layer → AllCommute (mergeInto layer r)

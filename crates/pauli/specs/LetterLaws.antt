@@ -253,7 +253,8 @@ module _ (l : ℕ) (f : ℕ → ℕ) where
       ∙ ⊎-elim
       (λ (e : i ≡ n). rw e (ap₂ letterMul (beyond n n (omega arith) (omega arith)) (single-letter l n (f n) (omega arith) (rw e at g))))
       (λ (m : i < n).
-      ap₂ letterMul (fromLetters-letter n i m (omega arith) g) (single-elsewhere l n (f n) (omega arith) i (omega arith) (omega arith)) ∙ mul-one (f i))
+      ap₂ letterMul (fromLetters-letter n i m (omega arith) g) (single-elsewhere l n (f n) (omega arith) i (omega arith) (omega arith))
+      ∙ mul-one (f i))
       (eq-or-lt-of-le {n = i} {m = n} (omega arith))
 
 -- ---- counts of letters

@@ -34,9 +34,11 @@ use Rattle.run_effect.specs.RunEffect.{Effects, sourceEffect, resultEffe
 -- whatever Checking passes, if no root is non-Hermitian
 pub checked-keeps-effect : (o : Options) (j : Job) (s : Lent) → checking o j s ≡ Accepted → packed (programOf j) .refused ≡ false
     → (outcomes : ℕ → Bool) (ns : List ℕ)
-    → pow2 (Effects (programOf j)) (length (programOf j .operations) - length (operationResults (programOf j) (endOf (rulesOf o) (o .rounds) (programOf j))))
+    → pow2 (Effects (programOf j))
+    (length (programOf j .operations) - length (operationResults (programOf j) (endOf (rulesOf o) (o .rounds) (programOf j))))
     (resultEffect (programOf j) (endOf (rulesOf o) (o .rounds) (programOf j) .store .axes)
-    (operationResults (programOf j) (endOf (rulesOf o) (o .rounds) (programOf j))) (rowResults (programOf j) (endOf (rulesOf o) (o .rounds) (programOf j)))
+    (operationResults (programOf j) (endOf (rulesOf o) (o .rounds) (programOf j)))
+    (rowResults (programOf j) (endOf (rulesOf o) (o .rounds) (programOf j)))
     outcomes ns) ≡ sourceEffect (programOf j) outcomes ns
 checked-keeps-effect o j s c hermitian outcomes ns =
     run-keeps-effect (programOf j) (checked-fine o j s c) hermitian (rulesOf o) (o .rounds) outcomes ns
@@ -57,7 +59,8 @@ module _ (t : Read) (yes′ : listingAnswer (some t) ≡ Accepted) where
   p = programOf (t .job)
 
   pub listing-keeps-effect : (outcomes : ℕ → Bool) (ns : List ℕ)
-      → pow2 (Effects (programOf (t .job))) (length (programOf (t .job) .operations) - length (operationsRead (listedFirst t yes′) (listedRest t yes′)))
+      → pow2 (Effects (programOf (t .job)))
+      (length (programOf (t .job) .operations) - length (operationsRead (listedFirst t yes′) (listedRest t yes′)))
       (resultEffect (programOf (t .job)) (listedAxes t yes′) (operationsRead (listedFirst t yes′) (listedRest t yes′))
       (rowsRead (programOf (t .job) .qubits) (listedFirst t yes′) (listedRest t yes′)) outcomes ns)
       ≡ sourceEffect (programOf (t .job)) outcomes ns

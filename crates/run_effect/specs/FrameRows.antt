@@ -60,7 +60,9 @@ module _ {W : Type 0} (word : List ℕ → W) (p : Program) where
     where
       -- of the rows after it
       Later : Type 0
-      Later = (fs fs′ : List SignedAxis) → length fs ≡ length (keep (isRoot p) rest) → map (packedRow word ys) fs′ ≡ map g (map (packedRow word xs) fs)
+      Later =
+          (fs fs′ : List SignedAxis) → length fs ≡ length (keep (isRoot p) rest) → map (packedRow word ys) fs′ ≡ map g
+          (map (packedRow word xs) fs)
           → workRowsFrom word p ys rest fs′ ≡ map g (workRowsFrom word p xs rest fs)
 
       go : Later → (b : Bool) → isRoot p r ≡ b → (fs fs′ : List SignedAxis)
@@ -70,7 +72,9 @@ module _ {W : Type 0} (word : List ℕ → W) (p : Program) where
           ≡ map g (workRow word p xs b r fs ∷ workRowsFrom word p xs rest (axesLeft b fs))
       go later false b fs fs′ n e = ap₂ (λ (x : Row) (l : List Row). x ∷ l) (sym (kept r (inl refl) b)) (later fs fs′ n e)
       go later true b [] fs′ n e = absurd (omega arith)
-      go later true b (f ∷ fs) [] n e = let z : _≡_ {A = ℕ} 0 (suc (length (map g (map (packedRow word xs) fs)))) = ap length e in absurd (omega arith)
+      go later true b (f ∷ fs) [] n e =
+          let z : _≡_ {A = ℕ} 0 (suc (length (map g (map (packedRow word xs) fs)))) = ap length e in
+          absurd (omega arith)
       go later true b (f ∷ fs) (f′ ∷ fs′) n e =
           ap₂ (λ (x : Row) (l : List Row). x ∷ l) (ap (head (packedRow word ys f′)) e) (later fs fs′ (omega arith) (ap tail e))
 

@@ -74,7 +74,8 @@ module _ (p : Program) (fine : Fine p) (hermitian : packed p .refused ≡ false)
       → pow2 (Effects p) (length (p .operations) - length (operationResults p end))
       (resultEffect p (end .store .axes) (operationResults p end) (rowResults p end) o ns) ≡ sourceEffect p o ns
   run-keeps-effect o ns =
-      ap₂ (λ (m n : ℕ). pow2 (Effects p) (m - n) (resultEffect p (end .store .axes) (operationResults p end) (rowResults p end) o ns)) (sym source) (sym result)
+      ap₂ (λ (m n : ℕ). pow2 (Effects p) (m - n) (resultEffect p (end .store .axes) (operationResults p end) (rowResults p end) o ns))
+      (sym source) (sym result)
       ∙ same-less (PackedWords.packed l) (sourceOps (packedWord l) p) (resultOps (packedWord l) (end .store .axes) (operationResults p end))
       (map (sourceRow (packedWord l) p) (p .rows)) (resultRows (packedWord l) p (end .store .axes) (rowResults p end))
       (omega (arith, source, result, results-length p fine r rounds)) same o ns

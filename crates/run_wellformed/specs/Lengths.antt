@@ -115,7 +115,8 @@ itemsFrom-length axes vs o (op ∷ ops) =
 pub operations-fit : (r : Rules) (rounds : ℕ) (p : Program) → length (endOf r rounds p .items) ≤ length (p .operations)
 unfolding endOf startOf
 operations-fit r rounds p =
-    le-trans (passes-length (r .strategy) (width (p .qubits)) r rounds (startOf p)) (unfold startOf in (itemsFrom-length _ (valuesOf p) 0 (p .operations)))
+    le-trans (passes-length (r .strategy) (width (p .qubits)) r rounds (startOf p))
+    (unfold startOf in (itemsFrom-length _ (valuesOf p) 0 (p .operations)))
 
 -- their records are at most 6 numbers each
 pub operation-records-fit : (p : Program) (w : Work) → length (flatten (operationResults p w)) ≤ 6 * length (w .items)
@@ -198,7 +199,8 @@ module _ (o : Options) (j : Job) (s : Lent) where
       }))
     where
       accepted-end-peak : endOf (rulesOf o) (o .rounds) (programOf j) .store .peak ≤ limitOf o
-      accepted-end-peak = omega (arith, accepted-within o j s yes′, hermitian-peak (rulesOf o) (o .rounds) (programOf j) (accepted-hermitian o j s yes′))
+      accepted-end-peak =
+          omega (arith, accepted-within o j s yes′, hermitian-peak (rulesOf o) (o .rounds) (programOf j) (accepted-hermitian o j s yes′))
 
   within-lengths : checking o j s ≡ Accepted → runOf o j .peak ≤ limitOf o → SameLengths s (rewriting o j s .lent)
   within-lengths c h = go (packed (programOf j) .refused) refl
@@ -224,4 +226,5 @@ module _ (o : Options) (j : Job) (s : Lent) where
       go : (t : Bool) → accepts (checking o j s) ≡ t → SameLengths s (rewriting o j s .lent)
       go true e = ran′ (accepts-only (checking o j s) e) (ltb (limitOf o) (runOf o j .peak)) refl
       go false e =
-          rw (refused-reply o j s (checking o j s) refl e) (unfold refused in (record { words = refl; numbers = refl; operations = refl; rows = refl }))
+          rw (refused-reply o j s (checking o j s) refl e)
+          (unfold refused in (record { words = refl; numbers = refl; operations = refl; rows = refl }))

@@ -25,7 +25,8 @@ one-more xs x = omega (arith, length-append xs (x ∷ []))
 pub keep-length : {A : Type 0} (f : A → Bool) (xs : List A) → length (keep f xs) ≤ length xs
 unfolding keep
 keep-length f [] = le-refl _
-keep-length {A} f (x ∷ xs) = by-if (λ (r : List A). length r ≤ suc (length xs)) _ _ _ (omega (arith, keep-length f xs)) (omega (arith, keep-length f xs))
+keep-length {A} f (x ∷ xs) =
+    by-if (λ (r : List A). length r ≤ suc (length xs)) _ _ _ (omega (arith, keep-length f xs)) (omega (arith, keep-length f xs))
 
 dropZeroRots-length : (rs : List Rot) → length (dropZeroRots rs) ≤ length rs
 unfolding dropZeroRots
@@ -154,7 +155,8 @@ module _ (l : ℕ) (axes : List (List ℕ)) (eager : Bool) where
   tryExchanges-length m t c =
       let one = tryExchange l axes eager t (t .a) (t .b) (t .b ++ (t .a ++ t .c)) in
       let two = tryExchange l axes eager t (t .b) (t .c) (t .a ++ (t .c ++ t .b)) in
-      or-else m one two (tryExchange-length m t _ _ _ c (three-one (t .a) (t .b) (t .c))) (tryExchange-length m t _ _ _ c (three-two (t .a) (t .b) (t .c)))
+      or-else m one two (tryExchange-length m t _ _ _ c (three-one (t .a) (t .b) (t .c)))
+      (tryExchange-length m t _ _ _ c (three-two (t .a) (t .b) (t .c)))
 
   tryTriple-length : (m : ℕ) (ts : List Triple) → Every (Covers m) ts → Leaves m (tryTriple l axes eager ts)
   unfolding tryTriple
@@ -207,7 +209,8 @@ module _ (l : ℕ) (axes : List (List ℕ)) (window candidates : ℕ) (eager : B
   pub swapsFrom-length : (k : ℕ) (s : Swapping) → swapLength (swapsFrom l axes window candidates eager k s) ≤ swapLength s
   unfolding swapsFrom
   swapsFrom-length zero s = le-refl _
-  swapsFrom-length (suc k) s = by-if (λ (x : Swapping). swapLength x ≤ swapLength s) _ _ _ (le-refl _) (le-trans (swapsFrom-length k _) (swapStep-length s))
+  swapsFrom-length (suc k) s =
+      by-if (λ (x : Swapping). swapLength x ≤ swapLength s) _ _ _ (le-refl _) (le-trans (swapsFrom-length k _) (swapStep-length s))
 
   -- an exchange makes no segment longer
   pub swaps-length : (rots : List Rot) → length (swaps l axes window candidates eager rots .rots) ≤ length rots

@@ -144,7 +144,8 @@ module _ (S R : Rot → Type 0) (kept : KeptByMerging S R) where
     tryExchanges-by : (t : Triple) → TripleR t → SwapR (tryExchanges l axes eager t)
     unfolding tryExchanges
     tryExchanges-by t k =
-        or-else (tryExchange l axes eager t (t .a) (t .b) (t .b ++ (t .a ++ t .c))) (tryExchange l axes eager t (t .b) (t .c) (t .a ++ (t .c ++ t .b)))
+        or-else (tryExchange l axes eager t (t .a) (t .b) (t .b ++ (t .a ++ t .c)))
+        (tryExchange l axes eager t (t .b) (t .c) (t .a ++ (t .c ++ t .b)))
         (tryExchange-by t _ _ _ k (every-append R (t .b) (t .a ++ t .c) (k .2) (every-append R (t .a) (t .c) (k .1) (k .3))))
         (tryExchange-by t _ _ _ k (every-append R (t .a) (t .c ++ t .b) (k .1) (every-append R (t .c) (t .b) (k .3) (k .2))))
 

@@ -143,7 +143,8 @@ module _ (l : ℕ) where
           ≡ front ++ ((if t then rotation (rot (r .axis) 0) else rotation r) ∷ is)
       go true =
           unfold if_then_else_ leaveZero setAngle withLast absorb in
-          (ap (λ (x : List Item). set x (length front) (rotation (rot (r .axis) 0))) e ∙ set-append-seam front (rotation r) is (rotation (rot (r .axis) 0)))
+          (ap (λ (x : List Item). set x (length front) (rotation (rot (r .axis) 0))) e ∙ set-append-seam front (rotation r) is
+          (rotation (rot (r .axis) 0)))
       go false = unfold if_then_else_ in e
   absorbWaitingAt-out picks p front (barrier o a s) is e = e
 
@@ -172,7 +173,8 @@ module _ (l : ℕ) where
 
   absorbWaitingAt-axes : (picks : ℕ → Bool) (p : Pass) (j : ℕ) (i : Item) → absorbWaitingAt l picks p j i .store .axes ≡ p .store .axes
   unfolding absorbWaitingAt leaveZero setAngle withLast
-  absorbWaitingAt-axes picks p j (rotation r) = by-if (λ (q : Pass). q .store .axes ≡ p .store .axes) _ _ _ (absorb-axes l p (r .axis) (r .angle)) refl
+  absorbWaitingAt-axes picks p j (rotation r) =
+      by-if (λ (q : Pass). q .store .axes ≡ p .store .axes) _ _ _ (absorb-axes l p (r .axis) (r .angle)) refl
   absorbWaitingAt-axes picks p j (barrier o a s) = refl
 
   -- no axis is stored
@@ -267,7 +269,8 @@ module _ (l : ℕ) where
       (q .out) (waits-mutual l axes (q .out) (carryAxis-waiting p a h .commute))))
     where
       image-moved : (picks : ℕ → Bool) (u : List ℕ) → Every (Yields l (carryAxis l p a .store .axes) u) (carryAxis l p a .out)
-          → symplectic l u (axisImage l (absorbWaiting l picks (carryAxis l p a) 0 (carryAxis l p a .out)) a .word) ≡ symplectic l u (axisImage l p a .word)
+          → symplectic l u (axisImage l (absorbWaiting l picks (carryAxis l p a) 0 (carryAxis l p a .out)) a .word) ≡ symplectic l u
+          (axisImage l p a .word)
       image-moved picks u y =
           unfold axisImage in
           (rw (absorbWaiting-axes picks (carryAxis l p a) 0 (carryAxis l p a .out))
@@ -281,13 +284,15 @@ module _ (l : ℕ) where
 
   -- the rotation, carried again, commutes with all that still wait
   pub carryRotation-yields : (p : Pass) (a : ℕ) → a < length (p .store .axes) → Waiting l p
-      → Every (Yields l (carryRotation l lazy p a .store .axes) (wordOf (carryRotation l lazy p a .store .axes) (imageId l (carryRotation l lazy p a) a)))
+      → Every (Yields l (carryRotation l lazy p a .store .axes)
+      (wordOf (carryRotation l lazy p a .store .axes) (imageId l (carryRotation l lazy p a) a)))
       (carryRotation l lazy p a .out)
   unfolding carryRotation
   carryRotation-yields p a b h =
       let s = absorbBlocking l p a in
       rw (carried-word s a (absorbBlocking-in p a b))
-      (unfold carryAxis in (yields-grows l (s .store .axes) _ (carryAxis-grows s a) (axisImage l s a .word) (s .out) (absorbBlocking-waiting p a h .inside)
+      (unfold carryAxis in
+      (yields-grows l (s .store .axes) _ (carryAxis-grows s a) (axisImage l s a .word) (s .out) (absorbBlocking-waiting p a h .inside)
       (absorbBlocking-yields p a b h)))
 
   -- ---- a rotation merges, or is put out
@@ -351,7 +356,9 @@ module _ (l : ℕ) where
             (unfold canReach in (and-right (leb (length (p .out) - j - 1) (r .lookback)) _ e))
 
         counted : Waiting l p → Waiting l (countMerge p)
-        counted g = record { inside = unfold countMerge in (g .inside); commute = unfold countMerge in (g .commute); names = unfold countMerge in (g .names) }
+        counted g =
+            record { inside = unfold countMerge in (g .inside); commute = unfold countMerge in (g .commute); names = unfold countMerge in
+            (g .names) }
 
     -- nothing is absorbed at once
     pub takeRotation-waiting : (merging : Bool) (p : Pass) (a k : ℕ) → a < length (p .store .axes) → 0 < k
@@ -411,7 +418,9 @@ module _ (l : ℕ) where
         carried m = carryRotation l m p (t .axis)
 
         after : Absorption → Pass
-        after m = takeRotation l r merging (carried m) (imageId l (carried m) (t .axis)) (withSign (axisImage l (carried m) (t .axis) .turns) (t .angle))
+        after m =
+            takeRotation l r merging (carried m) (imageId l (carried m) (t .axis))
+            (withSign (axisImage l (carried m) (t .axis) .turns) (t .angle))
 
         carried-in : imageId l (carryRotation l lazy p (t .axis)) (t .axis) < length (carryRotation l lazy p (t .axis) .store .axes)
         carried-in = unfold carryRotation in (carried-id l (absorbBlocking l p (t .axis)) (t .axis) (absorbBlocking-in p (t .axis) c))

@@ -172,7 +172,8 @@ module _ (l : ℕ) (operations : List Operation) where
       → Follows X (opsOf axes (front ++ (rotation (rot a k) ∷ back))) p
       → Follows X (opsOf axes (front ++ (rotation (rot a 0) ∷ back)) ++ (turnAt axes a k ∷ [])) p
   follows-lift X p axes front back a k s h =
-      follows-replaced X (opsOf axes (front ++ (rotation (rot a k) ∷ back))) (opsOf axes (front ++ (rotation (rot a 0) ∷ back)) ++ (turnAt axes a k ∷ [])) p
+      follows-replaced X (opsOf axes (front ++ (rotation (rot a k) ∷ back)))
+      (opsOf axes (front ++ (rotation (rot a 0) ∷ back)) ++ (turnAt axes a k ∷ [])) p
       (lift (packed l) (wordAt axes) (barrierAt axes) front back a k s) h
 
   -- back to its place, with the angle that it has now

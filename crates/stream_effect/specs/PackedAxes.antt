@@ -40,5 +40,6 @@ module _ (l : ℕ) where
   pub packed-commute : (v w : List ℕ) → length v ≡ 2 * l → length w ≡ 2 * l → symplectic l v w ≡ 0
       → odd (phase4 l (packedWord v) (packedWord w)) ≡ false
   packed-commute v w hv hw e =
-      ap (λ (P : Packed l). odd (phase4 l P (packedWord w))) (packedWord-is v hv) ∙ ap (λ (P : Packed l). odd (phase4 l (v, hv) P)) (packedWord-is w hw)
+      ap (λ (P : Packed l). odd (phase4 l P (packedWord w))) (packedWord-is v hv) ∙ ap (λ (P : Packed l). odd (phase4 l (v, hv) P))
+      (packedWord-is w hw)
       ∙ odd-anticommutes l (v, hv) (w, hw) ∙ anticommutes-none l v w e

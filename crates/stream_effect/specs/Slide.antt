@@ -73,7 +73,8 @@ module _ (H : Setting) (word : ℕ → H .words .W) (barrierOp : ℕ → ℕ →
   pub lift : (front back : List Item) (a k : ℕ) → Every (Lets (word a)) back
       → ops (front ++ (rotation (rot a k) ∷ back)) ≈ (ops (front ++ (rotation (rot a 0) ∷ back)) ++ (turn k (word a) ∷ []))
   lift front back a k h =
-      subst (λ (X : List (Op W)). X ≈ (ops (front ++ (rotation (rot a 0) ∷ back)) ++ (turn k P ∷ []))) (sym (ops-append front (rotation (rot a k) ∷ back)))
+      subst (λ (X : List (Op W)). X ≈ (ops (front ++ (rotation (rot a 0) ∷ back)) ++ (turn k P ∷ [])))
+      (sym (ops-append front (rotation (rot a k) ∷ back)))
       (subst (λ (Y : List (Op W)). (ops front ++ (turn k P ∷ ops back)) ≈ Y) (sym ends)
       (≈-before H (ops front) (turn k P ∷ ops back) (turn 0 P ∷ (ops back ++ (turn k P ∷ []))) last))
     where

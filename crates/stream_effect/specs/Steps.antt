@@ -50,7 +50,8 @@ module _ (l : ℕ) (operations : List Operation) where
       let f : opsOf l operations (carryAxis l p a .store .axes) (carryAxis l p a .out) ≡ opsOf l operations (carryAxis l p a .store .axes) (p .out)
       = unfold carryAxis in refl in
       subst (λ (Y : List (Op W)). Follows l operations X Y (carryAxis l p a)) (sym (f ∙ e))
-      (follows-same l operations X (opsOf l operations (p .store .axes) (p .out)) p (carryAxis l p a) (unfold carryAxis in refl) (unfold carryAxis in refl) h)
+      (follows-same l operations X (opsOf l operations (p .store .axes) (p .out)) p (carryAxis l p a) (unfold carryAxis in refl)
+      (unfold carryAxis in refl) h)
 
   -- ---- the waiting rotations that are picked are absorbed
 
@@ -172,7 +173,8 @@ module _ (l : ℕ) (operations : List Operation) where
   pub putOutRotation-follows : (X : List (Op W)) (p : Pass) (a k : ℕ) → Pending l operations X p a k → S X (putOutRotation p a k)
   putOutRotation-follows X p a k h =
       subst (λ (Y : List (Op W)). Follows l operations X Y (putOutRotation p a k)) (sym out)
-      (follows-same l operations X (opsOf l operations (p .store .axes) (p .out) ++ (turnAt l operations (p .store .axes) a k ∷ [])) p (putOutRotation p a k)
+      (follows-same l operations X (opsOf l operations (p .store .axes) (p .out) ++ (turnAt l operations (p .store .axes) a k ∷ [])) p
+      (putOutRotation p a k)
       (unfold putOutRotation putOut withLast in refl) (unfold putOutRotation putOut withLast in refl) h)
     where
       out : opsOf l operations (putOutRotation p a k .store .axes) (putOutRotation p a k .out)

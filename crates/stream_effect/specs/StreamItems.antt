@@ -100,12 +100,14 @@ module _ (l : ℕ) (operations : List Operation) where
     rotation-comes : (k : ℕ) → k ≤ 7
         → Pending l operations (X ++ (turnAt l operations (q .store .axes) a k ∷ [])) q (imageId l q a) (withSign (axisImage l q a .turns) k)
     rotation-comes k b =
-        come X q (turnAt l operations (q .store .axes) a k) (turnAt l operations (q .store .axes) (imageId l q a) (withSign (axisImage l q a .turns) k)) h
+        come X q (turnAt l operations (q .store .axes) a k)
+        (turnAt l operations (q .store .axes) (imageId l q a) (withSign (axisImage l q a .turns) k)) h
         (carried-turn l operations q (h .F) (h .holds) (w .stored) a inside (image-put q a id) k b)
 
     barrier-comes : (o s : ℕ) → IsSign s
         → Follows l operations (X ++ (barrierAt l operations (q .store .axes) o a s ∷ []))
-        (opsOf l operations (q .store .axes) (q .out) ++ (barrierAt l operations (q .store .axes) o (imageId l q a) ((axisImage l q a .turns + s) % 4) ∷ [])) q
+        (opsOf l operations (q .store .axes) (q .out) ++
+        (barrierAt l operations (q .store .axes) o (imageId l q a) ((axisImage l q a .turns + s) % 4) ∷ [])) q
     barrier-comes o s i =
         come X q (barrierAt l operations (q .store .axes) o a s)
         (barrierAt l operations (q .store .axes) o (imageId l q a) ((axisImage l q a .turns + s) % 4)) h
@@ -126,7 +128,8 @@ module _ (l : ℕ) (operations : List Operation) where
 
   -- ---- one item is read
 
-  module _ (r : Rules) (merging : Bool) (X : List (Op W)) (p : Pass) (w : Well p) (s : Sound p) (wait : r .absorption ≡ lazy → Waiting l p) (h : S X p) where
+  module _ (r : Rules) (merging : Bool) (X : List (Op W)) (p : Pass) (w : Well p) (s : Sound p) (wait : r .absorption ≡ lazy → Waiting l p)
+      (h : S X p) where
     rotation-follows : (t : Rot) → t .axis < length (p .store .axes) → 0 < t .angle → t .angle ≤ 7
         → S (X ++ (turnAt l operations (p .store .axes) (t .axis) (t .angle) ∷ [])) (streamItem l r merging p (rotation t))
     unfolding streamItem
@@ -139,9 +142,11 @@ module _ (l : ℕ) (operations : List Operation) where
         let small = withSign-turns (axisImage l q (t .axis) .turns) (t .angle) z n in
         subst (λ (x : Op W). S (X ++ (x ∷ [])) (takeRotation l r merging q (imageId l q (t .axis)) k))
         (opOf-grows l operations (p .store .axes) (q .store .axes) (carryRotation-grows m p (t .axis)) (rotation t) (b, tt))
-        (takeRotation-follows l operations (X ++ (turnAt l operations (q .store .axes) (t .axis) (t .angle) ∷ [])) r merging q (imageId l q (t .axis)) k
+        (takeRotation-follows l operations (X ++ (turnAt l operations (q .store .axes) (t .axis) (t .angle) ∷ [])) r merging q
+        (imageId l q (t .axis)) k
         (goes .well) (carryRotation-sound m p (t .axis) s wait) id (small .0) (small .1)
-        (rotation-comes X q (t .axis) (goes .well) (le-trans b (goes .longer)) id (carryRotation-follows l operations X m p (t .axis) w wait h) (t .angle) n))
+        (rotation-comes X q (t .axis) (goes .well) (le-trans b (goes .longer)) id
+        (carryRotation-follows l operations X m p (t .axis) w wait h) (t .angle) n))
 
     barrier-follows : (o a t : ℕ) → a < length (p .store .axes) → IsSign t
         → S (X ++ (barrierAt l operations (p .store .axes) o a t ∷ [])) (streamItem l r merging p (barrier o a t))
@@ -154,7 +159,8 @@ module _ (l : ℕ) (operations : List Operation) where
         let next = carryAxis-well l (Unit {0}) q a (first .well) in
         let d = le-trans b (first .longer) in
         subst (λ (x : Op W). S (X ++ (x ∷ [])) (putOut (barrier o (imageId l c a) ((axisImage l c a .turns + t) % 4)) (withLast clearedLast c)))
-        (opOf-grows l operations (p .store .axes) (c .store .axes) (grows-trans (absorbAllWaiting-grows m p) (carryAxis-grows q a)) (barrier o a t) (b, tt))
+        (opOf-grows l operations (p .store .axes) (c .store .axes) (grows-trans (absorbAllWaiting-grows m p) (carryAxis-grows q a))
+        (barrier o a t) (b, tt))
         (putBarrier-follows (X ++ (barrierAt l operations (c .store .axes) o a t ∷ [])) c o (imageId l c a) ((axisImage l c a .turns + t) % 4)
         (barrier-comes X c a (next .well) (le-trans d (next .longer)) (carried-id l q a d)
         (carryAxis-follows l operations X q a (first .well) (absorbAllWaiting-follows l operations X m p w wait h)) o t i))

@@ -119,7 +119,8 @@ module _ (m : ℕ → ℕ) (law : Measure m) where
   unfolding withStarts
   withStarts-same i k b [] es hs he = tt
   withStarts-same i k b (s ∷ ss) es hs he =
-      every-append (Counts (i + sizeOfRots m b + k)) (withEnds b s es) _ (withEnds-same i k b s es (hs .0) he) (withStarts-same i k b ss es (hs .1) he)
+      every-append (Counts (i + sizeOfRots m b + k)) (withEnds b s es) _ (withEnds-same i k b s es (hs .0) he)
+      (withStarts-same i k b ss es (hs .1) he)
 
   triples-same : (candidates : ℕ) (a b c : List Rot) → Every (Counts (sizeOfRots m a + sizeOfRots m b + sizeOfRots m c)) (triples candidates a b c)
   unfolding triples

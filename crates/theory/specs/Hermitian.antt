@@ -92,7 +92,8 @@ module _ (l : ℕ) (rs : List PauliRef) (vs : List Value) (even : Every (EvenRoo
 -- 9 does not refuse a program whose roots are all even
 pub hermitian-packed : (p : Program) → Hermitian p → packed p .refused ≡ false
 unfolding packed
-hermitian-packed p h = packFrom-even (width (p .qubits)) (roots p) (valuesOf p) h 0 (p .nodes) (emptyPack (p .nodes) (roots p)) (unfold emptyPack in refl)
+hermitian-packed p h =
+    packFrom-even (width (p .qubits)) (roots p) (valuesOf p) h 0 (p .nodes) (emptyPack (p .nodes) (roots p)) (unfold emptyPack in refl)
 
 -- ---- and the others are
 
@@ -132,7 +133,8 @@ accepted-exactly o j s c = (
 -- 10 comes exactly where the limit is smaller than the peak, which does not depend on the limit
 pub limit-exactly : (o : Options) (j : Job) (s : Lent) → checking o j s ≡ Accepted
     → (rewriting o j s .answer ≡ ExpansionLimit) ↔ (limitOf o < runOf o j .peak)
-limit-exactly o j s c = (λ a. over (limitOf o) (runOf o j) (sym (run-answer o j s c) ∙ a), λ h. run-answer o j s c ∙ beyond-answer (limitOf o) (runOf o j) h)
+limit-exactly o j s c =
+    (λ a. over (limitOf o) (runOf o j) (sym (run-answer o j s c) ∙ a), λ h. run-answer o j s c ∙ beyond-answer (limitOf o) (runOf o j) h)
   where
     ends : (e : Ending) → endAnswer e ≡ ExpansionLimit → ⊥
     ends nonHermitian h = let z : _≡_ {A = ℕ} 0 1 = cc in omega arith

@@ -44,11 +44,13 @@ module _ (m : ℕ → ℕ) (law : Measure m) where
 
   module _ (l : ℕ) (axes : List (List ℕ)) where
     joinLayer-no-more : (s : Layers) (r : Rot)
-        → sizeOfLayers (joinLayer l axes s r .done) + sizeOfRots m (joinLayer l axes s r .layer) ≤ sizeOfLayers (s .done) + sizeOfRots m (s .layer) + m
+        → sizeOfLayers (joinLayer l axes s r .done) + sizeOfRots m (joinLayer l axes s r .layer) ≤ sizeOfLayers (s .done) + sizeOfRots m
+        (s .layer) + m
         (r .angle)
     unfolding joinLayer
     joinLayer-no-more s r =
-        by-if (λ (x : Layers). sizeOfLayers (x .done) + sizeOfRots m (x .layer) ≤ sizeOfLayers (s .done) + sizeOfRots m (s .layer) + m (r .angle)) _ _ _
+        by-if (λ (x : Layers). sizeOfLayers (x .done) + sizeOfRots m (x .layer) ≤ sizeOfLayers (s .done) + sizeOfRots m (s .layer) + m
+        (r .angle)) _ _ _
         (omega (arith, mergeInto-no-more (s .layer) r)) (omega (arith, layers-one (s .done) (s .layer), rots-cons m r [], rots-nil m))
 
     joinLayers-no-more : (s : Layers) (rs : List Rot)
@@ -59,11 +61,13 @@ module _ (m : ℕ → ℕ) (law : Measure m) where
     joinLayers-no-more s (r ∷ rs) = omega (arith, joinLayer-no-more s r, joinLayers-no-more (joinLayer l axes s r) rs, rots-cons m r rs)
 
     moveRotation-no-more : (s : Shift) (r : Rot)
-        → sizeOfRots m (moveRotation l axes s r .layer) + sizeOfRots m (moveRotation l axes s r .stay) ≤ sizeOfRots m (s .layer) + sizeOfRots m (s .stay) + m
+        → sizeOfRots m (moveRotation l axes s r .layer) + sizeOfRots m (moveRotation l axes s r .stay) ≤ sizeOfRots m
+        (s .layer) + sizeOfRots m (s .stay) + m
         (r .angle)
     unfolding moveRotation
     moveRotation-no-more s r =
-        by-if (λ (x : Shift). sizeOfRots m (x .layer) + sizeOfRots m (x .stay) ≤ sizeOfRots m (s .layer) + sizeOfRots m (s .stay) + m (r .angle)) _ _ _
+        by-if (λ (x : Shift). sizeOfRots m (x .layer) + sizeOfRots m (x .stay) ≤ sizeOfRots m (s .layer) + sizeOfRots m (s .stay) + m
+        (r .angle)) _ _ _
         (omega (arith, mergeInto-no-more (s .layer) r)) (omega (arith, rots-one m (s .stay) r))
 
     moveRotations-no-more : (s : Shift) (rs : List Rot)
@@ -122,7 +126,8 @@ module _ (m : ℕ → ℕ) (law : Measure m) where
     sweepsFrom-no-more (suc k) false n ls = omega (arith, flatten-same ls)
     sweepsFrom-no-more (suc k) true n ls =
         let s = sweep l axes n ls in
-        omega (arith, sweepsFrom-no-more k (s .moved) (s .merged) (dropZeroLayers (s .layers)), dropZeroLayers-no-more (s .layers), sweep-no-more n ls)
+        omega (arith, sweepsFrom-no-more k (s .moved) (s .merged) (dropZeroLayers (s .layers)), dropZeroLayers-no-more
+        (s .layers), sweep-no-more n ls)
 
     -- layers of a segment
     pub layerSegment-no-more : (rots : List Rot) → sizeOfRots m (layerSegment l axes rots .rots) ≤ sizeOfRots m rots

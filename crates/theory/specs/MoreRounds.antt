@@ -69,7 +69,8 @@ module _ (m : ℕ → ℕ) (law : Measure m) where
   -- the closing stream of the first run is the next round's stream of the second
   mergeRounds-no-more : (l : ℕ) (r : Rules) (k d : ℕ) (w : Work) → NoMore (mergeRounds l r k w) (mergeRounds l r (k + d) w)
   unfolding mergeRounds
-  mergeRounds-no-more l r zero d w = rw zero-add (le-trans (closingStream-no-more l r d _) (le-trans (roundsFrom-no-more l r d true noRound w) (start l r w)))
+  mergeRounds-no-more l r zero d w =
+      rw zero-add (le-trans (closingStream-no-more l r d _) (le-trans (roundsFrom-no-more l r d true noRound w) (start l r w)))
     where
       start : (l : ℕ) (r : Rules) (w : Work) → sizeOf m (w .items) ≤ sizeOf m (closingStream l r zero (roundsFrom l r zero true noRound w) .items)
       start l r w = unfold closingStream roundsFrom in (le-refl _)

@@ -46,7 +46,8 @@ countUses-le : (nodes : List Node) (n : ℕ) (uses : List ℕ) (k : ℕ) → get
 unfolding countUses
 countUses-le nodes zero uses k = le-refl _
 countUses-le nodes (suc n) uses k =
-    le-trans (by-if (λ (x : List ℕ). getD uses k 0 ≤ getD x k 0) _ _ _ (le-refl _) (countChildren-le (getD nodes n identity) uses k)) (countUses-le nodes n _ k)
+    le-trans (by-if (λ (x : List ℕ). getD uses k 0 ≤ getD x k 0) _ _ _ (le-refl _) (countChildren-le (getD nodes n identity) uses k))
+    (countUses-le nodes n _ k)
 
 map-range : (f : ℕ → ℕ) (i n k : ℕ) → k < n → getD (map f (numbersFrom i n)) k 0 ≡ f (k + i)
 unfolding numbersFrom
@@ -128,7 +129,8 @@ unfolding rootsAt keep
 in-rootsAt r [] h = absurd h
 in-rootsAt r (x ∷ xs) h =
     ⊎-elim
-    (λ (e : x ≡ r). rw (if-true _ (keep (λ (y : PauliRef). eqb (y .node) (r .node)) xs) (eq-eqb (x .node) (r .node) (ap (λ (y : PauliRef). y .node) e)))
+    (λ (e : x ≡ r). rw (if-true _ (keep (λ (y : PauliRef). eqb (y .node) (r .node)) xs)
+    (eq-eqb (x .node) (r .node) (ap (λ (y : PauliRef). y .node) e)))
     (inl e))
     (λ (k : In r xs). by-if (In r) _ _ _ (inr (in-rootsAt r xs k)) (in-rootsAt r xs k))
     h
@@ -140,7 +142,8 @@ no-way b e f = absurd (true≢false (sym e ∙ f))
 
 packRoot-refused : (l n : ℕ) (v : Value) (p : Pack) (r : PauliRef) → packRoot l n v p r .refused ≡ false → isOdd (v .turns + r .phase) ≡ false
 unfolding packRoot
-packRoot-refused l n v p r = on-if (λ (q : Pack). q .refused ≡ false → isOdd (v .turns + r .phase) ≡ false) _ _ _ (λ e f. absurd (true≢false f)) (λ e f. e)
+packRoot-refused l n v p r =
+    on-if (λ (q : Pack). q .refused ≡ false → isOdd (v .turns + r .phase) ≡ false) _ _ _ (λ e f. absurd (true≢false f)) (λ e f. e)
 
 packRoots-stays : (l n : ℕ) (v : Value) (p : Pack) (rs : List PauliRef) → packRoots l n v p rs .refused ≡ false → p .refused ≡ false
 unfolding packRoots
@@ -159,14 +162,16 @@ packRoots-grows : (l n : ℕ) (v : Value) (p : Pack) (rs : List PauliRef) → Gr
 unfolding packRoots
 packRoots-grows l n v p [] = grows-refl _
 packRoots-grows l n v p (r ∷ rs) =
-    grows-trans (by-if (λ (q : Pack). Grows (p .store .axes) (q .store .axes)) (p .refused) p (packRoot l n v p r) (grows-refl _) (packRoot-grows l n v p r))
+    grows-trans (by-if (λ (q : Pack). Grows (p .store .axes) (q .store .axes)) (p .refused) p (packRoot l n v p r) (grows-refl _)
+    (packRoot-grows l n v p r))
     (packRoots-grows l n v _ rs)
 
 packRoot-stored : (l n : ℕ) (v : Value) (p : Pack) (r : PauliRef) → packRoot l n v p r .refused ≡ false
     → Stored (packRoot l n v p r .store .axes) (v .word)
 unfolding packRoot useNode
 packRoot-stored l n v p r =
-    on-if (λ (q : Pack). q .refused ≡ false → Stored (q .store .axes) (v .word)) _ _ _ (λ e f. absurd (true≢false f)) (λ e f. id-in l _ (p .store) (v .word))
+    on-if (λ (q : Pack). q .refused ≡ false → Stored (q .store .axes) (v .word)) _ _ _ (λ e f. absurd (true≢false f))
+    (λ e f. id-in l _ (p .store) (v .word))
 
 -- what is known of a root: its word is stored, its total phase is even
 pub record Rooted (axes : List (List ℕ)) (v : Value) (r : PauliRef) : Type 0 where
@@ -197,7 +202,8 @@ packNode-stays : (l : ℕ) (rs : List PauliRef) (vs : List Value) (n : ℕ) (nod
     → p .refused ≡ false
 unfolding packNode
 packNode-stays l rs vs n node p =
-    by-if (λ (q : Pack). q .refused ≡ false → p .refused ≡ false) _ _ _ (λ h. h) (λ h. same (packRoots-stays l n _ (takeSlot l (useChildren node p)) _ h))
+    by-if (λ (q : Pack). q .refused ≡ false → p .refused ≡ false) _ _ _ (λ h. h)
+    (λ h. same (packRoots-stays l n _ (takeSlot l (useChildren node p)) _ h))
   where
     kids : (node : Node) → useChildren node p .refused ≡ p .refused
     kids identity = unfold useChildren in refl
@@ -231,7 +237,8 @@ packNode-grows : (l : ℕ) (rs : List PauliRef) (vs : List Value) (n : ℕ) (nod
 unfolding packNode
 packNode-grows l rs vs n node p =
     by-if (λ (q : Pack). Grows (p .store .axes) (q .store .axes)) _ _ _ (grows-refl _)
-    (grows-trans (grows-eq (takeSlot-axes l (useChildren node p) ∙ useChildren-axes node p)) (packRoots-grows l n _ (takeSlot l (useChildren node p)) _))
+    (grows-trans (grows-eq (takeSlot-axes l (useChildren node p) ∙ useChildren-axes node p))
+    (packRoots-grows l n _ (takeSlot l (useChildren node p)) _))
 
 packFrom-grows : (l : ℕ) (rs : List PauliRef) (vs : List Value) (n : ℕ) (nodes : List Node) (p : Pack)
     → Grows (p .store .axes) (packFrom l rs vs n nodes p .store .axes)

@@ -61,7 +61,8 @@ packRoots-rises l n v p (r ∷ rs) = le-trans (by-if (Packs p) _ _ _ (le-refl _)
 packNode-rises : (l : ℕ) (rs : List PauliRef) (vs : List Value) (n : ℕ) (node : Node) (p : Pack) → Packs p (packNode l rs vs n node p)
 unfolding packNode
 packNode-rises l rs vs n node p =
-    by-if (Packs p) _ _ _ (le-refl _) (le-trans (useChildren-rises node p) (le-trans (takeSlot-rises l (useChildren node p)) (packRoots-rises l n _ _ _)))
+    by-if (Packs p) _ _ _ (le-refl _)
+    (le-trans (useChildren-rises node p) (le-trans (takeSlot-rises l (useChildren node p)) (packRoots-rises l n _ _ _)))
 
 -- packing, from any node on
 pub packFrom-rises : (l : ℕ) (rs : List PauliRef) (vs : List Value) (n : ℕ) (nodes : List Node) (p : Pack) → Packs p (packFrom l rs vs n nodes p)
@@ -193,7 +194,8 @@ closingStream-rises l r (suc k) w = by-if (Works w) _ _ _ (streamPass-rises l r 
 pub litinskiFrom-rises : (l : ℕ) (r : Rules) (k : ℕ) (w : Work) → Works w (litinskiFrom l r k w)
 unfolding litinskiFrom layeringPass
 litinskiFrom-rises l r zero w = le-refl _
-litinskiFrom-rises l r (suc k) w = by-if (Works w) _ _ _ (le-refl _) (le-trans (streamPass-rises l r false (layeringPass l w)) (litinskiFrom-rises l r k _))
+litinskiFrom-rises l r (suc k) w =
+    by-if (Works w) _ _ _ (le-refl _) (le-trans (streamPass-rises l r false (layeringPass l w)) (litinskiFrom-rises l r k _))
 
 -- all passes
 pub passes-rises : (s : Strategy) (l : ℕ) (r : Rules) (k : ℕ) (w : Work) → Works w (passes s l r k w)

@@ -117,7 +117,8 @@ module _ (P : ℕ → Type 0) where
     tryExchanges-has : (t : Triple) → TripleHas t → SwapHas (tryExchanges l axes eager t)
     unfolding tryExchanges
     tryExchanges-has t k =
-        orElse-has (tryExchange l axes eager t (t .a) (t .b) (t .b ++ (t .a ++ t .c))) (tryExchange l axes eager t (t .b) (t .c) (t .a ++ (t .c ++ t .b)))
+        orElse-has (tryExchange l axes eager t (t .a) (t .b) (t .b ++ (t .a ++ t .c)))
+        (tryExchange l axes eager t (t .b) (t .c) (t .a ++ (t .c ++ t .b)))
         (tryExchange-has t _ _ _ k (every-append Has (t .b) (t .a ++ t .c) (k .2) (every-append Has (t .a) (t .c) (k .1) (k .3))))
         (tryExchange-has t _ _ _ k (every-append Has (t .a) (t .c ++ t .b) (k .1) (every-append Has (t .c) (t .b) (k .3) (k .2))))
 
@@ -210,7 +211,8 @@ module _ (P : ℕ → Type 0) where
 
     moveRotation-has : (s : Shift) (r : Rot) → ShiftHas s → Has r → ShiftHas (moveRotation l axes s r)
     unfolding moveRotation
-    moveRotation-has s r h k = by-if ShiftHas _ _ _ (mergeInto-has (s .layer) r (h .0) k, h .1) (h .0, every-append Has (s .stay) (r ∷ []) (h .1) (k, tt))
+    moveRotation-has s r h k =
+        by-if ShiftHas _ _ _ (mergeInto-has (s .layer) r (h .0) k, h .1) (h .0, every-append Has (s .stay) (r ∷ []) (h .1) (k, tt))
 
     moveRotations-has : (s : Shift) (rs : List Rot) → ShiftHas s → AllHave rs → ShiftHas (moveRotations l axes s rs)
     unfolding moveRotations
@@ -276,7 +278,8 @@ module _ (P : ℕ → Type 0) where
         → Every ItemHas (rewriteFrom f done seg c is .items)
     unfolding rewriteFrom
     rewriteFrom-in done seg c [] h k g = endSegment-in done seg h k
-    rewriteFrom-in done seg c (rotation r ∷ is) h k g = rewriteFrom-in done (seg ++ (r ∷ [])) c is h (every-append Has seg (r ∷ []) k (g .0, tt)) (g .1)
+    rewriteFrom-in done seg c (rotation r ∷ is) h k g =
+        rewriteFrom-in done (seg ++ (r ∷ [])) c is h (every-append Has seg (r ∷ []) k (g .0, tt)) (g .1)
     rewriteFrom-in done seg c (barrier o a s ∷ is) h k g =
         rewriteFrom-in (endSegment f done seg ++ (barrier o a s ∷ [])) [] (c + f seg .changes) is
         (every-append ItemHas (endSegment f done seg) (barrier o a s ∷ []) (endSegment-in done seg h k) (g .0, tt)) tt (g .1)

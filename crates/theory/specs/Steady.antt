@@ -109,7 +109,8 @@ litinskiFrom-steady l r (suc k) w h =
 pub passes-steady : (s : Strategy) (l : ℕ) (r : Rules) (k : ℕ) (w : Work) → InRange w → Steady w (passes s l r k w)
 unfolding passes mergeRounds litinskiRounds
 passes-steady Merge l r k w h =
-    steady-trans w (roundsFrom l r k true noRound w) _ (roundsFrom-steady l r k true noRound w h) (closingStream-steady l r k (roundsFrom l r k true noRound w))
+    steady-trans w (roundsFrom l r k true noRound w) _ (roundsFrom-steady l r k true noRound w h)
+    (closingStream-steady l r k (roundsFrom l r k true noRound w))
 passes-steady Litinski l r zero w h = steady-refl w h
 passes-steady Litinski l r (suc k) w h =
     steady-trans w (streamPass l r false w) _ (streamPass-steady l r false w h) (litinskiFrom-steady l r (suc k) (streamPass l r false w))

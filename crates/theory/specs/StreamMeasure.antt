@@ -55,7 +55,8 @@ module _ (m : ℕ → ℕ) (law : Measure m) where
     absorbWaiting-adds : (picks : ℕ → Bool) (p : Pass) (j : ℕ) (is : List Item) → Adds 0 p (absorbWaiting l picks p j is)
     unfolding absorbWaiting
     absorbWaiting-adds picks p j [] = adds-zero p
-    absorbWaiting-adds picks p j (i ∷ is) = omega (arith, absorbWaitingAt-adds picks p j i, absorbWaiting-adds picks (absorbWaitingAt l picks p j i) (suc j) is)
+    absorbWaiting-adds picks p j (i ∷ is) =
+        omega (arith, absorbWaitingAt-adds picks p j i, absorbWaiting-adds picks (absorbWaitingAt l picks p j i) (suc j) is)
 
     absorbAllWaiting-adds : (when : Absorption) (p : Pass) → Adds 0 p (absorbAllWaiting l when p)
     unfolding absorbAllWaiting
@@ -120,7 +121,8 @@ module _ (m : ℕ → ℕ) (law : Measure m) where
           arith,
           absorbAllWaiting-adds (r .absorption) p,
           carryAxis-adds q a,
-          putOut-adds (withLast clearedLast (carryAxis l q a)) (barrier o (imageId l (carryAxis l q a) a) ((axisImage l (carryAxis l q a) a .turns + s) % 4)),
+          putOut-adds (withLast clearedLast (carryAxis l q a))
+          (barrier o (imageId l (carryAxis l q a) a) ((axisImage l (carryAxis l q a) a .turns + s) % 4)),
         )
 
     -- a stream puts out at most what it reads

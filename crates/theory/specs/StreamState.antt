@@ -168,7 +168,9 @@ module _ (l : ℕ) where
   absorb-axes p a k = touchAll-axes l _ _
 
   absorb-kept : (p : Pass) (a k : ℕ) → Sound p → Kept p (absorb l p a k)
-  absorb-kept p a k s = record { sound = grown p (absorb l p a k) s (grows-eq (absorb-axes p a k)) out last; shaped = out; grow = grows-eq (absorb-axes p a k) }
+  absorb-kept p a k s =
+      record { sound = grown p (absorb l p a k) s (grows-eq (absorb-axes p a k)) out last; shaped = out; grow = grows-eq
+      (absorb-axes p a k) }
     where
       out : withoutAngles (absorb l p a k .out) ≡ withoutAngles (p .out)
       out = unfold absorb in refl
@@ -204,7 +206,8 @@ module _ (l : ℕ) where
   absorbWaiting-kept picks p j (i ∷ is) s h =
       let d = drop-head (withoutAngles (p .out)) j (withoutAngle i) outside (withoutAngles is) (h ∙ withoutAngles-cons i is) in
       let k = absorbWaitingAt-kept picks p j i s (d .0) in
-      kept-trans p (absorbWaitingAt l picks p j i) _ k (λ t. absorbWaiting-kept picks (absorbWaitingAt l picks p j i) (suc j) is t (rw (k .shaped) (d .1)))
+      kept-trans p (absorbWaitingAt l picks p j i) _ k
+      (λ t. absorbWaiting-kept picks (absorbWaitingAt l picks p j i) (suc j) is t (rw (k .shaped) (d .1)))
 
   absorbAllWaiting-kept : (m : Absorption) (p : Pass) → Sound p → Kept p (absorbAllWaiting l m p)
   unfolding absorbAllWaiting
@@ -302,7 +305,8 @@ module _ (l : ℕ) where
     sound = record {
       ids = rw out (allIn-one _ (withoutAngles (p .out)) (rotation (rot a 0)) (s .ids) h);
       names =
-          λ b j. on-if (λ (x : Place). x ≡ at j → Names (withoutAngles (p .out ++ (rotation (rot a k) ∷ []))) b j) (eqb b a) (at (length (p .out))) (p .last b)
+          λ b j. on-if (λ (x : Place). x ≡ at j → Names (withoutAngles (p .out ++ (rotation (rot a k) ∷ []))) b j) (eqb b a)
+          (at (length (p .out))) (p .last b)
           (λ e f. new b j (eqb-true b a e) f) (λ e f. rw out (names-one (withoutAngles (p .out)) (rot a 0) b j (s .names b j f)));
     };
     grow = grows-refl _;
@@ -326,7 +330,8 @@ module _ (l : ℕ) where
     where
       angled : getD (withoutAngles (p .out)) j outside ≡ rotation (rot a 0) → Kept p (setAngle j a k p)
       angled own =
-          let e : withoutAngles (setAngle j a k p .out) ≡ withoutAngles (p .out) = unfold setAngle in (withoutAngles-set (p .out) j (rotation (rot a k)) own) in
+          let e : withoutAngles (setAngle j a k p .out) ≡ withoutAngles (p .out) = unfold setAngle in
+              (withoutAngles-set (p .out) j (rotation (rot a k)) own) in
           record {
             sound = grown p (setAngle j a k p) s (unfold setAngle in (grows-refl _)) e (unfold setAngle in refl);
             shaped = e;
@@ -345,7 +350,8 @@ module _ (l : ℕ) where
   mergeOrPutOut-stepped r p a k (at j) s h f =
       by-if (Stepped [] p) _ _ _
       (after-kept [] p (countMerge p) _ (countMerge-kept p s)
-      (kept-stepped (countMerge p) _ (mergeAt-kept (r .absorption) (countMerge p) j a _ (countMerge-kept p s .sound) (unfold countMerge in (f j refl)))))
+      (kept-stepped (countMerge p) _
+      (mergeAt-kept (r .absorption) (countMerge p) j a _ (countMerge-kept p s .sound) (unfold countMerge in (f j refl)))))
       (putOutRotation-stepped p a k s h)
 
   takeRotation-stepped : (r : Rules) (merging : Bool) (p : Pass) (a k : ℕ) → Sound p → a < length (p .store .axes)
@@ -392,7 +398,8 @@ module _ (l : ℕ) where
   pub stream-stepped : (r : Rules) (merging : Bool) (p : Pass) (is : List Item) → Sound p → AllIn (length (p .store .axes)) is
       → Stepped (barriersOf is) p (stream l r merging p is)
   unfolding stream
-  stream-stepped r merging p [] s h = unfold barriersOf in (kept-stepped p (absorbAllWaiting l (r .absorption) p) (absorbAllWaiting-kept l (r .absorption) p s))
+  stream-stepped r merging p [] s h =
+      unfold barriersOf in (kept-stepped p (absorbAllWaiting l (r .absorption) p) (absorbAllWaiting-kept l (r .absorption) p s))
   stream-stepped r merging p (i ∷ is) s h =
       let a = streamItem-stepped r merging p i s (h .0) in
       let q = streamItem l r merging p i in
@@ -401,7 +408,8 @@ module _ (l : ℕ) where
         sound = b .sound;
         grow = grows-trans (a .grow) (b .grow);
         barriers =
-            b .barriers ∙ ap (λ (x : List ℕ). x ++ barriersOf is) (a .barriers) ∙ append-assoc (barriersOf (p .out)) (barriersOf (i ∷ [])) (barriersOf is)
+            b .barriers ∙ ap (λ (x : List ℕ). x ++ barriersOf is) (a .barriers) ∙ append-assoc (barriersOf (p .out)) (barriersOf (i ∷ []))
+            (barriersOf is)
             ∙ ap (λ (x : List ℕ). barriersOf (p .out) ++ x) (sym (barriersOf-append (i ∷ []) is));
       }
 
@@ -463,4 +471,5 @@ unfolding streamPass dropZeros
 streamPass-range l r merging w h =
     let q = stream l r merging (begin (w .store)) (w .items) in
     let t = stream-stepped l r merging (begin (w .store)) (w .items) (begin-sound (w .store)) (unfold begin in h) in
-    allIn-more _ _ (keep stays (q .out)) (carryRows-grows l q (w .rows) .longer) (allIn-keep _ stays (q .out) (allIn-shapes _ (q .out) (t .sound .ids)))
+    allIn-more _ _ (keep stays (q .out)) (carryRows-grows l q (w .rows) .longer)
+    (allIn-keep _ stays (q .out) (allIn-shapes _ (q .out) (t .sound .ids)))

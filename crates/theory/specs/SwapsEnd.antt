@@ -158,6 +158,7 @@ module _ (l : ℕ) (axes : List (List ℕ)) (window candidates : ℕ) (eager : B
       go : (t : Bool) → stop s ≡ t
           → (length (next .rest) ≤ k → length (next .rest) ≤ k′
           → swapsFrom l axes window candidates eager k next ≡ swapsFrom l axes window candidates eager k′ next)
-          → (if stop s then s else swapsFrom l axes window candidates eager k next) ≡ (if stop s then s else swapsFrom l axes window candidates eager k′ next)
+          → (if stop s then s else swapsFrom l axes window candidates eager k next) ≡
+          (if stop s then s else swapsFrom l axes window candidates eager k′ next)
       go true e ih = if-true _ _ e ∙ sym (if-true _ _ e)
       go false e ih = if-false _ _ e ∙ ih (omega (arith, swapStep-less s e)) (omega (arith, swapStep-less s e)) ∙ sym (if-false _ _ e)

@@ -17,7 +17,8 @@ le-lt h g = omega arith
 mergeInto-length : (layer : List Rot) (r : Rot) → length (mergeInto layer r) ≤ suc (length layer)
 unfolding mergeInto
 mergeInto-length [] r = le-refl _
-mergeInto-length (x ∷ layer) r = by-if (λ (y : List Rot). length y ≤ suc (suc (length layer))) _ _ _ (omega arith) (omega (arith, mergeInto-length layer r))
+mergeInto-length (x ∷ layer) r =
+    by-if (λ (y : List Rot). length y ≤ suc (suc (length layer))) _ _ _ (omega arith) (omega (arith, mergeInto-length layer r))
 
 -- k rotations were looked at: none is lost or made, and fewer stay if one moved
 record Fell (s q : Shift) (k : ℕ) : Type 0 where

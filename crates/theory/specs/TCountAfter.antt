@@ -102,5 +102,6 @@ module _ (p : Program) (small : (o : ℕ) → operationAt (p .operations) o .ang
 
   -- with more rounds a result's T-count is no higher
   pub more-rounds-after : (k k′ : ℕ) → k ≤ k′
-      → resultTCount (operationResults p (passes s (width (p .qubits)) r k′ w)) ≤ resultTCount (operationResults p (passes s (width (p .qubits)) r k w))
+      → resultTCount (operationResults p (passes s (width (p .qubits)) r k′ w)) ≤ resultTCount
+      (operationResults p (passes s (width (p .qubits)) r k w))
   more-rounds-after k k′ h = omega (arith, after k, after k′, more-rounds-t-count s (width (p .qubits)) r k k′ w h)

@@ -37,7 +37,8 @@ module _ (l : ℕ) (Angles : Type 0) (t : Touched) (images : HeldImages l Angles
         (ap (multiply l (absorbImage l b k u)) (absorbWord-letter l t b k q c (act .0 .0) (acts-letter l w q (act .0 .1)))
         ∙ sym (absorbImage-multiply l b k quarters u v long))
         ∙ multiplyImages-absorbed (multiply l u v) qs
-        (unfold multiply in (xorWords-word l (u .word) (v .word) h (letterImage-signed l Angles (t .held) q c (images .each) (act .0 .0) .word))) (act .1)
+        (unfold multiply in (xorWords-word l (u .word) (v .word) h
+        (letterImage-signed l Angles (t .held) q c (images .each) (act .0 .0) .word))) (act .1)
 
     -- the image of a word changes as the held images do
     pub wordImage-absorbed : wordImage l (absorbWord l t b k .held) w ≡ absorbImage l b k (wordImage l (t .held) w)
@@ -76,7 +77,8 @@ module _ (l : ℕ) (x : List ℕ) (q c : ℕ) (inside : q < 64 * l) where
   more-here free small = letter-xor l x (single l q c) q ∙ ap₂ letterMul free (single-letter l q c inside small)
 
   more-multiply : IsWord l x → letterAt l x q ≡ 0 → multiply l (asValue x) (asValue (single l q c)) ≡ asValue (xorWords x (single l q c))
-  more-multiply h free = multiply-plain l x (single l q c) (apart-phase l x (single l q c) h (λ i k. apart i k (ℕ-discrete i q)) (single-word l q c inside))
+  more-multiply h free =
+      multiply-plain l x (single l q c) (apart-phase l x (single l q c) h (λ i k. apart i k (ℕ-discrete i q)) (single-word l q c inside))
     where
       apart : (i : ℕ) → i < 64 * l → Dec (i ≡ q) → (letterAt l x i ≡ 0) ⊎ (letterAt l (single l q c) i ≡ 0)
       apart i k (yes f) = inl (rw f free)
@@ -171,7 +173,8 @@ module _ (l : ℕ) (Angles : Type 0) (held : List Images) (images : HeldImages l
       → symplectic l (u .word) (wordImage l held w .word) ≡ symplectic l (v .word) (wordImage l [] w .word)
   unfolding wordImage
   image-symplectic w u v h hu hv =
-      alike-symplectic w u v (asValue (identity l)) (asValue (identity l)) (support l w) (acted w) h (against (u .word) hu ∙ sym (against (v .word) hv))
+      alike-symplectic w u v (asValue (identity l)) (asValue (identity l)) (support l w) (acted w) h
+      (against (u .word) hu ∙ sym (against (v .word) hv))
     where
       against : (x : List ℕ) → IsWord l x → symplectic l x (identity l) ≡ 0
       against x k = symplectic-comm l x (identity l) ∙ symplectic-identity l x (k .long)
@@ -180,5 +183,6 @@ module _ (l : ℕ) (Angles : Type 0) (held : List Images) (images : HeldImages l
   pub wordImage-symplectic : (v w : List ℕ) → IsWord l v → IsWord l w
       → symplectic l (wordImage l held v .word) (wordImage l held w .word) ≡ symplectic l v w
   wordImage-symplectic v w hv hw =
-      image-symplectic w (wordImage l held v) (wordImage l [] v) (image-alike v) (wordImage-signed l Angles held images v .word) (rw (wordImage-none l v hv) hv)
+      image-symplectic w (wordImage l held v) (wordImage l [] v) (image-alike v) (wordImage-signed l Angles held images v .word)
+      (rw (wordImage-none l v hv) hv)
       ∙ ap₂ (λ (x y : Value). symplectic l (x .word) (y .word)) (wordImage-none l v hv) (wordImage-none l w hw)

@@ -182,7 +182,8 @@ module _ (l : ℕ) (b : List ℕ) (k : ℕ) (quarters : IsQuarters k) where
 
         go : (x : Bool) → anticommutes l b (u .word) ≡ x → (y : Bool) → anticommutes l b (v .word) ≡ y → (z : Bool) → eqb k 4 ≡ z
             → absorbImage l b k (multiply l u v) ≡ multiply l (absorbImage l b k u) (absorbImage l b k v)
-        go false e false f z g = stays (multiply l u v) (product 0 0 (none u e) (none v f)) ∙ sym (ap₂ (multiply l) (stays u (none u e)) (stays v (none v f)))
+        go false e false f z g =
+            stays (multiply l u v) (product 0 0 (none u e) (none v f)) ∙ sym (ap₂ (multiply l) (stays u (none u e)) (stays v (none v f)))
         go true e false f true g =
             absorbs-opposite (multiply l u v) (moves (product 1 0 (one u e) (none v f))) g ∙ left-opposite
             ∙ sym (ap₂ (multiply l) (absorbs-opposite u e g) (stays v (none v f)))
@@ -196,7 +197,8 @@ module _ (l : ℕ) (b : List ℕ) (k : ℕ) (quarters : IsQuarters k) where
             absorbs-turned (multiply l u v) (moves (product 0 1 (none u e) (one v f))) g ∙ right-turned (none u e)
             ∙ sym (ap₂ (multiply l) (stays u (none u e)) (absorbs-turned v f g))
         go true e true f true g =
-            stays (multiply l u v) (product 1 1 (one u e) (one v f)) ∙ both-opposite ∙ sym (ap₂ (multiply l) (absorbs-opposite u e g) (absorbs-opposite v f g))
+            stays (multiply l u v) (product 1 1 (one u e) (one v f)) ∙ both-opposite ∙ sym
+            (ap₂ (multiply l) (absorbs-opposite u e g) (absorbs-opposite v f g))
         go true e true f false g =
             stays (multiply l u v) (product 1 1 (one u e) (one v f)) ∙ both-turned (one u e) (eqb-false k 4 g)
             ∙ sym (ap₂ (multiply l) (absorbs-turned u e g) (absorbs-turned v f g))

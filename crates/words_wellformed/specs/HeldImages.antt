@@ -151,7 +151,9 @@ module _ (l : ℕ) (b : List ℕ) (k : ℕ) where
         (λ e. on-if (SignedWord l Angles) (eqb k 4) _ _ (λ f. opposite) (λ f. turned-signed p s (flip _ e) (eqb-false k 4 f)))
       where
         opposite : SignedWord l Angles (scaled 2 p)
-        opposite = unfold scaled in (record { word = s .word; sign = λ g. sign-add (p .turns) 2 (s .sign g) (record { below = omega arith; even = refl }) })
+        opposite =
+            unfold scaled in (record
+            { word = s .word; sign = λ g. sign-add (p .turns) 2 (s .sign g) (record { below = omega arith; even = refl }) })
 
         flip : (t : Bool) → not t ≡ false → t ≡ true
         flip true e = refl

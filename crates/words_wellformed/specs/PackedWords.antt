@@ -99,7 +99,8 @@ module _ (l : ℕ) where
     packFrom-stored : (n : ℕ) (nodes : List Node) (p : Pack) → n + length nodes ≤ length vs → Packed p → Packed (packFrom l rs vs n nodes p)
     unfolding packFrom
     packFrom-stored n [] p b s = s
-    packFrom-stored n (node ∷ rest) p b s = packFrom-stored (suc n) rest (packNode l rs vs n node p) (omega arith) (packNode-stored n node p (omega arith) s)
+    packFrom-stored n (node ∷ rest) p b s =
+        packFrom-stored (suc n) rest (packNode l rs vs n node p) (omega arith) (packNode-stored n node p (omega arith) s)
 
 -- packing stores words, each once: also where it ends with 9
 pub packed-stored : (p : Program) → Fine p → StoredWords (width (p .qubits)) (packed p .store .axes)

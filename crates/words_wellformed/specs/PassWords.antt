@@ -195,7 +195,8 @@ module _ (l : ℕ) (Angles : Type 0) where
       let q = absorbWaitingAt l picks p j i in
       let g = absorbWaitingAt-well picks p j i w (h .0) in
       goes-trans p q _ g (λ v. absorbWaiting-well picks q (suc j) is v
-      (every-weaken (WellPut Angles (length (p .store .axes))) (WellPut Angles (length (q .store .axes))) (put-more Angles _ _ (g .longer)) is (h .1)))
+      (every-weaken (WellPut Angles (length (p .store .axes))) (WellPut Angles (length (q .store .axes)))
+      (put-more Angles _ _ (g .longer)) is (h .1)))
 
   -- "all are absorbed at a barrier or the end"
   pub absorbAllWaiting-well : (m : Absorption) (p : Pass) → Well p → Goes p (absorbAllWaiting l m p)

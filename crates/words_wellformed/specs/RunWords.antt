@@ -162,7 +162,9 @@ module _ (l : ℕ) (r : Rules) (Angles : Type 0) (stay : Angles → AnglesStay l
   }
     where
       before : Every (InPlace Angles (length (w .store .axes))) (w .items)
-      before = every-weaken (WellItem Angles (length (w .store .axes))) (InPlace Angles (length (w .store .axes))) (item-place Angles _) (w .items) (h .items)
+      before =
+          every-weaken (WellItem Angles (length (w .store .axes))) (InPlace Angles (length (w .store .axes))) (item-place Angles _)
+          (w .items) (h .items)
 
       placed : Every (InPlace Angles (length (exchangePass l r w .store .axes))) (exchangePass l r w .items)
       placed =
@@ -181,7 +183,8 @@ module _ (l : ℕ) (r : Rules) (Angles : Type 0) (stay : Angles → AnglesStay l
       placed : Every (InPlace Angles (length (layeringPass l w .store .axes))) (layeringPass l w .items)
       placed =
           unfold layeringPass in (rewriteSegments-placed Angles _ (layerSegment l (w .store .axes)) (layerSegment-has _ l (w .store .axes)) (w .items)
-          (every-weaken (WellItem Angles (length (w .store .axes))) (InPlace Angles (length (w .store .axes))) (item-place Angles _) (w .items) (h .items)))
+          (every-weaken (WellItem Angles (length (w .store .axes))) (InPlace Angles (length (w .store .axes))) (item-place Angles _)
+          (w .items) (h .items)))
 
   -- ---- rounds
 
@@ -191,7 +194,8 @@ module _ (l : ℕ) (r : Rules) (Angles : Type 0) (stay : Angles → AnglesStay l
   roundsFrom-well zero going before w h = h
   roundsFrom-well (suc k) false before w h = h
   roundsFrom-well (suc k) true before w h =
-      roundsFrom-well k _ _ (exchangePass l r (streamPass l r true w)) (exchangePass-well (streamPass l r true w) (streamPass-well l Angles r true w h))
+      roundsFrom-well k _ _ (exchangePass l r (streamPass l r true w))
+      (exchangePass-well (streamPass l r true w) (streamPass-well l Angles r true w h))
 
   closingStream-well : (k : ℕ) (w : Work) → WellWork l Angles w → WellWork l Angles (closingStream l r k w)
   unfolding closingStream
@@ -203,7 +207,8 @@ module _ (l : ℕ) (r : Rules) (Angles : Type 0) (stay : Angles → AnglesStay l
   litinskiFrom-well zero w h = h
   litinskiFrom-well (suc k) w h =
       let v = layeringPass-well w h in
-      by-if (WellWork l Angles) _ _ _ v (litinskiFrom-well k (streamPass l r false (layeringPass l w)) (streamPass-well l Angles r false (layeringPass l w) v))
+      by-if (WellWork l Angles) _ _ _ v
+      (litinskiFrom-well k (streamPass l r false (layeringPass l w)) (streamPass-well l Angles r false (layeringPass l w) v))
 
   -- by both strategies
   pub passes-well : (s : Strategy) (rounds : ℕ) (w : Work) → WellWork l Angles w → WellWork l Angles (passes s l r rounds w)

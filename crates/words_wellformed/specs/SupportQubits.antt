@@ -97,7 +97,8 @@ setBits-rising zero q n = omega arith
 setBits-rising (suc k) q zero = omega arith
 setBits-rising (suc k) q (suc n) =
     let rest = subst (λ (hi : ℕ). Rising (suc q) hi (setBits k (suc q) (suc n / 2))) (end q k) (setBits-rising k (suc q) (suc n / 2)) in
-    by-if (Rising q (q + suc k)) (isOdd (suc n)) _ _ (omega arith, rest) (rising-from (suc q) q (q + suc k) (setBits k (suc q) (suc n / 2)) (omega arith) rest)
+    by-if (Rising q (q + suc k)) (isOdd (suc n)) _ _ (omega arith, rest)
+    (rising-from (suc q) q (q + suc k) (setBits k (suc q) (suc n / 2)) (omega arith) rest)
   where
     end : (q k : ℕ) → suc q + k ≡ q + suc k
     end q k = omega arith

@@ -29,7 +29,10 @@ returns-2 c =
     (c .before .before .check-operations .ensures) (λ h. c .if2 .taken (c .before .number-of2 .ensures ∙ h))
 
 mul-check-rows : tie.Need-mul-check-rows
-mul-check-rows c = let p = c .before .before .before .before .before .before .before .before .before .before .pre in let f = counts-fit _ (p .0) in omega arith
+mul-check-rows c =
+    let p = c .before .before .before .before .before .before .before .before .before .before .pre in
+    let f = counts-fit _ (p .0) in
+    omega arith
 
 check-rows-requires : tie.Need-check-rows-requires
 check-rows-requires c κs =

@@ -11,7 +11,10 @@ width-requires : tie.Need-width-requires
 width-requires c κs = search needs
 
 add-asked : tie.Need-add-asked
-add-asked c = let p = c .before .before .before .before .before .before .pre in let b = bounds _ _ _ (p .0) (p .1) (c .before .width .ensures) in omega arith
+add-asked c =
+    let p = c .before .before .before .before .before .before .pre in
+    let b = bounds _ _ _ (p .0) (p .1) (c .before .width .ensures) in
+    omega arith
 
 mul-asked : tie.Need-mul-asked
 mul-asked c =

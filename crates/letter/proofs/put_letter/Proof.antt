@@ -66,7 +66,8 @@ same-length c = search needs
 returns : tie.Need-returns
 returns c =
     let s = c .before .before .before .before .before .before .before in
-    put-letter _ _ _ _ _ _ _ _ (s .pre .0) (s .pre .1) (c .before .before .before .before .zero-words .ensures) (c .before .has-x .ensures) (c .has-z .ensures)
+    put-letter _ _ _ _ _ _ _ _ (s .pre .0) (s .pre .1) (c .before .before .before .before .zero-words .ensures) (c .before .has-x .ensures)
+    (c .has-z .ensures)
 
 pub put-letter-spec : {M : Type 1} → statement M
 put-letter-spec =

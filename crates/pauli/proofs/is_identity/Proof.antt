@@ -32,7 +32,8 @@ returns : tie.Need-returns Inv-loop μ-loop
 unfolding isIdentity
 returns c =
     let s = c .before .before .before in
-    sym (same-false _ _ (λ e. c .if1 .taken (ap (λ (t : List ℕ). getD t (s .loop .k) 0) e ∙ zeros-at (length (s .before .args .p .now)) (s .loop .k))))
+    sym (same-false _ _ (λ e. c .if1 .taken
+    (ap (λ (t : List ℕ). getD t (s .loop .k) 0) e ∙ zeros-at (length (s .before .args .p .now)) (s .loop .k))))
 
 add-k : tie.Need-add-k Inv-loop μ-loop
 add-k c = search needs

@@ -22,7 +22,8 @@ slice-aggregate-product-in : tie.Need-slice-aggregate-product-in
 slice-aggregate-product-in c = search needs
 
 product-in-requires : tie.Need-product-in-requires
-product-in-requires c κs = record { p-in = search needs; q-in = search needs; o-in = search needs; p-clear = inl refl; q-clear = inr (inl (omega arith)) }
+product-in-requires c κs =
+    record { p-in = search needs; q-in = search needs; o-in = search needs; p-clear = inl refl; q-clear = inr (inl (omega arith)) }
 
 array-read-t14 : tie.Need-array-read-t14
 array-read-t14 c = search needs
