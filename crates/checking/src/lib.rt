@@ -60,7 +60,8 @@ fn lent_short(
     rows: &[u32],
 ) -> bool
     requires { ⌜ (badCount c ≡ false) × (badOption o ≡ false) ⌝ }
-    ensures { λ r. ⌜ r ≡ lentShort c (lentOf (now (words .entry)) (now (numbers .entry)) (now (operations .entry)) (now (rows .entry))) (o .«max_packed_words») ⌝ }
+    ensures { λ r. ⌜ r ≡ lentShort c
+        (lentOf (now (words .entry)) (now (numbers .entry)) (now (operations .entry)) (now (rows .entry))) (o .«max_packed_words») ⌝ }
 {
     let l = pauli::width(c.qubits);
     let limit = o.max_packed_words;

@@ -205,8 +205,11 @@ module _ (l : ℕ) where
     letters-product (suc n) b =
         ap (walk step (q0, one l)) (numbers-last n) ∙ walk-append step (q0, one l) (numbersFrom 0 n) (n ∷ [])
         ∙ ap (λ v. step v n) (letters-product n (omega arith))
-        ∙ (λ i. (quarter (next-letter l (letterAt l w) n (omega arith) i), packed-ext l (mul l (prefix n) (letterWord n (letterAt l w n)))
-        (prefix (suc n)) refl i))
+        ∙ (λ i. (
+          quarter (next-letter l (letterAt l w) n (omega arith) i),
+          packed-ext l (mul l (prefix n) (letterWord n (letterAt l w n)))
+              (prefix (suc n)) refl i,
+        ))
       where
         step : Quarter × Packed l → ℕ → Quarter × Packed l
         step = withLetter (λ P. (q0, P))
@@ -263,7 +266,7 @@ module _ (l : ℕ) where
       )
       at q (suc c) b d e = (
         λ z v. ap (multiply l (valueOf l v)) (k .letters q (letterAt l w q) b (subst Letter (sym e) (letter-of (suc c) (omega arith) d)))
-        ∙ times-value v _,
+            ∙ times-value v _,
         λ z. absurd (omega arith),
       )
 

@@ -81,8 +81,11 @@ module _ (l : ℕ) where
   unfolding touch
   touch-absent t p q =
       on-if (λ (x : Touched). isHeld q (x .held) ≡ false → (isHeld q (t .held) ≡ false) × (p ≡ q → ⊥)) (isHeld p (t .held)) t _
-      (λ e h. (h, λ s. let z : _≡_ {A = Bool} true false = sym e ∙ ap (λ (n : ℕ). isHeld n (t .held)) s ∙ h in let n : _≡_
-      {A = ℕ} 0 1 = cc in omega arith))
+      (λ e h. (
+        h,
+        λ s. let z : _≡_ {A = Bool} true false = sym e ∙ ap (λ (n : ℕ). isHeld n (t .held)) s ∙ h in let n : _≡_
+            {A = ℕ} 0 1 = cc in omega arith,
+      ))
       (λ e h. let r = held-append q (t .held) (ownImages l p) h in (r .0, eqb-false p q (unfold ownImages in (r .1))))
 
   touchAll-absent : (t : Touched) (qs : List ℕ) (q : ℕ) → isHeld q (touchAll l t qs .held) ≡ false → (isHeld q (t .held) ≡ false) × Absent q qs

@@ -88,7 +88,7 @@ place-more l s₀ p q o s e cross j v pre a h hv =
     let qz = z-read l s₀ p q o s e cross j pre a h q (pre .q-clear) in
     let x : bitXor (getD s (p + j) 0) (getD s (q + j) 0) ≡ getD (xorWords P Q) j 0 = ap₂ bitXor px qx ∙ sym (xorWords-at P Q j) in
     let z : bitXor (getD s (p + (l + j)) 0) (getD s (q + (l + j)) 0) ≡ getD (xorWords P Q) (l + j) 0 = ap₂ bitXor pz qz ∙ sym
-        (xorWords-at P Q (l + j)) in
+    (xorWords-at P Q (l + j)) in
     let next = laid-more s₀ s o l (xorWords P Q) j (a .laid) (pre .o-in) h _ _ x z in
     record {
       le = omega arith;

@@ -314,8 +314,14 @@ itemOf-turns axes o rotate f k b =
     on-if (Every TurnsItem) (eqb (withSign (f .sign) k) 0 || isIdentity (wordOf axes (f .axis))) []
     (rotation (rot (f .axis) (withSign (f .sign) k)) ∷ [])
     (λ e. tt)
-    (λ e. ((let n = eqb-false (withSign (f .sign) k) 0 (or-left _ (isIdentity (wordOf axes (f .axis))) e) in omega arith, withSign-small
-    (f .sign) k b), tt))
+    (λ e. (
+      (
+        let n = eqb-false (withSign (f .sign) k) 0 (or-left _ (isIdentity (wordOf axes (f .axis))) e) in omega arith,
+        withSign-small
+            (f .sign) k b,
+      ),
+      tt,
+    ))
 itemOf-turns axes o measure f k b = (tt, tt)
 itemOf-turns axes o conditional f k b = (tt, tt)
 

@@ -357,8 +357,12 @@ module _ (l : ℕ) where
 
         counted : Waiting l p → Waiting l (countMerge p)
         counted g =
-            record { inside = unfold countMerge in (g .inside); commute = unfold countMerge in (g .commute); names = unfold countMerge in
-            (g .names) }
+            record {
+              inside = unfold countMerge in (g .inside);
+              commute = unfold countMerge in (g .commute);
+              names = unfold countMerge in
+                  (g .names);
+            }
 
     -- nothing is absorbed at once
     pub takeRotation-waiting : (merging : Bool) (p : Pass) (a k : ℕ) → a < length (p .store .axes) → 0 < k

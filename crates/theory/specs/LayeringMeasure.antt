@@ -126,8 +126,13 @@ module _ (m : ℕ → ℕ) (law : Measure m) where
     sweepsFrom-no-more (suc k) false n ls = omega (arith, flatten-same ls)
     sweepsFrom-no-more (suc k) true n ls =
         let s = sweep l axes n ls in
-        omega (arith, sweepsFrom-no-more k (s .moved) (s .merged) (dropZeroLayers (s .layers)), dropZeroLayers-no-more
-        (s .layers), sweep-no-more n ls)
+        omega (
+          arith,
+          sweepsFrom-no-more k (s .moved) (s .merged) (dropZeroLayers (s .layers)),
+          dropZeroLayers-no-more
+              (s .layers),
+          sweep-no-more n ls,
+        )
 
     -- layers of a segment
     pub layerSegment-no-more : (rots : List Rot) → sizeOfRots m (layerSegment l axes rots .rots) ≤ sizeOfRots m rots

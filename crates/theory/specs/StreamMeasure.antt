@@ -122,7 +122,7 @@ module _ (m : ℕ → ℕ) (law : Measure m) where
           absorbAllWaiting-adds (r .absorption) p,
           carryAxis-adds q a,
           putOut-adds (withLast clearedLast (carryAxis l q a))
-          (barrier o (imageId l (carryAxis l q a) a) ((axisImage l (carryAxis l q a) a .turns + s) % 4)),
+              (barrier o (imageId l (carryAxis l q a) a) ((axisImage l (carryAxis l q a) a .turns + s) % 4)),
         )
 
     -- a stream puts out at most what it reads

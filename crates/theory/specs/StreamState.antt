@@ -169,8 +169,12 @@ module _ (l : ℕ) where
 
   absorb-kept : (p : Pass) (a k : ℕ) → Sound p → Kept p (absorb l p a k)
   absorb-kept p a k s =
-      record { sound = grown p (absorb l p a k) s (grows-eq (absorb-axes p a k)) out last; shaped = out; grow = grows-eq
-      (absorb-axes p a k) }
+      record {
+        sound = grown p (absorb l p a k) s (grows-eq (absorb-axes p a k)) out last;
+        shaped = out;
+        grow = grows-eq
+            (absorb-axes p a k);
+      }
     where
       out : withoutAngles (absorb l p a k .out) ≡ withoutAngles (p .out)
       out = unfold absorb in refl
@@ -331,7 +335,7 @@ module _ (l : ℕ) where
       angled : getD (withoutAngles (p .out)) j outside ≡ rotation (rot a 0) → Kept p (setAngle j a k p)
       angled own =
           let e : withoutAngles (setAngle j a k p .out) ≡ withoutAngles (p .out) = unfold setAngle in
-              (withoutAngles-set (p .out) j (rotation (rot a k)) own) in
+          (withoutAngles-set (p .out) j (rotation (rot a k)) own) in
           record {
             sound = grown p (setAngle j a k p) s (unfold setAngle in (grows-refl _)) e (unfold setAngle in refl);
             shaped = e;

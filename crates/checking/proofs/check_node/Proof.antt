@@ -60,7 +60,7 @@ returns-5 : tie.Need-returns-5
 unfolding badProduct
 returns-5 c =
     let k = second _ (c .before .before .before .before .before .before .before .before .before .before .if1 .left)
-        (c .before .before .before .before .before .before .before .if3 .left) (c .before .before .before .before .before .if4 .left) in
+    (c .before .before .before .before .before .before .before .if3 .left) (c .before .before .before .before .before .if4 .left) in
     sym (node-product _ _ _ (above _ (c .before .before .before .before .before .before .before .before .before .if2 .left)) k
     ∙ if-true _ _ (c .if5 .taken))
 
@@ -68,7 +68,7 @@ returns-6 : tie.Need-returns-6
 unfolding badProduct
 returns-6 c =
     let k = second _ (c .before .before .before .before .before .before .before .before .before .before .if1 .left)
-        (c .before .before .before .before .before .before .before .if3 .left) (c .before .before .before .before .before .if4 .left) in
+    (c .before .before .before .before .before .before .before .if3 .left) (c .before .before .before .before .before .if4 .left) in
     sym (node-product _ _ _ (above _ (c .before .before .before .before .before .before .before .before .before .if2 .left)) k
     ∙ if-false _ _ (c .if5 .left))
 

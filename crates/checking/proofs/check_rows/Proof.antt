@@ -55,9 +55,11 @@ loop-less : tie.Need-loop-less Inv-loop μ-loop
 loop-less c = omega arith
 
 loop-again : tie.Need-loop-again Inv-loop μ-loop
-loop-again c =
-    (omega arith, c .before .before .before .before .before .loop .inv .1 ∙ rows-next _ _ _ _ _ (omega arith)
-    (c .before .before .check-row .ensures) (sym (c .before .number-of .ensures) ∙ c .if1 .left))
+loop-again c = (
+  omega arith,
+  c .before .before .before .before .before .loop .inv .1 ∙ rows-next _ _ _ _ _ (omega arith)
+      (c .before .before .check-row .ensures) (sym (c .before .number-of .ensures) ∙ c .if1 .left),
+)
 
 returns-2 : tie.Need-returns-2 Inv-loop μ-loop
 returns-2 c = sym (c .before .loop .inv .1 ∙ rows-end _ _ _ _ (omega arith))

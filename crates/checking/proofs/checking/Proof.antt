@@ -27,9 +27,11 @@ program-short-requires : tie.Need-program-short-requires
 program-short-requires c κs = sym (c .before .before .before .bad-count .ensures) ∙ c .before .before .if1 .left
 
 lent-short-requires : tie.Need-lent-short-requires
-lent-short-requires c κs =
-    (sym (c .before .before .before .before .bad-count .ensures) ∙ c .before .before .before .if1 .left, sym
-    (c .before .before .bad-option .ensures) ∙ c .before .if2 .left)
+lent-short-requires c κs = (
+  sym (c .before .before .before .before .bad-count .ensures) ∙ c .before .before .before .if1 .left,
+  sym
+      (c .before .before .bad-option .ensures) ∙ c .before .if2 .left,
+)
 
 returns-3 : tie.Need-returns-3
 unfolding checking
@@ -41,9 +43,11 @@ returns-3 c =
 
 check-program-requires : tie.Need-check-program-requires
 check-program-requires c κs =
-    let n = neither _ (c .before .lent-short .result) (c .if3 .left) in
-    (sym (c .before .before .before .before .before .before .bad-count .ensures)
-    ∙ c .before .before .before .before .before .if1 .left, sym (c .before .before .program-short .ensures) ∙ n .0)
+    let n = neither _ (c .before .lent-short .result) (c .if3 .left) in (
+      sym (c .before .before .before .before .before .before .bad-count .ensures)
+          ∙ c .before .before .before .before .before .if1 .left,
+      sym (c .before .before .program-short .ensures) ∙ n .0,
+    )
 
 returns-4 : tie.Need-returns-4
 unfolding checking
