@@ -1,5 +1,4 @@
 pub mod Call
-pub mod Refusals
 pub mod Nodes
 pub mod Walk
 pub mod Outcomes

@@ -1,25 +1,11 @@
 -- The whole program's answer: nodes, then operations, then frame rows. Assumes nothing.
 use mathlib.Core.Path.{_≡_, sym, ap, _∙_}
-use mathlib.Core.Bool.{false}
 use mathlib.Core.List.{[]}
-use Prim.Native.Nat.{_*_, _≤_}
-use lib.ListN.{length}
-use borrow.Author.Tests.{ltb-false}
 use Rattle.model.specs.declared.Answer.{Answer}
 use Rattle.model.specs.Interface.{numberOf}
 use Rattle.model.specs.Program.{Job, nodeRecords, operationRecords, rowRecords}
-use Rattle.model.specs.Checking.{programShort, checkNodes, checkOperations, checkRows, checkProgram}
-use Rattle.theory.specs.Cases.{neither}
+use Rattle.model.specs.Checking.{checkNodes, checkOperations, checkRows, checkProgram}
 use Rattle.checking.specs.Walk.{goes-on, stops}
-
--- slices that are long enough
-pub program-long : (j : Job) → programShort j ≡ false
-    → (5 * j .counts .nodes ≤ length (j .nodes)) × (6 * j .counts .operations ≤ length (j .operations)) × (8 * j .counts .qubits ≤ length (j .rows))
-unfolding programShort
-program-long j h =
-    let a = neither _ _ h in
-    let b = neither _ _ (a .0) in
-    (ltb-false _ _ (b .0), ltb-false _ _ (b .1), ltb-false _ _ (a .1))
 
 pub node-refused : (j : Job) (a : Answer) → a ≡ checkNodes (j .counts .qubits) 0 (nodeRecords j) → (numberOf a ≡ 0 → ⊥) → a ≡ checkProgram j
 unfolding checkProgram

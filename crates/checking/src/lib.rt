@@ -63,11 +63,9 @@ fn lent_short(
     ensures { λ r. ⌜ r ≡ lentShort c
         (lentOf (now (words .entry)) (now (numbers .entry)) (now (operations .entry)) (now (rows .entry))) (o .«max_packed_words») ⌝ }
 {
-    let l = pauli::width(c.qubits);
-    let limit = o.max_packed_words;
-    let asked = 24 * (c.nodes + c.operations + 2 * c.qubits + limit / (2 * l) + 1);
-    (words.len() < limit + 16 * l)
-        | (numbers.len() < asked)
+    let shape = layout::shape_of(c, o.max_packed_words);
+    (words.len() < shape.limit + 16 * shape.l)
+        | (numbers.len() < 24 * shape.u)
         | (operations.len() < 6 * c.operations)
         | (rows.len() < 8 * c.qubits)
 }

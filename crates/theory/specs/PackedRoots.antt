@@ -49,7 +49,8 @@ countUses-le nodes (suc n) uses k =
     le-trans (by-if (λ (x : List ℕ). getD uses k 0 ≤ getD x k 0) _ _ _ (le-refl _) (countChildren-le (getD nodes n identity) uses k))
     (countUses-le nodes n _ k)
 
-map-range : (f : ℕ → ℕ) (i n k : ℕ) → k < n → getD (map f (numbersFrom i n)) k 0 ≡ f (k + i)
+-- f k, f (k + 1), .. by their places
+pub map-range : (f : ℕ → ℕ) (i n k : ℕ) → k < n → getD (map f (numbersFrom i n)) k 0 ≡ f (k + i)
 unfolding numbersFrom
 map-range f i zero k h = absurd (omega arith)
 map-range f i (suc n) zero h = ap f (sym (zero-add i))

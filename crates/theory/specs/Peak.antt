@@ -39,17 +39,20 @@ intern-rises l extra st w = by-if (λ (x : Store). st .peak ≤ x .peak) _ _ _ (
 abbrev Packs : Pack → Pack → Type 0
 Packs p q = p .store .peak ≤ q .store .peak
 
-useChildren-rises : (node : Node) (p : Pack) → Packs p (useChildren node p)
+-- using a node's children
+pub useChildren-rises : (node : Node) (p : Pack) → Packs p (useChildren node p)
 unfolding useChildren useNode
 useChildren-rises identity p = le-refl _
 useChildren-rises (letter q c) p = le-refl _
 useChildren-rises (product a u b v) p = le-refl _
 
-takeSlot-rises : (l : ℕ) (p : Pack) → Packs p (takeSlot l p)
+-- taking a slot
+pub takeSlot-rises : (l : ℕ) (p : Pack) → Packs p (takeSlot l p)
 unfolding takeSlot
 takeSlot-rises l p = by-if (Packs p) _ _ _ (le-refl _) (tested-rises _ (p .store))
 
-packRoot-rises : (l n : ℕ) (v : Value) (p : Pack) (r : PauliRef) → Packs p (packRoot l n v p r)
+-- a root
+pub packRoot-rises : (l n : ℕ) (v : Value) (p : Pack) (r : PauliRef) → Packs p (packRoot l n v p r)
 unfolding packRoot useNode
 packRoot-rises l n v p r = by-if (Packs p) _ _ _ (le-refl _) (intern-rises l _ (p .store) (v .word))
 

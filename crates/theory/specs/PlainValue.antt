@@ -57,7 +57,8 @@ values-own l before (node ∷ rest) o (suc k) h =
     let place : k + length longer ≡ suc k + length before = omega arith in
     rw place at (values-own l longer rest (rw long (o .1)) k (omega arith))
 
-ordered-at : (n : ℕ) (nodes : List Node) (k : ℕ) → Ordered n nodes → k < length nodes → ChildrenBefore (k + n) (getD nodes k identity)
+-- a node's children stand before it
+pub ordered-at : (n : ℕ) (nodes : List Node) (k : ℕ) → Ordered n nodes → k < length nodes → ChildrenBefore (k + n) (getD nodes k identity)
 ordered-at n [] k o h = absurd (omega arith)
 ordered-at n (node ∷ rest) zero o h = rw zero-add (o .0)
 ordered-at n (node ∷ rest) (suc k) o h =

@@ -1,7 +1,7 @@
 -- Nodes, then operations, then frame rows; the first refusal stands. Assumes nothing.
 use mathlib.Core.Path.{sym, _∙_}
-use Rattle.checking.specs.Refusals.{counts-fit}
-use Rattle.checking.specs.Whole.{program-long, node-refused, operation-refused, rows-decide}
+use Rattle.layout.specs.Bounds.{counts-fit, program-long}
+use Rattle.checking.specs.Whole.{node-refused, operation-refused, rows-decide}
 use native.Mathlib.Omega.{arith}
 use borrow.Author.Needs.{needs}
 use Rattle.checking.proofs.check_program.Statement.{statement}

@@ -1,106 +1,61 @@
 -- Counts and a limit within the domain leave no sum that overflows. Assumes nothing.
 use mathlib.Core.Path.{refl}
-use Rattle.model.specs.Checking.{lentShort, wordsAsked, numbersAsked}
-use Rattle.checking.specs.Refusals.{bounds}
 use native.Mathlib.Omega.{arith}
-use borrow.Author.Needs.{needs}
+use Rattle.model.specs.Checking.{lentShort, wordsAsked, numbersAsked}
+use Rattle.layout.specs.Bounds.{counts-fit, limit-fits}
+use Rattle.layout.specs.Shape.{shapeOf, rowLength, sized-by}
 use Rattle.checking.proofs.lent_short.Statement.{statement}
 use Rattle.checking.proofs.lent_short.Tie as tie
+use Rattle.checking.proofs.lent_short.Reads as reads
+use Rattle.checking.proofs.lent_short.Lts as lts
+use Rattle.layout.proofs.shape_of.Reads as shape-of-reads
 
-width-requires : tie.Need-width-requires
-width-requires c κs = search needs
+-- src/lib.rt:66:9
+shape-of-requires : tie.Need-shape-of-requires
+shape-of-requires c κs = let p = c .before .before .before .before .pre in (p .0, limit-fits _ (p .1))
 
-add-asked : tie.Need-add-asked
-add-asked c =
-    let p = c .before .before .before .before .before .before .pre in
-    let b = bounds _ _ _ (p .0) (p .1) (c .before .width .ensures) in
-    omega arith
-
-mul-asked : tie.Need-mul-asked
-mul-asked c =
-    let p = c .before .before .before .before .before .before .before .pre in
-    let b = bounds _ _ _ (p .0) (p .1) (c .before .before .width .ensures) in
-    omega arith
-
-add-asked-2 : tie.Need-add-asked-2
-add-asked-2 c =
-    let p = c .before .before .before .before .before .before .before .pre in
-    let b = bounds _ _ _ (p .0) (p .1) (c .before .before .width .ensures) in
-    omega arith
-
-mul-asked-2 : tie.Need-mul-asked-2
-mul-asked-2 c =
-    let p = c .before .before .before .before .before .before .before .pre in
-    let b = bounds _ _ _ (p .0) (p .1) (c .before .before .width .ensures) in
-    omega arith
-
-div-asked : tie.Need-div-asked
-div-asked c =
-    let p = c .before .before .before .before .before .before .before .pre in
-    let b = bounds _ _ _ (p .0) (p .1) (c .before .before .width .ensures) in
-    omega arith
-
-add-asked-3 : tie.Need-add-asked-3
-add-asked-3 c =
-    let p = c .before .before .before .before .before .before .before .pre in
-    let b = bounds _ _ _ (p .0) (p .1) (c .before .before .width .ensures) in
-    omega arith
-
-add-asked-4 : tie.Need-add-asked-4
-add-asked-4 c =
-    let p = c .before .before .before .before .before .before .before .pre in
-    let b = bounds _ _ _ (p .0) (p .1) (c .before .before .width .ensures) in
-    omega arith
-
-mul-asked-3 : tie.Need-mul-asked-3
-mul-asked-3 c =
-    let p = c .before .before .before .before .before .before .before .pre in
-    let b = bounds _ _ _ (p .0) (p .1) (c .before .before .width .ensures) in
-    omega arith
-
+-- src/lib.rt:67:34
 mul-result : tie.Need-mul-result
 mul-result c =
-    let p = c .before .before .before .before .before .before .before .pre in
-    let b = bounds _ _ _ (p .0) (p .1) (c .before .before .width .ensures) in
+    let p = c .before .before .before .before .before .before .pre in
+    let z = sized-by _ _ (p .0) (limit-fits _ (p .1)) (c .before .shape-of .ensures) in
     omega arith
 
+-- src/lib.rt:67:20
 add-result : tie.Need-add-result
 add-result c =
     let p = c .before .before .before .before .before .before .before .pre in
-    let b = bounds _ _ _ (p .0) (p .1) (c .before .before .width .ensures) in
+    let z = sized-by _ _ (p .0) (limit-fits _ (p .1)) (c .before .before .shape-of .ensures) in
     omega arith
 
+-- src/lib.rt:68:28
 mul-result-2 : tie.Need-mul-result-2
 mul-result-2 c =
     let p = c .before .before .before .before .before .before .before .before .pre in
-    let b = bounds _ _ _ (p .0) (p .1) (c .before .before .before .width .ensures) in
+    let z = sized-by _ _ (p .0) (limit-fits _ (p .1)) (c .before .before .before .shape-of .ensures) in
     omega arith
 
+-- src/lib.rt:69:31
 mul-result-3 : tie.Need-mul-result-3
-mul-result-3 c =
-    let p = c .before .before .before .before .before .before .before .before .before .pre in
-    let b = bounds _ _ _ (p .0) (p .1) (c .before .before .before .before .width .ensures) in
-    omega arith
+mul-result-3 c = let f = counts-fit _ (c .before .before .before .before .before .before .before .before .before .pre .0) in omega arith
 
+-- src/lib.rt:70:25
+mul-result-4 : tie.Need-mul-result-4
+mul-result-4 c = let f = counts-fit _ (c .before .before .before .before .before .before .before .before .before .before .pre .0) in omega arith
+
+-- src/lib.rt:54:1
 returns : tie.Need-returns
-unfolding lentShort wordsAsked numbersAsked
-returns c = rw (c .before .before .before .before .width .ensures) refl
+unfolding lentShort wordsAsked numbersAsked shapeOf rowLength
+returns c = rw (c .before .before .before .before .before .shape-of .ensures) refl
 
 pub lent-short-spec : {M : Type 1} → statement M
 lent-short-spec =
     tie.close
     (tie.spec
-    width-requires
-    add-asked
-    mul-asked
-    add-asked-2
-    mul-asked-2
-    div-asked
-    add-asked-3
-    add-asked-4
-    mul-asked-3
+    shape-of-requires
     mul-result
     add-result
     mul-result-2
     mul-result-3
+    mul-result-4
     returns)

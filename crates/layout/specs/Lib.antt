@@ -1,0 +1,5 @@
+pub mod Rows
+pub mod Only
+pub mod Words
+pub mod Bounds
+pub mod Shape

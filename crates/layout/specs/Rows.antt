@@ -1,0 +1,82 @@
+-- The rows of the number store by name, as in src/lib.rt. Assumes nothing.
+use mathlib.Core.Path.{_≡_, ap, _∙_}
+use mathlib.Core.List.{List}
+use Prim.Native.Nat.{ℕ, _*_, _≤_, _<_}
+use native.Mathlib.Omega.{arith}
+use lib.ListN.{length, getD, set, take, drop, replicate, length-replicate}
+use lib.Seq.{length-take-le, getD-take, take-take, take-set-lt}
+use Rattle.store.specs.Part.{part, put, part-put-same}
+use Rattle.store.specs.Row.{row, Written, row-length, row-set, row-in}
+
+abbrev pub mark : ℕ
+mark = 0
+
+abbrev pub acted : ℕ
+acted = 1
+
+abbrev pub relevantRow : ℕ
+relevantRow = 2
+
+abbrev pub usesRow : ℕ
+usesRow = 3
+
+abbrev pub firstRoot : ℕ
+firstRoot = 4
+
+abbrev pub nextRoot : ℕ
+nextRoot = 5
+
+abbrev pub nodeSlot : ℕ
+nodeSlot = 6
+
+abbrev pub nodePhase : ℕ
+nodePhase = 7
+
+abbrev pub freeRow : ℕ
+freeRow = 8
+
+abbrev pub rootAxis : ℕ
+rootAxis = 15
+
+abbrev pub rootSign : ℕ
+rootSign = 16
+
+-- what stands for the axis of a row that is no root
+abbrev pub none : ℕ
+none = 4294967295
+
+-- ---- the first n entries of a row
+
+unfoldable pub entries : List ℕ → ℕ → ℕ → ℕ → List ℕ
+entries s u r n = take n (row s u r)
+
+module _ (s : List ℕ) (u r n : ℕ) (long : 24 * u ≤ length s) (l : r < 24) (h : n ≤ u) where
+  pub entries-length : length (entries s u r n) ≡ n
+  unfolding entries
+  entries-length = length-take-le n (row s u r) (omega (arith, row-length s u 24 r long l))
+
+  pub entries-at : (i : ℕ) → i < n → getD (entries s u r n) i 0 ≡ getD (row s u r) i 0
+  unfolding entries
+  entries-at i k = getD-take n (row s u r) i 0 k
+
+  -- an entry is written
+  pub entries-written : (i v : ℕ) {t : List ℕ} → i < n → Written s u r i v t → entries t u r n ≡ set (entries s u r n) i v
+  unfolding entries
+  entries-written i v k w =
+      ap (λ (x : List ℕ). take n (row x u r)) (w .store)
+      ∙ ap (take n) (row-set s u 24 r i v long l (omega arith))
+      ∙ take-set-lt n (row s u r) i v k
+
+  -- the entries are cleared
+  pub entries-cleared : {t : List ℕ} → t ≡ put s (r * u) (replicate n 0) → entries t u r n ≡ replicate n 0
+  unfolding entries row part
+  entries-cleared e =
+      let fit = row-in u 24 r l in
+      let k : length {A = ℕ} (replicate n 0) ≡ n = length-replicate n 0 in
+      ap (λ (x : List ℕ). take n (take u (drop (r * u) x))) e
+      ∙ take-take n u (drop (r * u) (put s (r * u) (replicate n 0))) h
+      ∙ part-put-same s (r * u) n (replicate n 0) (omega arith) k
+
+-- an entry is written: the row
+pub written-row : {s t : List ℕ} {u r i v : ℕ} → 24 * u ≤ length s → r < 24 → i < u → Written s u r i v t → row t u r ≡ set (row s u r) i v
+written-row {s} {t} {u} {r} {i} {v} h l k w = ap (λ (x : List ℕ). row x u r) (w .store) ∙ row-set s u 24 r i v h l k

@@ -1,0 +1,63 @@
+-- The word store: axes from the start, axis id at id * 2l; slots counted down from the limit; 16 * l words of scratch behind the limit.
+-- Assumes nothing.
+use mathlib.Core.Path.{_≡_, refl, _∙_}
+use mathlib.Core.List.{List}
+use mathlib.Core.Logic.{_≢_, inl, inr}
+use Prim.Native.Nat.{ℕ, _+_, _-_, _*_, _≤_, _<_}
+use native.Mathlib.Decide.{decLt}
+use native.Mathlib.Omega.{arith}
+use lib.ListN.{length, getD}
+use Rattle.store.specs.Part.{Apart, put, put-length, put-above}
+use Rattle.store.specs.Chunk.{chunk-in}
+
+-- where slot s has its word
+unfoldable pub slotPlace : ℕ → ℕ → ℕ → ℕ
+slotPlace limit l s = limit - (s * (2 * l) + 2 * l)
+
+-- slot s is among n
+pub slots-le : (l s n : ℕ) → s < n → s * (2 * l) + 2 * l ≤ n * (2 * l)
+slots-le l s n h = chunk-in (2 * l) n s h
+
+module _ (limit l n : ℕ) (h : n * (2 * l) ≤ limit) where
+  -- a slot of n ends within the limit
+  pub slot-in : (s : ℕ) → s < n → slotPlace limit l s + 2 * l ≤ limit
+  unfolding slotPlace
+  slot-in s k = omega (arith, slots-le l s n k)
+
+  -- it is among the n * 2l words that end at the limit
+  pub slot-counted : (s : ℕ) → s < n → limit ≤ slotPlace limit l s + n * (2 * l)
+  unfolding slotPlace
+  slot-counted s k = omega (arith, slots-le l s n k)
+
+  -- two slots do not meet
+  pub slots-apart : (s t : ℕ) → s < n → t < n → s ≢ t → Apart (slotPlace limit l s) (2 * l) (slotPlace limit l t) (2 * l)
+  unfolding slotPlace
+  slots-apart s t a b e = go (decLt s t)
+    where
+      go : Dec (s < t) → Apart (limit - (s * (2 * l) + 2 * l)) (2 * l) (limit - (t * (2 * l) + 2 * l)) (2 * l)
+      go (yes c) = inr (omega (arith, slots-le l s t c, slots-le l t n b))
+      go (no c) = inl (omega (arith, slots-le l t s (let z : t < s = omega arith in z), slots-le l s n a))
+
+  -- nothing that ends before the slots meets one
+  pub slot-behind : (s b : ℕ) → s < n → b + n * (2 * l) ≤ limit → b ≤ slotPlace limit l s
+  unfolding slotPlace
+  slot-behind s b k m = omega (arith, slots-le l s n k)
+
+-- ---- what lies behind a place is unchanged
+
+pub record KeptFrom (b : ℕ) (s t : List ℕ) : Type 0 where
+  pub long : length t ≡ length s
+  pub kept : (i : ℕ) → b ≤ i → getD t i 0 ≡ getD s i 0
+
+pub kept-none : (b : ℕ) (s : List ℕ) → KeptFrom b s s
+kept-none b s = record { long = refl; kept = λ i h. refl }
+
+pub kept-then : {b : ℕ} {s t v : List ℕ} → KeptFrom b s t → KeptFrom b t v → KeptFrom b s v
+kept-then a c = record { long = c .long ∙ a .long; kept = λ i h. c .kept i h ∙ a .kept i h }
+
+-- a word laid before the place
+pub kept-put : (b : ℕ) (s : List ℕ) (a : ℕ) (w : List ℕ) → a + length w ≤ b → b ≤ length s → KeptFrom b s (put s a w)
+kept-put b s a w h k = record {
+  long = put-length s a w (omega arith);
+  kept = λ i m. put-above s a w (omega arith) i (omega arith);
+}

@@ -1,0 +1,188 @@
+-- Use counts, entry by entry: one use more or less, what a product uses, how large a count can be. Assumes nothing.
+use mathlib.Core.Path.{_≡_, refl, sym, _∙_}
+use mathlib.Core.Logic.{⊎-elim}
+use mathlib.Core.List.{List, [], _∷_, map}
+use Prim.Native.Nat.{ℕ, zero, suc, _+_, _-_, _*_, _≤_, _<_}
+use native.Mathlib.Nat.{le-refl}
+use native.Mathlib.Omega.{arith}
+use lib.Dec.{eqb}
+use lib.ListN.{length, getD, length-set, length-map, List·getD-eq-default}
+use lib.Seq.{getD-set-other}
+use borrow.Author.Tests.{eqb-true, eqb-false}
+use Rattle.bits.specs.Remainder.{lt-or-ge}
+use Rattle.model.specs.Lists.{if_then_else_, numbersFrom}
+use Rattle.model.specs.Program.{Node, identity, letter, product, PauliRef}
+use Rattle.model.specs.Packing.{rootsAt, oneUseMore, oneUseLess, countChildren, countUses, useCounts, Pack, useNode, useChildren}
+use Rattle.theory.specs.Cases.{by-if, on-if}
+use Rattle.theory.specs.PackedRoots.{map-range, ChildrenBefore}
+use Rattle.packing_states.specs.ReferenceLaws.{keep-count, count-le, numbers-length}
+
+-- ---- one entry more or less
+
+more-same : (uses : List ℕ) (n : ℕ) → n < length uses → getD (oneUseMore n uses) n 0 ≡ suc (getD uses n 0)
+unfolding oneUseMore
+more-same [] n h = absurd (omega arith)
+more-same (u ∷ uses) zero h = refl
+more-same (u ∷ uses) (suc n) h = more-same uses n (omega arith)
+
+-- a node's own entry
+pub less-same : (uses : List ℕ) (n : ℕ) → getD (oneUseLess n uses) n 0 ≡ getD uses n 0 - 1
+unfolding oneUseLess
+less-same [] n = refl
+less-same (u ∷ uses) zero = refl
+less-same (u ∷ uses) (suc n) = less-same uses n
+
+-- the other entries
+pub less-other : (uses : List ℕ) (n c : ℕ) → (c ≡ n → ⊥) → getD (oneUseLess n uses) c 0 ≡ getD uses c 0
+unfolding oneUseLess
+less-other uses n c ne = getD-set-other uses n c (getD uses n 0 - 1) 0 ne
+
+-- the entry at place c after one use more of node a
+pub more-at : (uses : List ℕ) (a c : ℕ) → c < length uses → getD (oneUseMore a uses) c 0 ≡ getD uses c 0 + (if eqb a c then 1 else 0)
+unfolding oneUseMore
+more-at uses a c h =
+    on-if (λ (x : ℕ). getD (oneUseMore a uses) c 0 ≡ getD uses c 0 + x) (eqb a c) 1 0
+    (λ e. rw (eqb-true a c e) (omega (arith, more-same uses c h)))
+    (λ e. omega (arith, getD-set-other uses a c (suc (getD uses a 0)) 0 (λ z. eqb-false a c e (sym z))))
+
+-- the same after one use less
+pub less-at : (uses : List ℕ) (a c : ℕ) → getD (oneUseLess a uses) c 0 ≡ getD uses c 0 - (if eqb a c then 1 else 0)
+less-at uses a c =
+    on-if (λ (x : ℕ). getD (oneUseLess a uses) c 0 ≡ getD uses c 0 - x) (eqb a c) 1 0 (λ e. rw (eqb-true a c e) (less-same uses c))
+    (λ e. omega (arith, less-other uses a c (λ z. eqb-false a c e (sym z))))
+
+-- as many entries as before
+pub more-length : (uses : List ℕ) (a : ℕ) → length (oneUseMore a uses) ≡ length uses
+unfolding oneUseMore
+more-length uses a = length-set uses a _
+
+-- and after one use less
+pub less-length : (uses : List ℕ) (a : ℕ) → length (oneUseLess a uses) ≡ length uses
+unfolding oneUseLess
+less-length uses a = length-set uses a _
+
+-- ---- a node's children
+
+-- how often node c is a child
+unfoldable pub edges : Node → ℕ → ℕ
+edges identity c = 0
+edges (letter q x) c = 0
+edges (product a u b v) c = (if eqb a c then 1 else 0) + (if eqb b c then 1 else 0)
+
+not-child : (a c : ℕ) → a < c → _≡_ {A = ℕ} (if eqb a c then 1 else 0) 0
+not-child a c h = on-if (λ (x : ℕ). x ≡ 0) (eqb a c) 1 0 (λ e. absurd (omega (arith, eqb-true a c e))) (λ e. refl)
+
+-- children stand before
+pub edges-later : (n : ℕ) (node : Node) → ChildrenBefore n node → (c : ℕ) → n ≤ c → edges node c ≡ 0
+unfolding edges
+edges-later n identity h c b = refl
+edges-later n (letter q x) h c b = refl
+edges-later n (product a u d v) h c b = omega (arith, not-child a c (omega arith), not-child d c (omega arith))
+
+-- counting a product's children
+pub counted-at : (node : Node) (uses : List ℕ) (c : ℕ) → c < length uses → getD (countChildren node uses) c 0 ≡ getD uses c 0 + edges node c
+unfolding countChildren edges
+counted-at identity uses c h = omega arith
+counted-at (letter q x) uses c h = omega arith
+counted-at (product a u b v) uses c h =
+    let long = more-length uses a in
+    omega (arith, more-at (oneUseMore a uses) b c (omega arith), more-at uses a c h)
+
+-- as many entries as before
+pub counted-length : (node : Node) (uses : List ℕ) → length (countChildren node uses) ≡ length uses
+unfolding countChildren
+counted-length identity uses = refl
+counted-length (letter q x) uses = refl
+counted-length (product a u b v) uses = more-length (oneUseMore a uses) b ∙ more-length uses a
+
+-- using them
+pub used-at : (node : Node) (k : Pack) (c : ℕ) → getD (useChildren node k .uses) c 0 ≡ getD (k .uses) c 0 - edges node c
+unfolding useChildren useNode edges
+used-at identity k c = omega arith
+used-at (letter q x) k c = omega arith
+used-at (product a u b v) k c = omega (arith, less-at (oneUseLess a (k .uses)) b c, less-at (k .uses) a c)
+
+-- as many entries as before
+pub used-length : (node : Node) (k : Pack) → length (useChildren node k .uses) ≡ length (k .uses)
+unfolding useChildren useNode
+used-length identity k = refl
+used-length (letter q x) k = refl
+used-length (product a u b v) k = less-length (oneUseLess a (k .uses)) b ∙ less-length (k .uses) a
+
+-- ---- large counts
+
+more-most : (uses : List ℕ) (a m : ℕ) → getD (oneUseMore a uses) m 0 ≤ suc (getD uses m 0)
+unfolding oneUseMore
+more-most [] a m = omega arith
+more-most (u ∷ uses) zero zero = le-refl _
+more-most (u ∷ uses) zero (suc m) = omega arith
+more-most (u ∷ uses) (suc a) zero = omega arith
+more-most (u ∷ uses) (suc a) (suc m) = more-most uses a m
+
+counted-most : (node : Node) (uses : List ℕ) (m : ℕ) → getD (countChildren node uses) m 0 ≤ getD uses m 0 + 2
+unfolding countChildren
+counted-most identity uses m = omega arith
+counted-most (letter q x) uses m = omega arith
+counted-most (product a u b v) uses m = omega (arith, more-most (oneUseMore a uses) b m, more-most uses a m)
+
+-- node n's turn in the count
+abbrev pub countNode : ℕ → Node → List ℕ → List ℕ
+countNode n node uses = if eqb (getD uses n 0) 0 then uses else countChildren node uses
+
+-- it adds at most 2 to an entry
+pub countUses-bound : (node : Node) (uses : List ℕ) (n bound : ℕ) → ((m : ℕ) → getD uses m 0 ≤ bound)
+    → (m : ℕ) → getD (countNode n node uses) m 0 ≤ bound + 2
+countUses-bound node uses n bound h m =
+    by-if (λ (x : List ℕ). getD x m 0 ≤ bound + 2) _ uses (countChildren node uses) (omega (arith, h m))
+    (omega (arith, h m, counted-most node uses m))
+
+countUses-most : (nodes : List Node) (n : ℕ) (uses : List ℕ) (bound : ℕ) → ((m : ℕ) → getD uses m 0 ≤ bound)
+    → (m : ℕ) → getD (countUses nodes n uses) m 0 ≤ bound + 2 * n
+unfolding countUses
+countUses-most nodes zero uses bound h m = omega (arith, h m)
+countUses-most nodes (suc n) uses bound h m =
+    let node = getD nodes n identity in
+    omega (arith, countUses-most nodes n (countNode n node uses) (bound + 2) (countUses-bound node uses n bound h) m)
+
+roots-most : (rs : List PauliRef) (n : ℕ) → length (rootsAt n rs) ≤ length rs
+unfolding rootsAt
+roots-most rs n = omega (arith, keep-count (λ (r : PauliRef). eqb (r .node) n) rs, count-le (λ (r : PauliRef). eqb (r .node) n) rs)
+
+-- before the count: how many roots each node has
+abbrev pub rootCounts : List PauliRef → ℕ → List ℕ
+rootCounts rs t = map (λ n. length (rootsAt n rs)) (numbersFrom 0 t)
+
+-- entry by entry
+pub rootCounts-at : (rs : List PauliRef) (t m : ℕ) → m < t → getD (rootCounts rs t) m 0 ≡ length (rootsAt m rs)
+rootCounts-at rs t m h =
+    let e : m + 0 ≡ m = omega arith in
+    rw e at (map-range (λ n. length (rootsAt n rs)) 0 t m h)
+
+-- one for each node
+pub rootCounts-length : (rs : List PauliRef) (t : ℕ) → length (rootCounts rs t) ≡ t
+rootCounts-length rs t = length-map (numbersFrom 0 t) (λ n. length (rootsAt n rs)) ∙ numbers-length 0 t
+
+rootCounts-most : (rs : List PauliRef) (t m : ℕ) → getD (rootCounts rs t) m 0 ≤ length rs
+rootCounts-most rs t m =
+    ⊎-elim (λ (h : m < t). omega (arith, rootCounts-at rs t m h, roots-most rs m))
+    (λ (h : t ≤ m). let b : length (rootCounts rs t) ≤ m = omega (arith, rootCounts-length rs t) in
+    omega (arith, List·getD-eq-default (rootCounts rs t) 0 b))
+    (lt-or-ge m t)
+
+-- a node is used at most once by each root and twice by each node
+pub every-use : (nodes : List Node) (rs : List PauliRef) (m : ℕ) → getD (useCounts nodes rs) m 0 ≤ length rs + 2 * length nodes
+unfolding useCounts
+every-use nodes rs m = countUses-most nodes (length nodes) (rootCounts rs (length nodes)) (length rs) (rootCounts-most rs (length nodes)) m
+
+countUses-length : (nodes : List Node) (n : ℕ) (uses : List ℕ) → length (countUses nodes n uses) ≡ length uses
+unfolding countUses
+countUses-length nodes zero uses = refl
+countUses-length nodes (suc n) uses =
+    let node = getD nodes n identity in
+    countUses-length nodes n (countNode n node uses)
+    ∙ by-if (λ (x : List ℕ). length x ≡ length uses) _ uses (countChildren node uses) refl (counted-length node uses)
+
+-- one count for each node
+pub useCounts-length : (nodes : List Node) (rs : List PauliRef) → length (useCounts nodes rs) ≡ length nodes
+unfolding useCounts
+useCounts-length nodes rs = countUses-length nodes (length nodes) (rootCounts rs (length nodes)) ∙ rootCounts-length rs (length nodes)

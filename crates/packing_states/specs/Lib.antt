@@ -1,0 +1,9 @@
+pub mod References
+pub mod ReferenceLaws
+pub mod States
+pub mod StateLaws
+pub mod Counts
+pub mod Owed
+pub mod Uses
+pub mod Live
+pub mod Linked
