@@ -1,23 +1,16 @@
 -- A scan for a word's id: "no axis so far is w" is the number fact `a ≤ idOf axes w`. Assumes nothing.
 use mathlib.Core.Path.{_≡_, ap, _∙_}
 use mathlib.Core.Bool.{Bool, true, false}
-use mathlib.Core.List.{List, [], _∷_}
+use mathlib.Core.List.{List}
 use mathlib.Core.Logic.{⊎-elim}
-use Prim.Native.Nat.{ℕ, zero, suc, _+_, _≤_, _<_}
-use native.Mathlib.Nat.{le-refl, eq-or-lt-of-le}
+use Prim.Native.Nat.{ℕ, _+_, _≤_, _<_}
+use native.Mathlib.Nat.{eq-or-lt-of-le}
 use native.Mathlib.Omega.{arith}
 use lib.ListN.{length}
-use Rattle.store.specs.Equal.{sameList, same-refl, said-same, said-other}
+use Rattle.store.specs.Equal.{sameList, said-same, said-other}
 use Rattle.model.specs.Words.{idOf, wordOf}
-use Rattle.theory.specs.Cases.{by-if, if-true}
-use Rattle.theory.specs.Ids.{id-le, id-word}
+use Rattle.theory.specs.Ids.{id-le, id-first, id-word}
 use Rattle.axes.specs.View.{axesOf, axes-length}
-
-id-first : (axes : List (List ℕ)) (w : List ℕ) (a : ℕ) → a < length axes → wordOf axes a ≡ w → idOf axes w ≤ a
-unfolding idOf
-id-first [] w a h e = absurd (omega arith)
-id-first (x ∷ axes) w zero h e = let f : sameList x w ≡ true = rw e (same-refl w) in rw (if-true 0 (suc (idOf axes w)) f) (le-refl _)
-id-first (x ∷ axes) w (suc a) h e = by-if (λ (n : ℕ). n ≤ suc a) _ _ _ (omega arith) (omega (arith, id-first axes w a (omega arith) e))
 
 module _ (l n : ℕ) (s w : List ℕ) where
   -- p, which is axis a, was compared with w: it is w

@@ -1,4 +1,4 @@
--- Records one after the other: what is left to check from record i on, and the outcomes measured before it. Assumes nothing.
+-- Records one after the other: what is left to check from record i on. Assumes nothing.
 use mathlib.Core.Path.{_≡_, refl, sym, ap, ap₂, _∙_}
 use mathlib.Core.List.{List, [], _∷_}
 use Prim.Native.Nat.{ℕ, suc, _+_, _-_, _*_, _<_}
@@ -14,7 +14,7 @@ use Rattle.model.specs.declared.Answer.{Answer}
 use Rattle.model.specs.declared.Answer.the-variants.{Accepted}
 use Rattle.model.specs.Lists.{if_then_else_}
 use Rattle.model.specs.Interface.{numberOf}
-use Rattle.model.specs.Checking.{andThen, checkNode, checkNodes, measured, checkRow, checkRows}
+use Rattle.model.specs.Checking.{andThen, checkNode, checkNodes, checkRow, checkRows}
 
 -- ---- records of k fields: from record i of n on
 
@@ -46,42 +46,38 @@ pub stops : (a b : Answer) → (numberOf a ≡ 0 → ⊥) → andThen a b ≡ a
 unfolding andThen if_then_else_
 stops a b n = rw (ne-eqb _ _ n) refl
 
--- ---- nodes and frame rows: one more, the first refusal, the end
+-- ---- one more, the first refusal, the end: `rest` checks the records of w fields that are left, each by `check`
 
-pub nodes-next : (q n i : ℕ) (s : List ℕ) (a : Answer) → i < n → a ≡ checkNode q i (take (i * 5 + 5 - i * 5) (drop (i * 5) s)) → numberOf a ≡ 0
-    → checkNodes q i (recordsFrom 5 n i s) ≡ checkNodes q (i + 1) (recordsFrom 5 n (i + 1) s)
+-- `rest` checks the next record, then those behind it
+abbrev pub Walks : (ℕ → List ℕ → Answer) → (ℕ → List (List ℕ) → Answer) → Type 0
+Walks check rest =
+    ((i : ℕ) → rest i [] ≡ Accepted) × ((i : ℕ) (r : List ℕ) (rs : List (List ℕ)) → rest i (r ∷ rs) ≡ andThen (check i r) (rest (suc i) rs))
+
+module _ (w : ℕ) (check : ℕ → List ℕ → Answer) (rest : ℕ → List (List ℕ) → Answer) (walks : Walks check rest) (n i : ℕ) (s : List ℕ) where
+  one-more : i < n → rest i (recordsFrom w n i s) ≡ andThen (check i (part s (i * w) w)) (rest (suc i) (recordsFrom w n (i + 1) s))
+  one-more l = ap (rest i) (from-next w n i s l) ∙ walks .1 i (part s (i * w) w) (recordsFrom w n (i + 1) s)
+
+  pub walk-next : (a : Answer) → i < n → a ≡ check i (take (i * w + w - i * w) (drop (i * w) s)) → numberOf a ≡ 0
+      → rest i (recordsFrom w n i s) ≡ rest (i + 1) (recordsFrom w n (i + 1) s)
+  walk-next a l e z =
+      one-more l
+      ∙ goes-on _ _ (ap numberOf (sym (e ∙ ap (check i) (part-cut s (i * w) w))) ∙ z)
+      ∙ ap (λ (j : ℕ). rest j (recordsFrom w n (i + 1) s)) (sym (add-one i))
+
+  pub walk-stop : (a : Answer) → i < n → a ≡ check i (take (i * w + w - i * w) (drop (i * w) s)) → (numberOf a ≡ 0 → ⊥)
+      → rest i (recordsFrom w n i s) ≡ a
+  walk-stop a l e z =
+      let f = e ∙ ap (check i) (part-cut s (i * w) w) in
+      one-more l ∙ stops _ _ (λ h. z (ap numberOf f ∙ h)) ∙ sym f
+
+  pub walk-end : i ≡ n → rest i (recordsFrom w n i s) ≡ Accepted
+  walk-end e = ap (λ (j : ℕ). rest j (recordsFrom w n j s)) e ∙ ap (rest n) (from-end w n s) ∙ walks .0 n
+
+-- nodes, and frame rows
+pub nodes-walk : (q : ℕ) → Walks (checkNode q) (checkNodes q)
 unfolding checkNodes
-nodes-next q n i s a l e z =
-    ap (checkNodes q i) (from-next 5 n i s l)
-    ∙ goes-on _ _ (ap numberOf (sym (e ∙ ap (checkNode q i) (part-cut s (i * 5) 5))) ∙ z)
-    ∙ ap (λ (j : ℕ). checkNodes q j (recordsFrom 5 n (i + 1) s)) (sym (add-one i))
+nodes-walk q = (λ i. refl, λ i r rs. refl)
 
-pub nodes-stop : (q n i : ℕ) (s : List ℕ) (a : Answer) → i < n → a ≡ checkNode q i (take (i * 5 + 5 - i * 5) (drop (i * 5) s)) → (numberOf a ≡ 0 → ⊥)
-    → checkNodes q i (recordsFrom 5 n i s) ≡ a
-unfolding checkNodes
-nodes-stop q n i s a l e z =
-    let f = e ∙ ap (checkNode q i) (part-cut s (i * 5) 5) in
-    ap (checkNodes q i) (from-next 5 n i s l) ∙ stops _ _ (λ h. z (ap numberOf f ∙ h)) ∙ sym f
-
-pub nodes-end : (q n i : ℕ) (s : List ℕ) → i ≡ n → checkNodes q i (recordsFrom 5 n i s) ≡ Accepted
-unfolding checkNodes
-nodes-end q n i s e = ap (λ (j : ℕ). checkNodes q j (recordsFrom 5 n j s)) e ∙ ap (checkNodes q n) (from-end 5 n s)
-
-pub rows-next : (c n i : ℕ) (s : List ℕ) (a : Answer) → i < n → a ≡ checkRow c i (take (i * 4 + 4 - i * 4) (drop (i * 4) s)) → numberOf a ≡ 0
-    → checkRows c i (recordsFrom 4 n i s) ≡ checkRows c (i + 1) (recordsFrom 4 n (i + 1) s)
+pub rows-walk : (c : ℕ) → Walks (checkRow c) (checkRows c)
 unfolding checkRows
-rows-next c n i s a l e z =
-    ap (checkRows c i) (from-next 4 n i s l)
-    ∙ goes-on _ _ (ap numberOf (sym (e ∙ ap (checkRow c i) (part-cut s (i * 4) 4))) ∙ z)
-    ∙ ap (λ (j : ℕ). checkRows c j (recordsFrom 4 n (i + 1) s)) (sym (add-one i))
-
-pub rows-stop : (c n i : ℕ) (s : List ℕ) (a : Answer) → i < n → a ≡ checkRow c i (take (i * 4 + 4 - i * 4) (drop (i * 4) s)) → (numberOf a ≡ 0 → ⊥)
-    → checkRows c i (recordsFrom 4 n i s) ≡ a
-unfolding checkRows
-rows-stop c n i s a l e z =
-    let f = e ∙ ap (checkRow c i) (part-cut s (i * 4) 4) in
-    ap (checkRows c i) (from-next 4 n i s l) ∙ stops _ _ (λ h. z (ap numberOf f ∙ h)) ∙ sym f
-
-pub rows-end : (c n i : ℕ) (s : List ℕ) → i ≡ n → checkRows c i (recordsFrom 4 n i s) ≡ Accepted
-unfolding checkRows
-rows-end c n i s e = ap (λ (j : ℕ). checkRows c j (recordsFrom 4 n j s)) e ∙ ap (checkRows c n) (from-end 4 n s)
+rows-walk c = (λ i. refl, λ i r rs. refl)

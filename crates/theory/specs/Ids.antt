@@ -78,7 +78,8 @@ intern-grows l extra st w =
 abbrev pub Stored : List (List ℕ) → List ℕ → Type 0
 Stored axes w = idOf axes w < length axes
 
-id-first : (ys : List (List ℕ)) (w : List ℕ) (i : ℕ) → i < length ys → wordOf ys i ≡ w → idOf ys w ≤ i
+-- the first place at which a word stands is its id
+pub id-first : (ys : List (List ℕ)) (w : List ℕ) (i : ℕ) → i < length ys → wordOf ys i ≡ w → idOf ys w ≤ i
 unfolding idOf
 id-first [] w i h e = absurd (omega arith)
 id-first (y ∷ ys) w zero h e = let f : sameList y w ≡ true = rw e (same-refl w) in rw (if-true 0 (suc (idOf ys w)) f) (le-refl _)
