@@ -1,0 +1,23 @@
+-- What `relevance` demands and leaves. Assumes nothing.
+use mathlib.Core.Path.{_≡_}
+use mathlib.Core.List.{List, [], _∷_}
+use Prim.Native.Nat.{ℕ, _*_, _≤_, _<_}
+use lib.ListN.{length, getD}
+use Rattle.store.specs.Row.{row}
+use Rattle.model.specs.Lists.{if_then_else_}
+use Rattle.layout.specs.declared.Shape.{Shape}
+use Rattle.layout.specs.Rows.{mark, acted, relevantRow}
+use Rattle.layout.specs.Only.{Only}
+use Rattle.layout.specs.Shape.{Sized}
+use Rattle.records.specs.Given.{programIn, Given}
+use Rattle.packing_states.specs.References.{relevant}
+
+pub record RelevancePre (z : Shape) (ns os rs xs : List ℕ) : Type 0 where
+  pub sized : Sized z
+  pub given : Given z ns os rs
+  pub numbers-long : 24 * z .u ≤ length xs
+
+-- row RELEVANT tells the relevant nodes; only rows MARK, ACTED and RELEVANT are written
+pub record Relevance (z : Shape) (ns os rs s t : List ℕ) : Type 0 where
+  pub only : Only (mark ∷ acted ∷ relevantRow ∷ []) (z .u) s t
+  pub tells : (n : ℕ) → n < z .nodes → getD (row t (z .u) relevantRow) n 0 ≡ (if relevant (programIn z ns os rs) n then 1 else 0)

@@ -1,0 +1,133 @@
+-- relevant and relevant_nodes: what they demand and leave. Assumes nothing.
+use mathlib.Core.Path.{_≡_, refl, sym, ap, ap₂, _∙_}
+use mathlib.Core.Bool.{Bool, true, false, not, _||_, or-false}
+use mathlib.Core.List.{List, [], _∷_}
+use Prim.Native.Nat.{ℕ, _+_, _-_, _*_, _≤_, _<_}
+use native.Mathlib.Omega.{arith}
+use native.Mathlib.Decide.{ℕ-discrete}
+use lib.Dec.{eqb}
+use lib.ListN.{length, getD, set}
+use lib.Seq.{getD-set-same, getD-set-other}
+use Rattle.store.specs.Row.{row, row-length, Written}
+use Rattle.model.specs.Lists.{if_then_else_, anyOf, member}
+use Rattle.model.specs.Program.{Node, identity, letter, product}
+use Rattle.model.specs.Value.{nodeMentions, mentionsAt, mentions}
+use Rattle.theory.specs.PackedRoots.{ChildrenBefore, Ordered}
+use Rattle.records.specs.declared.NodeRecord.{NodeRecord}
+use Rattle.records.specs.Records.{nodeRecord, said-identity, said-letter, said-product}
+use Rattle.layout.specs.Rows.{acted, relevantRow, written-row}
+use Rattle.layout.specs.Only.{Only, only-none, only-then, only-written}
+use Rattle.mentions.specs.Marks.{isSet, set-zero, set-nonzero}
+use Rattle.mentions.specs.Mentioned.{any-append, mentions-own}
+use Rattle.mentions.specs.Nodes.{nodesIn, nodeHere, NodesPre, node-here, nodes-count, children-here, said-here}
+
+-- whether a node mentions a qubit acted on, given what is said of its children
+unfoldable pub relevantNode : List ℕ → List ℕ → Node → Bool
+relevantNode acts told identity = false
+relevantNode acts told (letter q c) = isSet acts q
+relevantNode acts told (product a p b r) = isSet told a || isSet told b
+
+-- so for node n, from rows ACTED and RELEVANT
+abbrev pub relevantHere : List ℕ → ℕ → ℕ → List ℕ → Bool
+relevantHere ns u n xs = relevantNode (row xs u acted) (row xs u relevantRow) (nodeHere ns n)
+
+-- node n mentions a qubit acted on
+unfoldable pub mentionsActed : List Node → List ℕ → ℕ → Bool
+mentionsActed nodes acts n = anyOf (isSet acts) (mentionsAt (mentions nodes) n)
+
+-- row RELEVANT tells it of the first n of count nodes
+pub record RelevantNodes (ns : List ℕ) (u count n : ℕ) (s t : List ℕ) : Type 0 where
+  pub only : Only (relevantRow ∷ []) u s t
+  pub tells : (m : ℕ) → m < n → getD (row t u relevantRow) m 0 ≡ (if mentionsActed (nodesIn count ns) (row s u acted) m then 1 else 0)
+
+-- ---- one node
+
+module _ (ns : List ℕ) (n : ℕ) (acts told : List ℕ) (x : NodeRecord) (here : x ≡ nodeRecord ns n) where
+  pub relevant-identity : x .kind ≡ 0 → false ≡ relevantNode acts told (nodeHere ns n)
+  unfolding relevantNode
+  relevant-identity k = sym (ap (relevantNode acts told) (said-here ns n x here _ (said-identity x k)))
+
+  -- v is read at its qubit
+  pub relevant-letter : (v : ℕ) → v ≡ getD acts (x .a) 0 → x .kind ≡ 1 → not (eqb v 0) ≡ relevantNode acts told (nodeHere ns n)
+  unfolding relevantNode isSet
+  relevant-letter v e k = ap (λ (y : ℕ). not (eqb y 0)) e ∙ sym (ap (relevantNode acts told) (said-here ns n x here _ (said-letter x k)))
+
+  module _ (i : x .kind ≡ 0 → ⊥) (k : x .kind ≡ 1 → ⊥) (v : ℕ) (e : v ≡ getD told (x .a) 0) where
+    said : relevantNode acts told (nodeHere ns n) ≡ isSet told (x .a) || isSet told (x .b)
+    unfolding relevantNode
+    said = ap (relevantNode acts told) (said-here ns n x here _ (said-product x i k))
+
+    -- v is read at its first child
+    pub relevant-first : (v ≡ 0 → ⊥) → true ≡ relevantNode acts told (nodeHere ns n)
+    relevant-first z = sym (said ∙ ap (λ (b : Bool). b || isSet told (x .b)) (set-nonzero told (x .a) (λ y. z (e ∙ y))))
+
+    -- and w at its second
+    pub relevant-second : v ≡ 0 → (w : ℕ) → w ≡ getD told (x .b) 0 → not (eqb w 0) ≡ relevantNode acts told (nodeHere ns n)
+    relevant-second z w f =
+        let second : not (eqb w 0) ≡ isSet told (x .b) = unfold isSet in (ap (λ (y : ℕ). not (eqb y 0)) f) in
+        second ∙ sym (said ∙ ap (λ (b : Bool). b || isSet told (x .b)) (set-zero told (x .a) (sym e ∙ z)))
+
+-- ---- the loop
+
+told-set : (xs : List ℕ) (i : ℕ) (b : Bool) → getD xs i 0 ≡ (if b then 1 else 0) → isSet xs i ≡ b
+unfolding if_then_else_
+told-set xs i true e = set-nonzero xs i (λ z. omega arith)
+told-set xs i false e = set-zero xs i e
+
+module _ (nodes : List Node) (o : Ordered 0 nodes) (n : ℕ) (h : n < length nodes) (acts told : List ℕ)
+    (tells : (m : ℕ) → m < n → getD told m 0 ≡ (if mentionsActed nodes acts m then 1 else 0)) where
+  own : (node : Node) → getD nodes n identity ≡ node
+      → mentionsActed nodes acts n ≡ anyOf (isSet acts) (nodeMentions (mentionsAt (mentions nodes)) node)
+  unfolding mentionsActed
+  own node e = ap (anyOf (isSet acts)) (mentions-own nodes o n h ∙ ap (nodeMentions (mentionsAt (mentions nodes))) e)
+
+  node-tells : (node : Node) → getD nodes n identity ≡ node → ChildrenBefore n node → relevantNode acts told node ≡ mentionsActed nodes acts n
+  unfolding relevantNode
+  node-tells identity e k = sym (unfold nodeMentions anyOf in (own identity e))
+  node-tells (letter q c) e k =
+      let one : mentionsActed nodes acts n ≡ isSet acts q || false = unfold nodeMentions anyOf in (own (letter q c) e) in
+      sym (one ∙ or-false (isSet acts q))
+  node-tells (product a p c r) e k =
+      ap₂ _||_ (told-set told a (mentionsActed nodes acts a) (tells a (k .0))) (told-set told c (mentionsActed nodes acts c) (tells c (k .1)))
+      ∙ sym (own (product a p c r) e ∙ children)
+    where
+      children : anyOf (isSet acts) (nodeMentions (mentionsAt (mentions nodes)) (product a p c r))
+          ≡ mentionsActed nodes acts a || mentionsActed nodes acts c
+      children = unfold nodeMentions mentionsActed in (any-append (isSet acts) (mentionsAt (mentions nodes) a) (mentionsAt (mentions nodes) c))
+
+pub relevant-none : (ns : List ℕ) (u count : ℕ) (s : List ℕ) → RelevantNodes ns u count 0 s s
+relevant-none ns u count s = record { only = only-none (relevantRow ∷ []) u s; tells = λ m b. absurd (omega arith) }
+
+pub relevant-next : {ns : List ℕ} {u count n : ℕ} {s t w : List ℕ} → NodesPre ns u count s → n < count → RelevantNodes ns u count n s t
+    → (b : Bool) → b ≡ relevantHere ns u n t → (v : ℕ) → v ≡ (if b then 1 else 0)
+    → Written t u relevantRow n v w → RelevantNodes ns u count (n + 1) s w
+relevant-next {ns} {u} {count} {n} {s} {t} {w} h l r b e v bit y =
+    record { only = only-then (r .only) (only-written long (omega arith) inside y); tells = λ m k. go m k (ℕ-discrete m n) }
+  where
+    long : 24 * u ≤ length t
+    long = let i = h .numbers-long in let j = r .only .long in omega arith
+
+    inside : n < u
+    inside = let f = h .fits in omega arith
+
+    changed : row w u relevantRow ≡ set (row t u relevantRow) n v
+    changed = written-row long (omega arith) inside y
+
+    kept : row t u acted ≡ row s u acted
+    kept = unfold member anyOf in (r .only .rows acted (omega arith) refl)
+
+    truth : b ≡ mentionsActed (nodesIn count ns) (row s u acted) n
+    truth =
+        e ∙ ap (λ (xs : List ℕ). relevantNode xs (row t u relevantRow) (nodeHere ns n)) kept
+        ∙ node-tells (nodesIn count ns) (h .ordered) n (omega (arith, nodes-count count ns)) (row s u acted) (row t u relevantRow) (r .tells)
+        (nodeHere ns n) (node-here h n l) (children-here h n l)
+
+    go : (m : ℕ) → m < n + 1 → Dec (m ≡ n) → getD (row w u relevantRow) m 0 ≡ (if mentionsActed (nodesIn count ns) (row s u acted) m then 1 else 0)
+    go m k (yes i) =
+        rw (changed, i) (getD-set-same (row t u relevantRow) n v 0 (omega (arith, row-length t u 24 relevantRow long (omega arith)))
+        ∙ bit ∙ ap (λ (x : Bool). if x then 1 else 0) truth)
+    go m k (no i) =
+        rw changed (getD-set-other (row t u relevantRow) n m v 0 i ∙ r .tells m (omega arith))
+
+pub relevant-all : {ns : List ℕ} {u count n : ℕ} {s t : List ℕ} → count ≡ n → RelevantNodes ns u count n s t → RelevantNodes ns u count count s t
+relevant-all e r = rw (sym e) at r
