@@ -19,12 +19,12 @@ use Rattle.axes.specs.declared.Interned.{Interned}
 use Rattle.axes.specs.declared.Interned.the-variants.{Id, Full}
 
 -- what a word's id means to the caller: the axes in memory are the model's, no tested sum exceeds the limit,
--- and the words that are counted, and those behind the limit, are as they were
+-- axes and the other words still fit in it, and the words that are counted, and those behind the limit, are as they were
 pub record Accepted (l others limit n : ℕ) (s : List ℕ) (st : Store) (w : List ℕ) (id : ℕ) (t : List ℕ) : Type 0 where
   pub id-is : id ≡ idOf (st .axes) w
   pub axes-are : axesOf l (countWith n id) t ≡ intern l others st w .axes
   pub fits : intern l others st w .peak ≤ limit
-  pub stored : countWith n id * (2 * l) ≤ limit
+  pub room : n * (2 * l) + others ≤ limit → countWith n id * (2 * l) + others ≤ limit
   pub long : length t ≡ length s
   pub rest : (b m : ℕ) → limit ≤ b + others → b + m ≤ length s → part t b m ≡ part s b m
 
@@ -69,7 +69,7 @@ module _ (l others limit n : ℕ) (s : List ℕ) (at : ℕ) (pre : InternPre l o
         id-is = e ∙ sym found;
         axes-are = ap (λ (c : ℕ). axesOf l c s) (sym (count-old n id (omega arith))) ∙ sym (ap (λ (x : Store). x .axes) k ∙ held);
         fits = omega (arith, ap (λ (x : Store). x .peak) k);
-        stored = subst (λ (c : ℕ). c * (2 * l) ≤ limit) (count-old n id (omega arith)) (pre .stored);
+        room = subst (λ (c : ℕ). c * (2 * l) + others ≤ limit) (count-old n id (omega arith));
         long = refl;
         rest = λ b m i j. refl;
       }
@@ -88,7 +88,7 @@ module _ (l others limit n : ℕ) (s : List ℕ) (at : ℕ) (pre : InternPre l o
             ∙ ap (λ (axes : List (List ℕ)). axes ++ (wordAt l s at ∷ [])) (sym held)
             ∙ sym (ap (λ (x : Store). x .axes) k);
         fits = omega (arith, ap (λ (x : Store). x .peak) k, sum);
-        stored = subst (λ (c : ℕ). c * (2 * l) ≤ limit) (count-new n id f) (omega (arith, one-more l n));
+        room = λ k. subst (λ (c : ℕ). c * (2 * l) + others ≤ limit) (count-new n id f) (omega (arith, one-more l n));
         long = put-length s (n * (2 * l)) (wordAt l s at) (omega (arith, pre .inside));
         rest = λ b m i j. part-put-apart s (n * (2 * l)) (wordAt l s at) b m (omega (arith, pre .inside)) j (inl (omega arith));
       }

@@ -15,7 +15,7 @@ use Rattle.model.specs.Lists.{if_then_else_, allOf}
 use Rattle.model.specs.Words.{wordOf}
 use Rattle.model.specs.Items.{Rot}
 use Rattle.model.specs.Exchange.{Term, signedSum, allSumsZero, termOf, termsWith, terms, generatorsCommute}
-use Rattle.theory.specs.Cases.{on-if}
+use Rattle.theory.specs.Cases.{on-if, and-left, and-right}
 use Rattle.theory.specs.Every.{Every}
 use Rattle.effect.specs.Phase.{Quarter, q0, q1, q2, q3, odd, toℤ, σ, σ-even}
 use Rattle.effect.specs.Words.{Words, Setting}
@@ -23,7 +23,7 @@ use Rattle.effect.specs.Effect.{plain, pick}
 use Rattle.effect.specs.Certificate.{row, products, weight, Balanced, Group, turns, exchange}
 use Rattle.items_effect.specs.Ops.{eighth-signed, rotOps, rotOps-append}
 use Rattle.items_effect.specs.Rotations as Rotations
-use Rattle.items_effect.specs.AxisWords.{AxisWords, isOne, Sound, and-left, and-right}
+use Rattle.items_effect.specs.AxisWords.{AxisWords, isOne, Sound}
 
 -- ---- signs: the model counts PQ = iR as plus, the theory as minus
 

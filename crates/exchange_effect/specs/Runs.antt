@@ -10,13 +10,13 @@ use Rattle.model.specs.Lists.{allOf}
 use Rattle.model.specs.Words.{anticommute}
 use Rattle.model.specs.Items.{Rot}
 use Rattle.model.specs.Exchange.{Cut, starts, ends, Triple, withEnds, withStarts, triples, runEndFrom, runEnd}
-use Rattle.theory.specs.Cases.{on-if}
+use Rattle.theory.specs.Cases.{on-if, and-right}
 use Rattle.theory.specs.Every.{Every, every-append, every-one, every-take, every-left, every-right, every-weaken}
 use Rattle.effect.specs.Words.{Words, Setting}
 use Rattle.effect.specs.Generators.{Commute}
 use Rattle.effect.specs.Certificate.{CommuteAll, Group}
 use Rattle.items_effect.specs.Rotations.{Commutes}
-use Rattle.items_effect.specs.AxisWords.{AxisWords, HasAxis, Sound, and-right, commutes-all}
+use Rattle.items_effect.specs.AxisWords.{AxisWords, HasAxis, Sound, commutes-all}
 use Rattle.exchange_effect.specs.Certified.{signedTurn, signedTurns, signed-append}
 
 -- sound rotations have stored axes

@@ -1,6 +1,6 @@
 -- What the passes ask of the words behind the axes' ids, and how it follows from the phases of the stored words. Assumes nothing.
 use mathlib.Core.Path.{_≡_, refl, sym, _∙_, ap}
-use mathlib.Core.Bool.{Bool, true, false, not, _&&_}
+use mathlib.Core.Bool.{Bool, true, false, not}
 use mathlib.Core.List.{List, [], _∷_}
 use Prim.Native.Nat.{ℕ, zero, suc, _%_, _<_}
 use native.Mathlib.Omega.{arith}
@@ -17,6 +17,7 @@ use Rattle.theory.specs.Every.{Every}
 use Rattle.effect.specs.Phase.{Quarter, q0, q1, q2, q3, quarter, odd}
 use Rattle.effect.specs.Words.{Words, Setting}
 use Rattle.items_effect.specs.Rotations.{Commutes}
+use Rattle.theory.specs.Cases.{and-left, and-right}
 
 -- one quarter turn
 abbrev pub isOne : Quarter → Bool
@@ -49,16 +50,6 @@ abbrev pub Sound : List (List ℕ) → Rot → Type 0
 Sound axes r = HasAxis axes r × (r .angle < 8)
 
 -- ---- the model's tests
-
--- of two tests, the first
-pub and-left : (a b : Bool) → (a && b) ≡ true → a ≡ true
-and-left true b h = refl
-and-left false b h = h
-
--- and the second
-pub and-right : (a b : Bool) → (a && b) ≡ true → b ≡ true
-and-right true b h = h
-and-right false b h = cc
 
 module _ (H : Setting) (l : ℕ) (axes : List (List ℕ)) (A : AxisWords H l axes) where
   -- a rotation that passes the test against another commutes with it

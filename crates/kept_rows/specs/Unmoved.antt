@@ -16,7 +16,7 @@ use Rattle.model.specs.Items.{rot, Item, rotation, barrier, isClifford}
 use Rattle.model.specs.Stream.{Place, nowhere, at, Pass, withLast, countMerge, setAngle, putOut, leaveZero, axisImage}
 use Rattle.model.specs.Stream.{imageId, carryAxis, absorb, absorbWaitingAt, absorbWaiting, absorbAllWaiting, absorbBlocking, carryRotation, mergeAt}
 use Rattle.model.specs.Stream.{putOutRotation, mergeOrPutOut, takeRotation, streamItem, stream, begin}
-use Rattle.theory.specs.Cases.{by-if, on-if}
+use Rattle.theory.specs.Cases.{by-if, on-if, and-left, and-right}
 use Rattle.theory.specs.Every.{Every, every-one, every-set, every-weaken}
 use Rattle.theory.specs.Ids.{id-word, Grows, grows-refl, grows-trans, grows-eq, intern-grows}
 use Rattle.theory.specs.StreamState.{axisOf, absorb-axes, carried-id}
@@ -24,7 +24,7 @@ use Rattle.words_wellformed.specs.StoredWords.{StoredWords, intern-stored}
 use Rattle.words_wellformed.specs.HeldImages.{IsQuarters, HeldImages, none-held, absorbImage-commuting, absorbWord-images, wordImage-signed}
 use Rattle.words_wellformed.specs.Carrying.{wordImage-absorbed, wordImage-none, wordImage-symplectic}
 use Rattle.words_wellformed.specs.PassWords.{afterItems, stream-after}
-use Rattle.run_wellformed.specs.CliffordAngles.{and-left, and-right, SmallItem, TurnsItem, CliffordAngle, two, four, six, even-angle, clifford-angle}
+use Rattle.run_wellformed.specs.CliffordAngles.{SmallItem, TurnsItem, CliffordAngle, two, four, six, even-angle, clifford-angle}
 use Rattle.run_wellformed.specs.CliffordAngles.{withSign-turns}
 
 -- an angle that F takes in

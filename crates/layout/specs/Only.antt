@@ -1,6 +1,6 @@
 -- "All other rows are unchanged": what writing into some rows of the number store leaves of it. Assumes nothing.
 use mathlib.Core.Path.{_≡_, refl, sym, ap, _∙_}
-use mathlib.Core.Bool.{Bool, true, false, _&&_, _||_, false≢true, true≢false}
+use mathlib.Core.Bool.{Bool, true, false, _||_, false≢true, true≢false}
 use mathlib.Core.Logic.{_≢_}
 use mathlib.Core.List.{List, [], _∷_}
 use Prim.Native.Nat.{ℕ, _+_, _*_, _≤_, _<_}
@@ -12,6 +12,7 @@ use borrow.Author.Tests.{eq-eqb, eqb-true}
 use Rattle.store.specs.Part.{put, put-length, put-above}
 use Rattle.store.specs.Row.{row, setEntry, Written, row-in, row-set-other, row-put-other}
 use Rattle.model.specs.Lists.{anyOf, member, allOf}
+use Rattle.theory.specs.Cases.{and-left, and-right}
 
 -- t is s but for the rows rs, of u numbers each; what lies behind the 24 rows is unchanged too
 pub record Only (rs : List ℕ) (u : ℕ) (s t : List ℕ) : Type 0 where
@@ -29,18 +30,14 @@ only-then a b = record {
   behind = λ i h. b .behind i h ∙ a .behind i h;
 }
 
-both : (a b : Bool) → a && b ≡ true → (a ≡ true) × (b ≡ true)
-both true b h = (refl, h)
-both false b h = absurd (false≢true h)
-
 -- a row of none of qs is none of rs
 fewer : (rs qs : List ℕ) (r : ℕ) → allOf (λ x. member x qs) rs ≡ true → member r qs ≡ false → member r rs ≡ false
 unfolding allOf member anyOf
 fewer [] qs r h n = refl
-fewer (x ∷ rs) qs r h n = go (eqb r x) refl (fewer rs qs r (both (member x qs) _ h .1) n)
+fewer (x ∷ rs) qs r h n = go (eqb r x) refl (fewer rs qs r (and-right (member x qs) _ h) n)
   where
     go : (b : Bool) → eqb r x ≡ b → member r rs ≡ false → b || member r rs ≡ false
-    go true e k = absurd (false≢true (sym (ap (λ (y : ℕ). member y qs) (sym (eqb-true r x e)) ∙ n) ∙ both (member x qs) _ h .0))
+    go true e k = absurd (false≢true (sym (ap (λ (y : ℕ). member y qs) (sym (eqb-true r x e)) ∙ n) ∙ and-left (member x qs) _ h))
     go false e k = k
 
 -- more rows may change: by computing, where both lists are written out

@@ -7,3 +7,4 @@ pub mod Owed
 pub mod Uses
 pub mod Live
 pub mod Linked
+pub mod InMemory

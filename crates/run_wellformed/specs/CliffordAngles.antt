@@ -1,20 +1,11 @@
 -- Angles 0 to 7 and 1 to 7, and the even ones among them that F takes in: 2, 4 and 6. Assumes nothing.
-use mathlib.Core.Path.{_≡_, refl}
+use mathlib.Core.Path.{_≡_}
 use mathlib.Core.Bool.{Bool, true, false, _&&_, false≢true}
 use Prim.Native.Nat.{ℕ, zero, suc, _≤_, _<_}
 use native.Mathlib.Omega.{arith}
 use Rattle.model.specs.Lists.{isEven}
 use Rattle.model.specs.Items.{Rot, Item, rotation, barrier, withSign, isClifford, angleOf}
-use Rattle.theory.specs.Cases.{by-if}
-
--- both tests hold
-pub and-left : (x y : Bool) → x && y ≡ true → x ≡ true
-and-left true y h = refl
-and-left false y h = absurd (false≢true h)
-
-pub and-right : (x y : Bool) → x && y ≡ true → y ≡ true
-and-right true y h = h
-and-right false y h = absurd (false≢true h)
+use Rattle.theory.specs.Cases.{by-if, and-left, and-right}
 
 -- the second test failed
 pub and-false : (x y : Bool) → x && y ≡ false → x ≡ true → y ≡ false

@@ -16,10 +16,10 @@ use Rattle.model.specs.Stream.{Place, nowhere, at, Pass, withLast, countMerge, 
 use Rattle.model.specs.Stream.{carryAxis, absorb, absorbWaitingAt, absorbWaiting, absorbAllWaiting, absorbBlocking, carryRotation, mergeAt}
 use Rattle.model.specs.Stream.{putOutRotation}
 use Rattle.model.specs.Stream.{mergeOrPutOut, takeRotation, streamItem, stream, carryRowsFrom, carryRows}
-use Rattle.theory.specs.Cases.{by-if, on-if}
+use Rattle.theory.specs.Cases.{by-if, on-if, and-left, and-right}
 use Rattle.theory.specs.Every.{Every, every-one}
 use Rattle.words_wellformed.specs.PassWords.{afterItems, stream-after}
-use Rattle.run_wellformed.specs.CliffordAngles.{and-left, and-right, SmallItem, TurnsItem, CliffordAngle, even-angle, clifford-angle}
+use Rattle.run_wellformed.specs.CliffordAngles.{SmallItem, TurnsItem, CliffordAngle, even-angle, clifford-angle}
 use Rattle.run_wellformed.specs.CliffordAngles.{withSign-turns}
 
 -- ---- the points of a stream

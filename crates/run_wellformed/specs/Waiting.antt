@@ -20,12 +20,12 @@ use Rattle.model.specs.Stream.{Place, nowhere, at, Pass, withLast, countMerge, 
 use Rattle.model.specs.Stream.{axisImage, imageId, carryAxis, absorb, absorbWaitingAt, absorbWaiting, absorbAllWaiting, absorbBlocking, carryRotation}
 use Rattle.model.specs.Stream.{mergeAt}
 use Rattle.model.specs.Stream.{putOutRotation, mergeOrPutOut, takeRotation, streamItem, stream, begin}
-use Rattle.theory.specs.Cases.{by-if, on-if}
+use Rattle.theory.specs.Cases.{by-if, on-if, and-left, and-right}
 use Rattle.theory.specs.Every.{Every, every-one}
 use Rattle.theory.specs.Ids.{id-word, Grows, intern-grows}
 use Rattle.theory.specs.StreamState.{withoutAngles, axisOf, AllIn, AllRotations, Names, Sound, absorb-axes, carried-id, streamItem-stepped}
 use Rattle.words_wellformed.specs.PassWords.{afterItems, stream-after}
-use Rattle.run_wellformed.specs.CliffordAngles.{and-left, and-right, and-false, TurnsItem, withSign-turns}
+use Rattle.run_wellformed.specs.CliffordAngles.{and-false, TurnsItem, withSign-turns}
 use Rattle.run_wellformed.specs.CarriedImages.{absorbed-image}
 use Rattle.run_wellformed.specs.WaitingItems.{no-zero, Still, zeroed, zeroed-still, Passes, Waits, waits-zero, Yields, Mutual, waits-mutual}
 use Rattle.run_wellformed.specs.WaitingItems.{waits-one, still-waits, waits-grows, yields-grows}

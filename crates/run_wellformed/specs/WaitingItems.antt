@@ -13,11 +13,11 @@ use Rattle.model.specs.Lists.{if_then_else_, allOf}
 use Rattle.model.specs.Words.{wordOf, anticommute}
 use Rattle.model.specs.Items.{Rot, rot, Item, rotation, barrier, isClifford}
 use Rattle.model.specs.Stream.{letsPass}
-use Rattle.theory.specs.Cases.{on-if}
+use Rattle.theory.specs.Cases.{on-if, and-left, and-right}
 use Rattle.theory.specs.Every.{Every}
 use Rattle.theory.specs.Ids.{Grows}
 use Rattle.theory.specs.StreamState.{outside, AllIn, AllRotations}
-use Rattle.run_wellformed.specs.CliffordAngles.{and-left, and-right, clifford-nonzero}
+use Rattle.run_wellformed.specs.CliffordAngles.{clifford-nonzero}
 use Rattle.run_wellformed.specs.StreamSteps.{every-set}
 use Rattle.run_wellformed.specs.CarriedImages.{every-implies}
 

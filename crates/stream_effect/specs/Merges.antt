@@ -15,11 +15,11 @@ use Rattle.model.specs.Items.{rot, Item, rotation, isClifford}
 use Rattle.model.specs.Stream.{Place, nowhere, at, Pass, withLast, countMerge, setAngle, leaveZero, putOutRotation, letsPass, canReach, angleAt}
 use Rattle.model.specs.Stream.{absorb, mergeAt}
 use Rattle.model.specs.Stream.{mergeOrPutOut, takeRotation}
-use Rattle.theory.specs.Cases.{on-if, by-if}
+use Rattle.theory.specs.Cases.{on-if, by-if, and-right}
 use Rattle.theory.specs.Every.{Every, every-right}
 use Rattle.theory.specs.StreamState.{AllIn, Sound, absorb-axes}
 use Rattle.words_wellformed.specs.PassWords.{WellPass}
-use Rattle.run_wellformed.specs.CliffordAngles.{and-right, clifford-angle, even-angle}
+use Rattle.run_wellformed.specs.CliffordAngles.{clifford-angle, even-angle}
 use Rattle.run_wellformed.specs.WaitingItems.{Passes, all-pass}
 use Rattle.effect.specs.Effect.{Op}
 use Rattle.effect.specs.Packed.{Packed, packed}

@@ -11,12 +11,12 @@ use Rattle.model.specs.Rules.{Absorption, off, atOnce, lazy}
 use Rattle.model.specs.Items.{rot, Item, rotation, barrier, isClifford}
 use Rattle.model.specs.Stream.{at, Pass, withLast, setAngle, putOut, leaveZero, putOutRotation}
 use Rattle.model.specs.Stream.{carryAxis, absorb, absorbWaitingAt, absorbWaiting, absorbAllWaiting, absorbBlocking, carryRotation}
-use Rattle.theory.specs.Cases.{on-if}
+use Rattle.theory.specs.Cases.{on-if, and-left}
 use Rattle.theory.specs.Every.{Every, every-right}
 use Rattle.theory.specs.Ids.{Grows, intern-grows}
 use Rattle.theory.specs.StreamState.{AllIn, absorb-axes}
 use Rattle.words_wellformed.specs.PassWords.{WellPut, WellPass, carryAxis-well, absorbWaitingAt-well, absorbBlocking-well}
-use Rattle.run_wellformed.specs.CliffordAngles.{and-left, clifford-angle}
+use Rattle.run_wellformed.specs.CliffordAngles.{clifford-angle}
 use Rattle.run_wellformed.specs.WaitingItems.{zeroed, Passes, Waits, waits-seam}
 use Rattle.run_wellformed.specs.Waiting.{Waiting, at-seam, carryAxis-waiting, absorbWaitingAt-out, absorbWaitingAt-waiting}
 use Rattle.effect.specs.Effect.{Op}

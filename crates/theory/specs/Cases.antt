@@ -1,6 +1,6 @@
 -- Choices, case by case: `by-if` where both cases hold, `on-if` where the test's value is wanted. Assumes nothing.
-use mathlib.Core.Path.{_≡_, refl}
-use mathlib.Core.Bool.{Bool, true, false, _||_, true≢false}
+use mathlib.Core.Path.{_≡_, refl, sym}
+use mathlib.Core.Bool.{Bool, true, false, _&&_, _||_, true≢false}
 use Rattle.model.specs.Lists.{if_then_else_}
 
 -- whatever the test says
@@ -35,3 +35,12 @@ if-false x y e = rw e refl
 pub neither : (x y : Bool) → x || y ≡ false → (x ≡ false) × (y ≡ false)
 neither true y h = absurd (true≢false h)
 neither false y h = (refl, h)
+
+-- both of two tests hold
+pub and-left : (x y : Bool) → x && y ≡ true → x ≡ true
+and-left true y h = refl
+and-left false y h = absurd (true≢false (sym h))
+
+pub and-right : (x y : Bool) → x && y ≡ true → y ≡ true
+and-right true y h = h
+and-right false y h = absurd (true≢false (sym h))

@@ -1,6 +1,6 @@
 -- Stored axes: a word's id is in range and gives the word back; old ids keep their words. Assumes nothing.
-use mathlib.Core.Path.{_≡_, refl, ap, _∙_}
-use mathlib.Core.Bool.{true}
+use mathlib.Core.Path.{_≡_, refl, sym, ap, _∙_}
+use mathlib.Core.Bool.{Bool, true, false}
 use mathlib.Core.List.{List, [], _∷_, _++_}
 use Prim.Native.Nat.{ℕ, zero, suc, _+_, _≤_, _<_}
 use native.Mathlib.Nat.{le-refl, le-trans}
@@ -10,7 +10,7 @@ use borrow.Author.Tests.{ltb-true}
 use Rattle.store.specs.Equal.{sameList, same-refl, same-true}
 use Rattle.model.specs.Lists.{if_then_else_}
 use Rattle.model.specs.Words.{idOf, wordOf, Store, intern}
-use Rattle.theory.specs.Cases.{by-if, on-if, if-true}
+use Rattle.theory.specs.Cases.{by-if, on-if, if-true, if-false}
 
 -- ---- ids
 
@@ -90,3 +90,21 @@ pub stored-keeps : (xs ys : List (List ℕ)) (w : List ℕ) → Grows xs ys → 
 stored-keeps xs ys w g h =
     let b : idOf xs w < length ys = le-trans h (g .longer) in
     omega (arith, id-first ys w (idOf xs w) b (g .keeps (idOf xs w) h ∙ id-word xs w h))
+
+-- a word that is stored keeps its id where another is stored behind
+id-behind : (axes : List (List ℕ)) (v w : List ℕ) → Stored axes w → idOf (axes ++ (v ∷ [])) w ≡ idOf axes w
+unfolding idOf
+id-behind [] v w h = absurd (omega arith)
+id-behind (a ∷ axes) v w h = go (sameList a w) refl (λ s. id-behind axes v w s)
+  where
+    go : (b : Bool) → sameList a w ≡ b → (Stored axes w → idOf (axes ++ (v ∷ [])) w ≡ idOf axes w)
+        → (if sameList a w then 0 else suc (idOf (axes ++ (v ∷ [])) w)) ≡ (if sameList a w then 0 else suc (idOf axes w))
+    go true e ih = if-true 0 _ e ∙ sym (if-true 0 _ e)
+    go false e ih =
+        let s : (if sameList a w then 0 else suc (idOf axes w)) ≡ suc (idOf axes w) = if-false 0 _ e in
+        ap (λ (n : ℕ). if sameList a w then 0 else suc n) (ih (omega arith))
+
+-- so storing a word changes no stored word's id
+pub id-keeps : (l others : ℕ) (st : Store) (v w : List ℕ) → Stored (st .axes) w → idOf (intern l others st v .axes) w ≡ idOf (st .axes) w
+unfolding intern
+id-keeps l others st v w h = by-if (λ (x : Store). idOf (x .axes) w ≡ idOf (st .axes) w) _ _ _ refl (id-behind (st .axes) v w h)

@@ -66,10 +66,11 @@ ordered-at n (node ∷ rest) (suc k) o h =
     rw e at (ordered-at (suc n) rest k (o .1) (omega arith))
 
 module _ (l : ℕ) (nodes : List Node) (o : Ordered 0 nodes) where
-  abbrev vs : List Value
+  abbrev pub vs : List Value
   vs = values l nodes
 
-  own : (n : ℕ) → n < length nodes → valueAt vs n ≡ nodeValue l (valueAt vs) (getD nodes n identity)
+  -- a node's value is worked out from those of its children
+  pub own : (n : ℕ) → n < length nodes → valueAt vs n ≡ nodeValue l (valueAt vs) (getD nodes n identity)
   unfolding values
   own n h =
       let e : n + 0 ≡ n = add-zero n in

@@ -1,0 +1,77 @@
+-- A program's nodes and references as the records in the lent slices. Assumes nothing.
+use mathlib.Core.Path.{_≡_, ap, _∙_}
+use mathlib.Core.List.{List, map, _++_}
+use Prim.Native.Nat.{ℕ, _+_, _*_, _≤_, _<_}
+use native.Mathlib.Omega.{arith}
+use lib.ListN.{length, length-append, length-map, List·getD-append, List·getD-map}
+use lib.Seq.{getD-append-add}
+use Rattle.store.specs.Chunk.{chunks, chunks-length}
+use Rattle.model.specs.Program.{operationOf, rowOf, Program, programOf}
+use Rattle.model.specs.Roots.{operationRoot}
+use Rattle.model.specs.Results.{noOperation}
+use Rattle.theory.specs.Every.{every-append, every-map, every-at}
+use Rattle.theory.specs.Checked.{NodeIn, RowIn, nodes-length, Fine}
+use Rattle.layout.specs.declared.Shape.{Shape}
+use Rattle.records.specs.Records.{nodeRecord, operationRecord, rowRecord, nodeSaid, operationSaid, rowSaid, node-said, operation-said, row-said}
+use Rattle.records.specs.Given.{programIn}
+use Rattle.packing_states.specs.References.{references, referenceAt, total}
+use Rattle.packing_states.specs.States.{nodeAt}
+
+module _ (z : Shape) (ns os rs : List ℕ) where
+  -- ---- as many as the counts say
+
+  pub nodes-count : length (programIn z ns os rs .nodes) ≡ z .nodes
+  unfolding programIn
+  nodes-count = nodes-length _
+
+  pub operations-count : length (programIn z ns os rs .operations) ≡ z .operations
+  unfolding programIn programOf
+  operations-count = length-map (chunks 6 (z .operations) os) operationOf ∙ chunks-length 6 (z .operations) os
+
+  pub rows-count : length (programIn z ns os rs .rows) ≡ 2 * z .qubits
+  unfolding programIn programOf
+  rows-count = length-map (chunks 4 (2 * z .qubits) rs) rowOf ∙ chunks-length 4 (2 * z .qubits) rs
+
+  roots-count : length (map operationRoot (programIn z ns os rs .operations)) ≡ z .operations
+  roots-count = length-map (programIn z ns os rs .operations) operationRoot ∙ operations-count
+
+  pub total-is : total (programIn z ns os rs) ≡ z .operations + 2 * z .qubits
+  unfolding total references
+  total-is =
+      let p = programIn z ns os rs in
+      omega (arith, length-append (map operationRoot (p .operations)) (p .rows), roots-count, rows-count)
+
+  -- ---- record by record
+
+  pub node-is : (n : ℕ) → n < z .nodes → z .nodes * 5 ≤ length ns → nodeAt (programIn z ns os rs) n ≡ nodeSaid (nodeRecord ns n)
+  unfolding nodeAt programIn programOf
+  node-is n h k = node-said (z .nodes) ns n h k
+
+  -- operation j is reference j
+  pub operation-reference : (j : ℕ) → j < z .operations → z .operations * 6 ≤ length os
+      → referenceAt (programIn z ns os rs) j ≡ record { node = operationRecord os j .node; phase = operationRecord os j .phase }
+  unfolding referenceAt references programIn programOf noOperation operationRoot operationSaid
+  operation-reference j h k =
+      let ops = programIn z ns os rs .operations in
+      List·getD-append (map operationRoot ops) (programIn z ns os rs .rows) (operationRoot noOperation) j (omega (arith, roots-count))
+      ∙ List·getD-map operationRoot ops j noOperation
+      ∙ ap operationRoot (operation-said (z .operations) os j noOperation h k)
+
+  -- frame row r is reference operations + r
+  pub row-reference : (r : ℕ) → r < 2 * z .qubits → 2 * z .qubits * 4 ≤ length rs
+      → referenceAt (programIn z ns os rs) (z .operations + r) ≡ record { node = rowRecord rs r .node; phase = rowRecord rs r .phase }
+  unfolding referenceAt references programIn programOf rowSaid
+  row-reference r h k =
+      let p = programIn z ns os rs in
+      let e : z .operations + r ≡ length (map operationRoot (p .operations)) + r = omega (arith, roots-count) in
+      rw e (getD-append-add (map operationRoot (p .operations)) (p .rows) r (record { node = 0; phase = 0 })
+      ∙ row-said (2 * z .qubits) rs r (record { node = 0; phase = 0 }) h k)
+
+-- a fine program's references are to its nodes
+pub reference-node : (p : Program) → Fine p → (j : ℕ) → j < total p → referenceAt p j .node < length (p .nodes)
+unfolding referenceAt total references operationRoot
+reference-node p f j h =
+    let n = length (p .nodes) in
+    let ops = map operationRoot (p .operations) in
+    every-at (RowIn n) (ops ++ p .rows) (record { node = 0; phase = 0 }) j
+    (every-append (RowIn n) ops (p .rows) (every-map (NodeIn n) (RowIn n) operationRoot (λ x k. k) (p .operations) (f .operations)) (f .rows)) h

@@ -1,0 +1,144 @@
+-- Linking: what its functions demand of the number store and leave in it. Assumes nothing.
+use mathlib.Core.Path.{_≡_}
+use mathlib.Core.Bool.{true, false}
+use mathlib.Core.List.{List, [], _∷_}
+use Prim.Native.Nat.{ℕ, suc, _+_, _*_, _≤_, _<_}
+use lib.ListN.{length, getD, set}
+use Rattle.store.specs.Row.{row}
+use Rattle.model.specs.Lists.{if_then_else_}
+use Rattle.model.specs.Program.{Program}
+use Rattle.model.specs.Roots.{roots}
+use Rattle.model.specs.Packing.{oneUseMore}
+use Rattle.layout.specs.declared.Shape.{Shape}
+use Rattle.layout.specs.Rows.{relevantRow, usesRow, firstRoot, nextRoot, rootAxis, rootSign, none, entries}
+use Rattle.layout.specs.Only.{Only}
+use Rattle.layout.specs.Shape.{Sized}
+use Rattle.records.specs.Records.{operationRecord, rowRecord}
+use Rattle.packing_states.specs.References.{referenceAt, total, relevant, isRootAt, linkFrom}
+use Rattle.packing_states.specs.ReferenceLaws.{rootsFrom}
+use Rattle.packing_states.specs.Counts.{rootCounts}
+use Rattle.packing_states.specs.Linked.{Linked}
+
+-- ---- one use more
+
+-- the count still fits 32 bits
+pub record AddPre (s : List ℕ) (u n : ℕ) : Type 0 where
+  pub long : 24 * u ≤ length s
+  pub node : n < u
+  pub uses : getD (row s u usesRow) n 0 < 4294967295
+
+pub record Added (s : List ℕ) (u n : ℕ) (t : List ℕ) : Type 0 where
+  pub only : Only (usesRow ∷ []) u s t
+  pub uses : row t u usesRow ≡ oneUseMore n (row s u usesRow)
+
+-- ---- one reference
+
+-- both have their entries, and j + 1 fits 32 bits
+pub record FrontPre (s : List ℕ) (u j n : ℕ) : Type 0 where
+  pub long : 24 * u ≤ length s
+  pub u-small : u ≤ 1187839
+  pub root : j < u
+  pub node : n < u
+  pub uses : getD (row s u usesRow) n 0 < 4294967295
+
+-- root j stands in front of node n's other roots, and uses the node
+pub record InFront (s : List ℕ) (u j n : ℕ) (t : List ℕ) : Type 0 where
+  pub only : Only (usesRow ∷ firstRoot ∷ nextRoot ∷ []) u s t
+  pub next : row t u nextRoot ≡ set (row s u nextRoot) j (getD (row s u firstRoot) n 0)
+  pub first : row t u firstRoot ≡ set (row s u firstRoot) n (suc j)
+  pub uses : row t u usesRow ≡ oneUseMore n (row s u usesRow)
+
+-- reference j, which is no root, has no axis
+pub record NoRoot (s : List ℕ) (u j : ℕ) (t : List ℕ) : Type 0 where
+  pub only : Only (rootAxis ∷ rootSign ∷ []) u s t
+  pub axis : row t u rootAxis ≡ set (row s u rootAxis) j none
+  pub sign : row t u rootSign ≡ set (row s u rootSign) j 0
+
+-- reference i is operation i of the records
+pub record OperationPre (os s : List ℕ) (u i : ℕ) : Type 0 where
+  pub record-long : i * 6 + 6 ≤ length os
+  pub front : FrontPre s u i (operationRecord os i .node)
+
+abbrev pub linkRows : List ℕ
+linkRows = usesRow ∷ firstRoot ∷ nextRoot ∷ rootAxis ∷ rootSign ∷ []
+
+-- reference j is frame row r of the records
+pub record RowPre (rs s : List ℕ) (u j r : ℕ) : Type 0 where
+  pub record-long : r * 4 + 4 ≤ length rs
+  pub front : FrontPre s u j (rowRecord rs r .node)
+
+-- reference j is a frame row at node n: a root if the node is relevant
+pub record RowLinked (s : List ℕ) (u j n : ℕ) (t : List ℕ) : Type 0 where
+  pub only : Only linkRows u s t
+  pub root : (getD (row s u relevantRow) n 0 ≡ 0 → ⊥) → InFront s u j n t
+  pub no-root : getD (row s u relevantRow) n 0 ≡ 0 → NoRoot s u j t
+
+-- ---- the references from j on
+
+-- they are linked
+pub record LinkedFrom (p : Program) (u j : ℕ) (t : List ℕ) : Type 0 where
+  pub first : (n : ℕ) → n < length (p .nodes) → getD (row t u firstRoot) n 0 ≡ linkFrom p n j
+  pub uses : (n : ℕ) → n < length (p .nodes) → getD (row t u usesRow) n 0 ≡ rootsFrom p n j
+  pub next : (i : ℕ) → j ≤ i → i < total p → isRootAt p i ≡ true → getD (row t u nextRoot) i 0 ≡ linkFrom p (referenceAt p i .node) (suc i)
+  pub no-axis : (i : ℕ) → j ≤ i → i < total p → isRootAt p i ≡ false → getD (row t u rootAxis) i 0 ≡ none
+  pub no-sign : (i : ℕ) → j ≤ i → i < total p → isRootAt p i ≡ false → getD (row t u rootSign) i 0 ≡ 0
+
+-- some program has it
+pub record Some (P : Program → Type 0) : Type 0 where
+  pub p : Program
+  pub it : P p
+
+-- the program has these sizes, its references are to its nodes, and the number store has its rows
+pub record Sizes (p : Program) (z : Shape) (s : List ℕ) : Type 0 where
+  pub sized : Sized z
+  pub long : 24 * z .u ≤ length s
+  pub nodes : length (p .nodes) ≡ z .nodes
+  pub operations : length (p .operations) ≡ z .operations
+  pub references : total p ≡ z .operations + 2 * z .qubits
+  pub node : (j : ℕ) → j < total p → referenceAt p j .node < length (p .nodes)
+
+-- its operations are these records
+pub record OperationsIn (p : Program) (z : Shape) (os : List ℕ) : Type 0 where
+  pub long : z .operations * 6 ≤ length os
+  pub node : (i : ℕ) → i < z .operations → referenceAt p i .node ≡ operationRecord os i .node
+
+-- its frame rows are these records, and which of them are roots stands in the number store
+pub record RowsIn (p : Program) (z : Shape) (rs s : List ℕ) : Type 0 where
+  pub long : 2 * z .qubits * 4 ≤ length rs
+  pub node : (r : ℕ) → r < 2 * z .qubits → referenceAt p (z .operations + r) .node ≡ rowRecord rs r .node
+  pub tells : (n : ℕ) → n < z .nodes → getD (row s (z .u) relevantRow) n 0 ≡ (if relevant p n then 1 else 0)
+
+-- ---- the frame rows, then the operations
+
+pub record RowsPre (p : Program) (z : Shape) (rs s : List ℕ) : Type 0 where
+  pub sizes : Sizes p z s
+  pub records : RowsIn p z rs s
+  pub start : LinkedFrom p (z .u) (total p) s
+
+pub record RowsLinked (z : Shape) (rs s t : List ℕ) : Type 0 where
+  pub only : Only linkRows (z .u) s t
+  pub linked : (p : Program) → RowsPre p z rs s → LinkedFrom p (z .u) (z .operations) t
+
+pub record OperationsPre (p : Program) (z : Shape) (os s : List ℕ) : Type 0 where
+  pub sizes : Sizes p z s
+  pub records : OperationsIn p z os
+  pub start : LinkedFrom p (z .u) (z .operations) s
+
+pub record OperationsLinked (z : Shape) (os s t : List ℕ) : Type 0 where
+  pub only : Only (usesRow ∷ firstRoot ∷ nextRoot ∷ []) (z .u) s t
+  pub linked : (p : Program) → OperationsPre p z os s → LinkedFrom p (z .u) 0 t
+
+-- ---- both
+
+pub record LinkPre (p : Program) (z : Shape) (os rs s : List ℕ) : Type 0 where
+  pub sizes : Sizes p z s
+  pub operations : OperationsIn p z os
+  pub rows : RowsIn p z rs s
+
+pub record Links (p : Program) (z : Shape) (t : List ℕ) : Type 0 where
+  pub linked : Linked p z t
+  pub uses : entries t (z .u) usesRow (z .nodes) ≡ rootCounts (roots p) (z .nodes)
+
+pub record RootsLinked (z : Shape) (os rs s t : List ℕ) : Type 0 where
+  pub only : Only linkRows (z .u) s t
+  pub links : (p : Program) → LinkPre p z os rs s → Links p z t

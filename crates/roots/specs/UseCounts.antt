@@ -1,0 +1,45 @@
+-- Counting uses: what its functions demand of the number store and leave in it. Assumes nothing.
+use mathlib.Core.Path.{_≡_}
+use mathlib.Core.List.{List, [], _∷_, map}
+use Prim.Native.Nat.{ℕ, _+_, _*_, _≤_, _<_}
+use lib.ListN.{length, getD}
+use Rattle.store.specs.Chunk.{chunks}
+use Rattle.store.specs.Row.{row}
+use Rattle.model.specs.Program.{nodeOf}
+use Rattle.model.specs.Packing.{countUses}
+use Rattle.theory.specs.PackedRoots.{ChildrenBefore}
+use Rattle.layout.specs.Rows.{usesRow, entries}
+use Rattle.layout.specs.Only.{Only}
+use Rattle.records.specs.Records.{nodeRecord, nodeSaid}
+use Rattle.packing_states.specs.Counts.{countNode}
+
+-- ---- one node
+
+-- a product's children have entries, and room for two uses more
+pub record UsePre (ns s : List ℕ) (u n : ℕ) : Type 0 where
+  pub long : 24 * u ≤ length s
+  pub record-long : n * 5 + 5 ≤ length ns
+  pub node : n < u
+  pub first : 2 ≤ nodeRecord ns n .kind → nodeRecord ns n .a < u
+  pub second : 2 ≤ nodeRecord ns n .kind → nodeRecord ns n .b < u
+  pub first-uses : 2 ≤ nodeRecord ns n .kind → getD (row s u usesRow) (nodeRecord ns n .a) 0 < 4294967294
+  pub second-uses : 2 ≤ nodeRecord ns n .kind → getD (row s u usesRow) (nodeRecord ns n .b) 0 < 4294967294
+
+pub record ChildrenUsed (ns s : List ℕ) (u n : ℕ) (t : List ℕ) : Type 0 where
+  pub only : Only (usesRow ∷ []) u s t
+  pub uses : row t u usesRow ≡ countNode n (nodeSaid (nodeRecord ns n)) (row s u usesRow)
+
+-- ---- all nodes
+
+-- a product's children stand before it; no node is used by more than all references so far, 65,535 + 2 × 4,096 of them
+pub record CountPre (ns s : List ℕ) (u count : ℕ) : Type 0 where
+  pub long : 24 * u ≤ length s
+  pub nodes-long : count * 5 ≤ length ns
+  pub fits : count ≤ u
+  pub few : count ≤ 65535
+  pub children : (n : ℕ) → n < count → ChildrenBefore n (nodeSaid (nodeRecord ns n))
+  pub uses : (m : ℕ) → getD (entries s u usesRow count) m 0 ≤ 73727
+
+pub record UsesCounted (ns s : List ℕ) (u count : ℕ) (t : List ℕ) : Type 0 where
+  pub only : Only (usesRow ∷ []) u s t
+  pub uses : entries t u usesRow count ≡ countUses (map nodeOf (chunks 5 count ns)) count (entries s u usesRow count)
