@@ -121,19 +121,22 @@ module _ (p : Program) where
   operationRoots-length : length operationRoots ≡ length (p .operations)
   operationRoots-length = length-map (p .operations) operationRoot
 
-  operation-kept : (k : ℕ) → k < length operationRoots → (isRootAt p (k + 0) ≡ true) × (referenceAt p (k + 0) ≡ getD operationRoots k none)
+  -- operation k is reference k, and a root
+  pub operation-kept : (k : ℕ) → k < length operationRoots → (isRootAt p (k + 0) ≡ true) × (referenceAt p (k + 0) ≡ getD operationRoots k none)
   unfolding isRootAt referenceAt references
   operation-kept k h =
       rw (add-zero k)
       (rw (lt-ltb k (length (p .operations)) (omega (arith, operationRoots-length))) refl, List·getD-append operationRoots (p .rows) none k h)
 
-  row-at : (k : ℕ) → referenceAt p (k + (length operationRoots + 0)) ≡ getD (p .rows) k none
+  -- frame row k stands behind the operations
+  pub row-at : (k : ℕ) → referenceAt p (k + (length operationRoots + 0)) ≡ getD (p .rows) k none
   unfolding referenceAt references
   row-at k =
       let e : k + (length operationRoots + 0) ≡ length operationRoots + k = omega arith in
       rw e (getD-append-add operationRoots (p .rows) k none)
 
-  row-kept : (k : ℕ) → isRootAt p (k + (length operationRoots + 0)) ≡ isRoot p (getD (p .rows) k none)
+  -- and is a root where the model keeps it
+  pub row-kept : (k : ℕ) → isRootAt p (k + (length operationRoots + 0)) ≡ isRoot p (getD (p .rows) k none)
   unfolding isRootAt relevant isRoot
   row-kept k = rw (le-ltb (k + (length operationRoots + 0)) (length (p .operations)) (omega (arith, operationRoots-length)), row-at k) refl
 

@@ -16,6 +16,7 @@ pub fn check(job: &Job, unchanged: &Seen, shown: &Seen, record: &Record) -> Chec
     )?;
     sums(job, unchanged, record)?;
     distinct_axes(record)?;
+    packing(job, record)?;
     match unchanged {
         Ok(accepted) => results(job, accepted, record),
         Err(_) => demand(
@@ -45,6 +46,26 @@ fn distinct_axes(record: &Record) -> Check {
     axes.sort();
     axes.dedup();
     demand(axes.len() == record.axes.len(), "an axis has two ids")
+}
+
+/// What pack handed back against the job's own expressions: one id and sign for each operation and each row that is a root.
+fn packing(job: &Job, record: &Record) -> Check {
+    let Some(packed) = &record.packed else {
+        return Ok(());
+    };
+    let mut references: Vec<(i64, i64)> = job.operations.iter().map(|o| (o[1], o[2])).collect();
+    let rows = packed
+        .rows
+        .iter()
+        .map(|&(q, is_z)| job.rows[2 * q + usize::from(is_z)]);
+    references.extend(rows.map(|r| (r[2], r[3])));
+    demand(packed.roots.len() == references.len(), "count of roots")?;
+    let words = expand(job.qubits, &job.nodes, &references);
+    for (&(id, sign), word) in packed.roots.iter().zip(words) {
+        demand((id as usize) < packed.axes, "an id that pack did not store")?;
+        demand(word == signed(job, record, id, sign), "a packed root")?;
+    }
+    Ok(())
 }
 
 /// Ids, signs and words against the expressions that the unchanged copy hands out.

@@ -4,6 +4,8 @@
 pub struct Flags {
     /// One job in 01's listing form, answered by 01's listing.
     pub listing: bool,
+    /// What packing alone gives, in place of the run's answer.
+    pub packing: bool,
     /// Every tested sum before each answer, in lines that begin with #.
     pub sums: bool,
     /// A summary of all jobs on standard error.
@@ -20,6 +22,7 @@ impl Flags {
         for arg in std::env::args().skip(1) {
             let flag = match arg.as_str() {
                 "--listing" => &mut flags.listing,
+                "--packing" => &mut flags.packing,
                 "--sums" => &mut flags.sums,
                 "--stats" => &mut flags.stats,
                 "--quiet" => &mut flags.quiet,

@@ -1,6 +1,6 @@
 //! Reads jobs, runs both copies of the original on each, asserts that they agree, and prints document 01's output.
 //!
-//! driver [--listing] [--sums] [--stats] [--quiet] [--time] < jobs
+//! driver [--listing] [--packing] [--sums] [--stats] [--quiet] [--time] < jobs
 
 mod agree;
 mod flags;
@@ -32,7 +32,12 @@ fn main() -> io::Result<()> {
             write_sums(&mut out, &record)?;
         }
         if !flags.quiet {
-            write!(out, "{}", jobs::answer(&job, &seen, &record))?;
+            let answer = if flags.packing {
+                jobs::packing
+            } else {
+                jobs::answer
+            };
+            write!(out, "{}", answer(&job, &seen, &record))?;
         }
     }
     out.flush()?;

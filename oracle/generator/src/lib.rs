@@ -1,5 +1,6 @@
-//! Jobs for the driver: random ones from a seed, directed ones for single rules, and the fixed list.
+//! Jobs for the driver: random ones from a seed, directed ones for single rules, the fixed list, and those for packing alone.
 
+pub mod checked;
 pub mod directed;
 pub mod fixed;
 mod frame;
@@ -7,6 +8,7 @@ pub mod limit;
 mod notation;
 mod operations;
 mod options;
+pub mod packing;
 mod pool;
 mod program;
 pub mod random;

@@ -1,11 +1,14 @@
 //! generator SEED COUNT: random jobs.
 //! generator --limits SEED COUNT: small jobs, each with every limit that refuses it at another sum.
 //! generator --fixed SEED COUNT: small jobs, at most a few of each class.
+//! generator --packing SEED COUNT: small jobs, at most a few of each class of packing.
 //! generator --directed: the directed cases, each with a comment.
+//! generator --accepted, --refused: jobs at Checking's bounds, each with a comment.
+//! generator --answers: 01's answers to the refused ones.
 
 use generator::random::{self, Shape};
 use generator::rng::Rng;
-use generator::{directed, fixed, limit};
+use generator::{checked, directed, fixed, limit, packing};
 use jobs::Job;
 
 fn main() {
@@ -13,6 +16,14 @@ fn main() {
     let args: Vec<&str> = args.iter().map(String::as_str).collect();
     match args[..] {
         ["--directed"] => print!("{}", directed::text()),
+        ["--accepted"] => print!("{}", checked::accepted()),
+        ["--refused"] => print!("{}", checked::refused()),
+        ["--answers"] => print!("{}", checked::refusal_answers()),
+        ["--packing", seed, count] => {
+            for job in packing::list(number(seed), number(count) as usize) {
+                print!("{job}");
+            }
+        }
         ["--fixed", seed, count] => {
             for job in fixed::list(number(seed), number(count) as usize) {
                 print!("{job}");
@@ -29,7 +40,8 @@ fn main() {
             }
         }
         _ => {
-            eprintln!("generator [--limits | --fixed] SEED COUNT | generator --directed");
+            eprintln!("generator [--limits | --fixed | --packing] SEED COUNT");
+            eprintln!("generator --directed | --accepted | --refused | --answers");
             std::process::exit(2);
         }
     }

@@ -29,6 +29,30 @@ pub fn answer(job: &Job, seen: &Seen, record: &Record) -> String {
     lines.into_iter().map(text).collect::<String>() + "end\n"
 }
 
+/// The driver's text for packing alone: answer and axes; id and sign (0 or 2 quarter turns) of each operation and each
+/// row, -1 0 for a row that is no root; the words of each stored axis; `end`. After a refusal only the first line and `end`.
+pub fn packing(job: &Job, seen: &Seen, record: &Record) -> String {
+    let Some(packed) = &record.packed else {
+        let refusal = seen.as_ref().expect_err("pack did not end");
+        return format!("{} 0\nend\n", refusal.answer());
+    };
+    let signed = |&(id, sign): &(u32, i8)| format!("{id} {}", 1 - sign);
+    let word = |axis: &Vec<u64>| {
+        let words: Vec<String> = axis.iter().map(u64::to_string).collect();
+        words.join(" ")
+    };
+    let (operations, roots) = packed.roots.split_at(job.operations.len());
+    let mut rows = vec!["-1 0".to_string(); 2 * job.qubits];
+    for (&(qubit, is_z), root) in packed.rows.iter().zip(roots) {
+        rows[2 * qubit + usize::from(is_z)] = signed(root);
+    }
+    let mut lines = vec![format!("0 {}", packed.axes)];
+    lines.extend(operations.iter().map(signed));
+    lines.extend(rows);
+    lines.extend(record.axes[..packed.axes].iter().map(word));
+    lines.join("\n") + "\nend\n"
+}
+
 /// 01's listing: eight fields in the first line, 8 columns each, right-justified.
 pub fn listing(job: &Job, seen: &Seen, record: &Record) -> String {
     let first = match seen {

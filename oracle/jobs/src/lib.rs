@@ -6,7 +6,7 @@ mod read;
 mod seen;
 mod word;
 
-pub use answer::{answer, listing};
+pub use answer::{answer, listing, packing};
 pub use job::{Job, MAX_LIMIT, NO_TARGET, Options};
 pub use read::{read_jobs, read_listing};
 pub use seen::{Accepted, Counters, Records, Refusal, Seen};

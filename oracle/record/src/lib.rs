@@ -39,11 +39,24 @@ pub struct Record {
     pub sums: Vec<(Place, usize)>,
     /// The stored axes in order of id, each l x-words and then l z-words.
     pub axes: Vec<Vec<u64>>,
+    /// What `pack` handed back; none if it refused.
+    pub packed: Option<Packed>,
     /// Result operations: id and sign.
     pub operations: Vec<(u32, i8)>,
     /// Rows given by the run: qubit, whether z, id and sign.
     pub rows: Vec<(usize, bool, u32, i8)>,
     pub seen: Events,
+}
+
+/// The end of packing, before any pass.
+#[derive(Clone, Debug, Default, PartialEq, Eq)]
+pub struct Packed {
+    /// Id and sign of every operation, then of every row that is a root.
+    pub roots: Vec<(u32, i8)>,
+    /// The rows that are roots: qubit, whether z.
+    pub rows: Vec<(usize, bool)>,
+    /// How many axes were stored.
+    pub axes: usize,
 }
 
 /// How often a rule that random jobs seldom reach was reached. Never printed as part of an answer.
@@ -89,6 +102,15 @@ pub fn sum(place: Place, sum: usize) {
 
 pub fn axis(words: &[u64]) {
     with(|r| r.axes.push(words.to_vec()));
+}
+
+pub fn packed(roots: &[(u32, i8)], rows: &[(usize, bool)], axes: usize) {
+    let packed = Packed {
+        roots: roots.to_vec(),
+        rows: rows.to_vec(),
+        axes,
+    };
+    with(|r| r.packed = Some(packed));
 }
 
 pub fn operation(id: u32, sign: i8) {

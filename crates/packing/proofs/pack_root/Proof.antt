@@ -1,0 +1,136 @@
+-- A root that is odd is refused; else its word is interned, its axis and sign are written, and its node's use is given up. Assumes nothing.
+use native.Mathlib.Omega.{arith}
+use borrow.Author.Needs.{needs}
+use Rattle.packing.specs.RootLaws.{reference-in, held-pre, held-small, intern-pre}
+use Rattle.packing.specs.Turns.{left-none}
+use Rattle.packing.specs.RootTurn.{l-small, slots-small, axes-small, id-small}
+use Rattle.packing.specs.RootTurn.{root-odd, left-full, root-full, root-release, root-left, root-next}
+use Rattle.packing.proofs.pack_root.Statement.{statement}
+use Rattle.packing.proofs.pack_root.Tie as tie
+
+held-requires : tie.Need-held-requires
+held-requires c κs = held-pre (c .before .before .before .pre .it)
+
+add-sign : tie.Need-add-sign
+add-sign c = omega (arith, held-small (c .before .before .before .before .before .pre .it) (c .before .held .ensures))
+
+same-length : tie.Need-same-length
+same-length c = search needs
+
+returns : tie.Need-returns
+returns c = (left-none _ _ _, λ p h. root-odd h (c .before .before .held .ensures) (c .if1 .taken))
+
+mul-counted : tie.Need-mul-counted
+mul-counted c = omega (arith, l-small (c .before .before .before .before .before .before .before .pre .it))
+
+mul-counted-2 : tie.Need-mul-counted-2
+mul-counted-2 c = omega (arith, slots-small (c .before .before .before .before .before .before .before .before .pre .it))
+
+intern-requires : tie.Need-intern-requires
+intern-requires c κs =
+    let held = c .before .before .before .before .before in
+    intern-pre (held .before .before .before .before .pre .it) (held .held .ensures)
+
+enum-known-i : tie.Need-enum-known-i
+enum-known-i c = search needs
+
+enum-told : tie.Need-enum-told
+enum-told c = search needs
+
+same-length-2 : tie.Need-same-length-2
+same-length-2 c = search needs
+
+same-length-3 : tie.Need-same-length-3
+same-length-3 c = search needs
+
+returns-2 : tie.Need-returns-2
+returns-2 c =
+    let i = c .before .before .before .before in
+    let held = i .before .before .before .before .before .before in
+    let full = c .enum-told .given .1 in (
+      left-full (held .before .before .before .before .pre .it) (held .held .ensures) (i .intern .ensures) full,
+      λ p h. root-full h (held .held .ensures) (i .intern .ensures) (i .before .before .before .before .if1 .left) full,
+    )
+
+cast-write : tie.Need-cast-write
+cast-write c =
+    let i = c .before .before in
+    let intern = i .before .before .before .before in
+    let held = intern .before .before .before .before .before .before in
+    omega (arith, id-small (held .before .before .before .before .pre .it) (held .held .ensures) (intern .intern .ensures) (i .i .given .1))
+
+write-requires : tie.Need-write-requires
+write-requires c κs =
+    let intern = c .before .before .before .before .before .before in
+    let h = intern .before .before .before .before .before .before .before .before .before .before .pre .it in
+    (h .granted .numbers-long, omega arith, reference-in h)
+
+write-requires-2 : tie.Need-write-requires-2
+write-requires-2 c κs =
+    let write = c .before .before .before in
+    let intern = write .before .before .before .before .before .before .before in
+    let h = intern .before .before .before .before .before .before .before .before .before .before .pre .it in
+    (omega (arith, h .granted .numbers-long, write .write .ensures .long), omega arith, reference-in h)
+
+release-requires : tie.Need-release-requires
+release-requires c κs =
+    let write2 = c .before .before .before in
+    let write = write2 .before .before .before .before in
+    let i = write .before .before .before in
+    let intern = i .before .before .before .before in
+    let held = intern .before .before .before .before .before .before in
+    root-release (held .before .before .before .before .pre .it) (held .held .ensures) (intern .intern .ensures) (i .i .given .1)
+    (write .write .ensures) (write2 .write2 .ensures)
+
+count-with-requires : tie.Need-count-with-requires
+count-with-requires c κs =
+    let write2 = c .before .before .before .before .before .before in
+    let write = write2 .before .before .before .before in
+    let intern = write .before .before .before .before .before .before .before in
+    omega (arith, axes-small (intern .before .before .before .before .before .before .before .before .before .before .pre .it))
+
+same-length-4 : tie.Need-same-length-4
+same-length-4 c = search needs
+
+same-length-5 : tie.Need-same-length-5
+same-length-5 c = search needs
+
+returns-3 : tie.Need-returns-3
+returns-3 c =
+    let release = c .before .before .before in
+    let write2 = release .before .before .before .before in
+    let write = write2 .before .before .before .before in
+    let i = write .before .before .before in
+    let intern = i .before .before .before .before in
+    let held = intern .before .before .before .before .before .before in (
+      root-left (held .before .before .before .before .pre .it) (held .held .ensures) (intern .intern .ensures) (i .i .given .1)
+          (write .write .ensures) (write2 .write2 .ensures) (release .release .ensures),
+      λ p h. root-next h (held .held .ensures) (intern .intern .ensures) (i .i .given .1)
+          (write .write .ensures) (write2 .write2 .ensures) (release .release .ensures)
+          (intern .before .before .before .before .if1 .left) (c .count-with .ensures),
+    )
+
+pub pack-root-spec : {M : Type 1} → statement M
+pack-root-spec =
+    tie.close
+    (tie.spec
+    held-requires
+    add-sign
+    same-length
+    returns
+    mul-counted
+    mul-counted-2
+    intern-requires
+    enum-known-i
+    enum-told
+    same-length-2
+    same-length-3
+    returns-2
+    cast-write
+    write-requires
+    write-requires-2
+    release-requires
+    count-with-requires
+    same-length-4
+    same-length-5
+    returns-3)

@@ -1,0 +1,55 @@
+-- What packing demands and leaves: the model's `packed`, read through views. Assumes nothing.
+use mathlib.Core.Path.{_≡_}
+use mathlib.Core.List.{List, [], _∷_, _++_, map}
+use Prim.Native.Nat.{ℕ, _+_, _*_}
+use lib.Dec.{ltb}
+use lib.ListN.{length, getD}
+use Rattle.store.specs.Row.{row}
+use Rattle.model.specs.Lists.{if_then_else_, numbersFrom}
+use Rattle.model.specs.Program.{PauliRef, Program}
+use Rattle.model.specs.Roots.{isRoot, operationRoot}
+use Rattle.model.specs.Packing.{Pack, packed, valuesOf, SignedAxis, signedAxis}
+use Rattle.axes.specs.View.{axesOf}
+use Rattle.layout.specs.declared.Shape.{Shape}
+use Rattle.layout.specs.Rows.{mark, acted, relevantRow, usesRow, firstRoot, nextRoot, nodeSlot, nodePhase, freeRow, rootAxis, rootSign, none}
+use Rattle.layout.specs.Only.{Only}
+use Rattle.layout.specs.Words.{KeptFrom}
+use Rattle.layout.specs.Shape.{Granted}
+use Rattle.records.specs.Given.{Given}
+use Rattle.packing.specs.declared.Packed.{Packed}
+use Rattle.packing.specs.declared.Packed.the-variants.{Axes, NonHermitianAxis, Full}
+
+-- the work stores are long enough, and the program is one that Checking passed
+pub record PackPre (z : Shape) (ns os rs ws xs : List ℕ) : Type 0 where
+  pub granted : Granted z ws xs
+  pub given : Given z ns os rs
+
+-- "9 a root's total phase is odd; 10 a tested word sum exceeds the limit": the first sum above the limit ends the work
+unfoldable pub packedAnswer : ℕ → Pack → Packed
+packedAnswer limit k = if ltb limit (k .store .peak) then Full else if k .refused then NonHermitianAxis else Axes (length (k .store .axes))
+
+-- ---- the roots' axes and signs
+
+-- in memory, reference by reference
+unfoldable pub signsIn : Shape → List ℕ → List SignedAxis
+signsIn z xs =
+    map (λ j. record { axis = getD (row xs (z .u) rootAxis) j 0; sign = getD (row xs (z .u) rootSign) j 0 })
+    (numbersFrom 0 (z .operations + 2 * z .qubits))
+
+-- a frame row that is no root has none
+unfoldable pub rowSign : Program → PauliRef → SignedAxis
+rowSign p r = if isRoot p r then signedAxis (packed p .store .axes) (valuesOf p) r else record { axis = none; sign = 0 }
+
+-- in the model: operations, then frame rows
+unfoldable pub signsOf : Program → List SignedAxis
+signsOf p = map (λ o. signedAxis (packed p .store .axes) (valuesOf p) (operationRoot o)) (p .operations) ++ map (rowSign p) (p .rows)
+
+-- the answer is the model's; where packing is accepted, so are the axes and each root's axis and sign;
+-- only packing's rows, and words up to the scratch word's end, are written
+pub record PackedAs (z : Shape) (p : Program) (r : Packed) (ws xs ws′ xs′ : List ℕ) : Type 0 where
+  pub answer : r ≡ packedAnswer (z .limit) (packed p)
+  pub axes : (n : ℕ) → r ≡ Axes n → axesOf (z .l) n ws′ ≡ packed p .store .axes
+  pub signs : (n : ℕ) → r ≡ Axes n → signsIn z xs′ ≡ signsOf p
+  pub words : KeptFrom (z .limit + 2 * z .l) ws ws′
+  pub numbers : Only (mark ∷ acted ∷ relevantRow ∷ usesRow ∷ firstRoot ∷ nextRoot ∷ nodeSlot ∷ nodePhase ∷ freeRow ∷ rootAxis ∷ rootSign ∷ [])
+      (z .u) xs xs′

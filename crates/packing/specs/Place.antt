@@ -1,0 +1,444 @@
+-- A node's turn up to its slot: worked out, its children's uses given up, kept in a slot. Assumes nothing.
+use mathlib.Core.Path.{_≡_, refl, sym, ap, ap₂, _∙_}
+use mathlib.Core.Bool.{false}
+use mathlib.Core.List.{List, [], _∷_}
+use Prim.Native.Nat.{ℕ, zero, suc, _+_, _-_, _*_, _≤_, _<_}
+use native.Mathlib.Omega.{arith}
+use native.Mathlib.Decide.{decLt}
+use lib.ListN.{length, getD, set, take}
+use lib.Seq.{getD-take, take-set-lt}
+use Rattle.store.specs.Part.{part, put, part-length, put-length, part-put-same}
+use Rattle.store.specs.Row.{row, row-length}
+use Rattle.pauli.specs.Word.{width}
+use Rattle.model.specs.Lists.{anyOf, member, allOf}
+use Rattle.model.specs.Program.{Node, identity, letter, product, Program}
+use Rattle.model.specs.Words.{Value, Store}
+use Rattle.model.specs.Value.{nodeValue}
+use Rattle.model.specs.Packing.{oneUseLess, Pack, useNode, useChildren, takeSlot}
+use Rattle.theory.specs.Checked.{Fine}
+use Rattle.axes.specs.View.{axesOf, axes-length, axes-apart}
+use Rattle.layout.specs.declared.Shape.{Shape}
+use Rattle.layout.specs.Rows.{usesRow, firstRoot, nextRoot, nodeSlot, nodePhase, freeRow, rootAxis, rootSign, entries}
+use Rattle.layout.specs.Only.{Only, only-then, only-of}
+use Rattle.layout.specs.Words.{slotPlace, slots-le, slot-in, slot-behind, KeptFrom, kept-then, kept-put}
+use Rattle.layout.specs.Shape.{Sized}
+use Rattle.records.specs.declared.NodeRecord.{NodeRecord}
+use Rattle.records.specs.Records.{nodeSaidOfKind, nodeSaid, said-letter, said-product}
+use Rattle.packing_states.specs.States.{nodeAt, valueOf, before, slotted}
+use Rattle.packing_states.specs.Counts.{less-at, edges-later, used-at}
+use Rattle.packing_states.specs.Owed.{children-before}
+use Rattle.packing_states.specs.Uses.{children-below, children-used}
+use Rattle.packing_states.specs.Live.{used-below-more}
+use Rattle.packing_states.specs.Linked.{Linked}
+use Rattle.packing.specs.declared.Slots.{Slots}
+use Rattle.packing.specs.declared.Step.the-variants.{Next, Full}
+use Rattle.packing.specs.declared.Taken.the-variants.{Slot, Full as None}
+use Rattle.packing.specs.Values.{slotOf, phaseOf, usesOf, HeldPre, heldValue, EvaluatePre, valueOfRecord, Evaluated, ChildrenPre}
+use Rattle.packing.specs.Values.{ChildrenReleased, TakePre, taken, KeepPre, Kept}
+use Rattle.packing.specs.Holding.{SlotsHold, SignedAt, Holding, Turned, Left, PlaceAt}
+use Rattle.packing.specs.NodeValues.{OfChildren, nodeValue-same, nodeValue-length, value-own, value-turns, leaf-in}
+use Rattle.packing.specs.Release.{SlotsAre, holding-slots, count-is, free-room, slots-release}
+use Rattle.packing.specs.Keeping.{slots-scratch, slots-kept}
+use Rattle.packing.specs.Turns.{turned-next, turned-full}
+use Rattle.packing.specs.Taking.{Took, took-none, took-slot}
+
+-- ---- a record's node
+
+said-of : (P : ℕ → Type 0) (k : ℕ) (r : NodeRecord) → (2 ≤ k → P (r .a) × P (r .b)) → OfChildren P (nodeSaidOfKind k r)
+unfolding nodeSaidOfKind
+said-of P zero r h = tt
+said-of P (suc zero) r h = tt
+said-of P (suc (suc k)) r h = h (omega arith)
+
+-- its children
+said-children : (P : ℕ → Type 0) (r : NodeRecord) → (2 ≤ r .kind → P (r .a) × P (r .b)) → OfChildren P (nodeSaid r)
+unfolding nodeSaid
+said-children P r h = said-of P (r .kind) r h
+
+leaf-of : (i : ℕ) (r : NodeRecord) (k : Pack) → i < 2 → useChildren (nodeSaidOfKind i r) k ≡ k
+unfolding nodeSaidOfKind useChildren
+leaf-of zero r k h = refl
+leaf-of (suc zero) r k h = refl
+leaf-of (suc (suc i)) r k h = absurd (omega arith)
+
+-- a leaf has none
+leaf-uses : (r : NodeRecord) (k : Pack) → r .kind < 2 → useChildren (nodeSaid r) k ≡ k
+unfolding nodeSaid
+leaf-uses r k h = leaf-of (r .kind) r k h
+
+-- giving up the children's uses leaves the rest of k
+pub children-keep : (node : Node) (k : Pack) → (useChildren node k .store ≡ k .store) × ((useChildren node k .slots ≡ k .slots)
+    × (useChildren node k .refused ≡ k .refused))
+unfolding useChildren useNode
+children-keep identity k = (refl, (refl, refl))
+children-keep (letter q c) k = (refl, (refl, refl))
+children-keep (product a u b v) k = (refl, (refl, refl))
+
+-- ---- rows that are not written
+
+-- a reference's axis and sign
+signed-same : {p : Program} {u j : ℕ} {axes axes′ : List (List ℕ)} {xs t : List ℕ} → axes′ ≡ axes → row t u rootAxis ≡ row xs u rootAxis
+    → row t u rootSign ≡ row xs u rootSign → SignedAt p u axes xs j → SignedAt p u axes′ t j
+signed-same e a b s = rw e (record { stored = s .stored; axis = rw a (s .axis); sign = rw b (s .sign) })
+
+-- the links
+linked-same : {p : Program} {z : Shape} {xs t : List ℕ} → row t (z .u) firstRoot ≡ row xs (z .u) firstRoot
+    → row t (z .u) nextRoot ≡ row xs (z .u) nextRoot → row t (z .u) rootAxis ≡ row xs (z .u) rootAxis
+    → row t (z .u) rootSign ≡ row xs (z .u) rootSign → Linked p z xs → Linked p z t
+linked-same a b c d s = record {
+  first = λ n e. rw a (s .first n e);
+  next = λ j e f. rw b (s .next j e f);
+  no-axis = λ j e f. rw c (s .no-axis j e f);
+  no-sign = λ j e f. rw d (s .no-sign j e f);
+}
+
+-- ---- before the node is worked out
+
+module _ {p : Program} {z : Shape} {st : Slots} {n : ℕ} {x : NodeRecord} {ws xs : List ℕ} (h : PlaceAt p z st n x ws xs) where
+  size : Sized z
+  size = h .granted .sized
+
+  fine : Fine p
+  fine = h .whole .fine
+
+  below : n < length (p .nodes)
+  below = omega (arith, h .node, h .whole .nodes)
+
+  l-is : z .l ≡ width (p .qubits)
+  l-is = size .l-is ∙ ap width (sym (h .whole .qubits))
+
+  slots-fit : st .slots * (2 * z .l) ≤ z .limit
+  slots-fit = omega (arith, h .holding .room)
+
+  slots-in : st .slots < z .u
+  slots-in = size .words-row (st .slots) slots-fit
+
+  nodes-in : z .nodes ≤ z .u
+  nodes-in = omega (arith, size .row)
+
+  is-product : 2 ≤ x .kind → nodeAt p n ≡ product (x .a) (x .p) (x .b) (x .q)
+  is-product k = sym (h .said) ∙ said-product x (λ e. omega arith) (λ e. omega arith)
+
+  children-in : 2 ≤ x .kind → (x .a < n) × (x .b < n)
+  children-in k = children-below p fine n below (is-product k)
+
+  children-live : 2 ≤ x .kind → (0 < getD (before p n .uses) (x .a) 0) × (0 < getD (oneUseLess (x .a) (before p n .uses)) (x .b) 0)
+  children-live k = children-used p fine n below (h .holding .going) (h .used) (is-product k)
+
+  second-live : 2 ≤ x .kind → 0 < getD (before p n .uses) (x .b) 0
+  second-live k = omega (arith, children-live k .1, less-at (before p n .uses) (x .a) (x .b))
+
+  -- what is held of a node that is still to be used
+  module _ (m : ℕ) (a : m < n) (u : 0 < getD (before p n .uses) m 0) where
+    held-pre : HeldPre z xs m
+    held-pre = record {
+      long = h .granted .numbers-long;
+      node = omega (arith, h .node, nodes-in);
+      slot = omega (arith, slots-le (z .l) (slotOf z xs m) (st .slots) (h .holding .held .slot m a u), slots-fit);
+    }
+
+    held-phase : phaseOf z xs m < 4
+    held-phase = omega (arith, h .holding .held .turns m a u, value-turns p fine m (omega (arith, below)))
+
+    held-value : heldValue z ws xs m ≡ valueOf p m
+    unfolding heldValue
+    held-value =
+        ap₂ (λ (t : ℕ) (w : List ℕ). record { turns = t; word = w }) (h .holding .held .turns m a u) (h .holding .held .word m a u)
+
+    held-length : length (valueOf p m .word) ≡ 2 * z .l
+    held-length =
+        let i = slot-in (z .limit) (z .l) (st .slots) slots-fit (slotOf z xs m) (h .holding .held .slot m a u) in
+        ap length (sym (h .holding .held .word m a u))
+        ∙ part-length ws (slotPlace (z .limit) (z .l) (slotOf z xs m)) (2 * z .l) (omega (arith, h .granted .words-long))
+
+  -- a leaf's qubit has its bit
+  leaf-qubit : x .kind ≡ 1 → x .a < 64 * z .l
+  leaf-qubit e =
+      let leaf = rw (sym (h .said) ∙ said-letter x e) at (leaf-in p fine n below) in
+      omega (arith, leaf .0, h .whole .qubits, size .bits)
+
+  -- `evaluate` can be called
+  pub evaluate-pre : EvaluatePre z x ws xs
+  evaluate-pre = record {
+    scratch = omega (arith, h .granted .words-long);
+    long = h .granted .numbers-long;
+    few = size .few;
+    limit = size .limit;
+    qubit = leaf-qubit;
+    first = λ k. held-pre (x .a) (children-in k .0) (children-live k .0);
+    second = λ k. held-pre (x .b) (children-in k .1) (second-live k);
+    first-phase = λ k. held-phase (x .a) (children-in k .0) (children-live k .0);
+    second-phase = λ k. held-phase (x .b) (children-in k .1) (second-live k);
+  }
+
+  -- it works out the model's value
+  value-is : valueOfRecord z ws xs x ≡ valueOf p n
+  unfolding valueOfRecord
+  value-is =
+      nodeValue-same (z .l) (heldValue z ws xs) (valueOf p) (nodeSaid x)
+      (said-children (λ i. heldValue z ws xs i ≡ valueOf p i) x
+      (λ k. (held-value (x .a) (children-in k .0) (children-live k .0), held-value (x .b) (children-in k .1) (second-live k))))
+      ∙ ap₂ (λ (l : ℕ) (node : Node). nodeValue l (valueOf p) node) l-is (h .said)
+      ∙ sym (value-own p fine n below)
+
+  -- which has 2l numbers
+  value-long : length (valueOf p n .word) ≡ 2 * z .l
+  value-long =
+      let e : nodeValue (z .l) (valueOf p) (nodeSaid x) ≡ valueOf p n
+      = ap₂ (λ (l : ℕ) (node : Node). nodeValue l (valueOf p) node) l-is (h .said) ∙ sym (value-own p fine n below) in
+      ap (λ (v : Value). length (v .word)) (sym e)
+      ∙ nodeValue-length (z .l) (p .qubits) (valueOf p) (nodeSaid x) (omega (arith, h .whole .qubits, size .bits))
+      (rw (h .said) (leaf-in p fine n below))
+      (said-children (λ i. length (valueOf p i .word) ≡ 2 * z .l) x
+      (λ k. (held-length (x .a) (children-in k .0) (children-live k .0), held-length (x .b) (children-in k .1) (second-live k))))
+
+  -- ---- the children's uses
+
+  slots-are : SlotsAre (z .l) (z .limit) (z .u) (z .nodes) n (st .slots) (st .free) (valueOf p) (before p n) ws xs
+  slots-are = holding-slots (h .holding)
+
+  used-count : (m : ℕ) → m < n → 0 < getD (before p n .uses) m 0 → usesOf xs (z .u) m ≡ getD (before p n .uses) m 0
+  used-count m a u = count-is m (h .granted .numbers-long) nodes-in (omega (arith, h .node)) (omega (arith, slots-in)) a u slots-are
+
+  second-count : 2 ≤ x .kind → getD (set (row xs (z .u) usesRow) (x .a) (usesOf xs (z .u) (x .a) - 1)) (x .b) 0
+      ≡ getD (oneUseLess (x .a) (before p n .uses)) (x .b) 0
+  unfolding entries oneUseLess
+  second-count k =
+      let c = children-in k in
+      let uses = row xs (z .u) usesRow in
+      let v = usesOf xs (z .u) (x .a) - 1 in
+      sym (getD-take (z .nodes) (set uses (x .a) v) (x .b) 0 (omega (arith, h .node)))
+      ∙ ap (λ (y : List ℕ). getD y (x .b) 0) (take-set-lt (z .nodes) uses (x .a) v (omega (arith, h .node)))
+      ∙ ap₂ (λ (y : List ℕ) (w : ℕ). getD (set y (x .a) (w - 1)) (x .b) 0) (h .holding .uses) (used-count (x .a) (c .0) (children-live k .0))
+
+  -- `release_children` can be called
+  pub children-pre : ChildrenPre xs (z .u) (st .free) x
+  children-pre = record {
+    long = h .granted .numbers-long;
+    u-small = size .u-small;
+    room = λ k.
+        let r = free-room (x .a) (h .granted .numbers-long) nodes-in (omega (arith, h .node)) (omega (arith, slots-in))
+        (children-in k .0) (children-live k .0) slots-are in
+        omega (arith, slots-in);
+    first = λ k. omega (arith, children-in k .0, h .node, nodes-in);
+    second = λ k. omega (arith, children-in k .1, h .node, nodes-in);
+    first-used = λ k. omega (arith, children-live k .0, used-count (x .a) (children-in k .0) (children-live k .0));
+    second-used = λ k. omega (arith, children-live k .1, second-count k);
+  }
+
+  -- it leaves the slots of the model's pack after the children are used
+  module _ {r : ℕ} {t : List ℕ} (c : ChildrenReleased xs (z .u) (st .free) x r t) where
+    freed : SlotsAre (z .l) (z .limit) (z .u) (z .nodes) n (st .slots) r (valueOf p) (useChildren (nodeAt p n) (before p n)) ws t
+    unfolding useChildren useNode
+    freed = go (decLt (x .kind) 2)
+      where
+        go : Dec (x .kind < 2)
+            → SlotsAre (z .l) (z .limit) (z .u) (z .nodes) n (st .slots) r (valueOf p) (useChildren (nodeAt p n) (before p n)) ws t
+        go (yes k) =
+            let e = c .leaf k in
+            rw (sym (h .said), leaf-uses x (before p n) k, e .0, e .1) slots-are
+        go (no ne) =
+            let k : 2 ≤ x .kind = omega arith in
+            let one = slots-release (x .a) (h .granted .numbers-long) nodes-in (omega (arith, h .node)) (omega (arith, slots-in))
+            (children-in k .0) (children-live k .0) slots-are (c .first k) in
+            rw (is-product k)
+            (slots-release (x .b) (omega (arith, h .granted .numbers-long, c .first k .only .long)) nodes-in (omega (arith, h .node))
+            (omega (arith, slots-in)) (children-in k .1) (children-live k .1) one (c .second k))
+
+-- the rows that a turn writes
+abbrev written : List ℕ
+written = usesRow ∷ nodeSlot ∷ nodePhase ∷ freeRow ∷ rootAxis ∷ rootSign ∷ []
+
+-- ---- after the children are released: r slots are free, t is the number store, ws′ has the value behind the limit
+
+module _ {p : Program} {z : Shape} {st : Slots} {n : ℕ} {x : NodeRecord} {ws xs ws′ t : List ℕ} {e r : ℕ} (h : PlaceAt p z st n x ws xs)
+    (v : Evaluated z x ws xs ws′ e) (c : ChildrenReleased xs (z .u) (st .free) x r t) where
+  abbrev word : List ℕ
+  word = valueOf p n .word
+
+  abbrev k₁ : Pack
+  k₁ = useChildren (nodeAt p n) (before p n)
+
+  abbrev st₁ : Slots
+  st₁ = record { axes = st .axes; slots = st .slots; free = r }
+
+  words-are : ws′ ≡ put ws (z .limit) word
+  words-are = v .words ∙ ap (λ (y : Value). put ws (z .limit) (y .word)) (value-is h)
+
+  turns-are : e ≡ valueOf p n .turns
+  turns-are = v .turns ∙ ap (λ (y : Value). y .turns) (value-is h)
+
+  scratch-in : z .limit + length word ≤ length ws
+  scratch-in = omega (arith, value-long h, h .granted .words-long)
+
+  words-long : length ws′ ≡ length ws
+  words-long = ap length words-are ∙ put-length ws (z .limit) word scratch-in
+
+  numbers-long : 24 * z .u ≤ length t
+  numbers-long = omega (arith, c .only .long, h .granted .numbers-long)
+
+  -- the slots
+  slots₁ : SlotsAre (z .l) (z .limit) (z .u) (z .nodes) n (st .slots) r (valueOf p) k₁ ws′ t
+  slots₁ =
+      let f = freed h c in
+      record {
+        all = f .all;
+        live = f .live;
+        uses = f .uses;
+        held = rw words-are (slots-scratch word (slots-fit h) scratch-in (f .held));
+      }
+
+  -- the axes
+  axes₁ : axesOf (z .l) (st .axes) ws′ ≡ k₁ .store .axes
+  axes₁ =
+      ap (axesOf (z .l) (st .axes)) words-are
+      ∙ axes-apart (z .l) (st .axes) ws (z .limit) word scratch-in (omega (arith, h .holding .room))
+      ∙ h .holding .axes
+      ∙ ap (λ (y : Store). y .axes) (sym (children-keep (nodeAt p n) (before p n) .0))
+
+  -- `take_slot` can be called
+  pub take-pre : TakePre z t st₁
+  take-pre = record {
+    long = numbers-long;
+    free = omega (arith, slots₁ .all, slots-in h);
+    limit = size h .limit;
+    few = size h .few;
+    room = h .holding .room;
+    slots = slots-in h;
+    u-small = size h .u-small;
+  }
+
+  is-slotted : slotted p n ≡ takeSlot (z .l) k₁
+  unfolding slotted
+  is-slotted = ap (λ (l : ℕ). takeSlot l k₁) (sym (l-is h))
+
+  slots-count : k₁ .slots ≡ st .slots
+  slots-count = children-keep (nodeAt p n) (before p n) .1 .0 ∙ h .holding .slots
+
+  axes-count : length (k₁ .store .axes) ≡ st .axes
+  axes-count = ap length (sym axes₁) ∙ axes-length (z .l) (st .axes) ws′
+
+  kept₁ : KeptFrom (z .limit + 2 * z .l) ws ws′
+  kept₁ = rw words-are (kept-put (z .limit + 2 * z .l) ws (z .limit) word (omega (arith, value-long h)) (omega (arith, h .granted .words-long)))
+
+  -- the limit refuses the slot
+  pub place-full : taken z t st₁ ≡ None → Turned p z (suc n) n 0 (slotted p n) Full ws′ t
+  place-full f = rw is-slotted (turned-full (took-none z n (valueOf p) t ws′ (row t (z .u) nodePhase) st₁ k₁ slots-count (slots₁ .all) axes-count f))
+
+  pub left-full : Left z ws xs ws′ t
+  unfolding allOf member anyOf
+  left-full = record { words = kept₁; numbers = only-of written refl (c .only) }
+
+  -- the slot that is taken
+  module _ {s : ℕ} {st′ : Slots} (f : taken z t st₁ ≡ Slot s st′) where
+    took : Took z n (st .axes) (st .slots) r (row t (z .u) nodeSlot) (row t (z .u) freeRow) k₁ (takeSlot (z .l) k₁) s st′
+    took = took-slot z n (valueOf p) t ws′ (row t (z .u) nodePhase) st₁ k₁ slots-count (slots₁ .all) axes-count (slots₁ .held) (h .holding .room)
+        (omega (arith, h .holding .fits, ap (λ (y : Store). y .peak) (children-keep (nodeAt p n) (before p n) .0))) f
+
+    slots-fit′ : st′ .slots * (2 * z .l) ≤ z .limit
+    slots-fit′ = omega (arith, took .room)
+
+    -- `keep` can be called
+    pub keep-pre : KeepPre z n s ws′ t
+    keep-pre = record {
+      scratch = omega (arith, words-long, h .granted .words-long);
+      long = numbers-long;
+      node = omega (arith, h .node, nodes-in h);
+      slot = omega (arith, slots-le (z .l) s (st′ .slots) (took .takes .inside), slots-fit′);
+      small = omega (arith, took .takes .inside, size h .words-row (st′ .slots) slots-fit′);
+      u-small = size h .u-small;
+    }
+
+    -- the value is kept: ws″ has it in the slot, t″ its slot and phase
+    module _ {ws″ t″ : List ℕ} (q : Kept z n s e ws′ t ws″ t″) where
+      place-in : slotPlace (z .limit) (z .l) s + 2 * z .l ≤ z .limit
+      place-in = slot-in (z .limit) (z .l) (st′ .slots) slots-fit′ s (took .takes .inside)
+
+      words″ : ws″ ≡ put ws′ (slotPlace (z .limit) (z .l) s) word
+      words″ =
+          q .words
+          ∙ ap (put ws′ (slotPlace (z .limit) (z .l) s))
+          (ap (λ (y : List ℕ). part y (z .limit) (2 * z .l)) words-are
+          ∙ part-put-same ws (z .limit) (2 * z .l) word (omega (arith, h .granted .words-long)) (value-long h))
+
+      word-in : slotPlace (z .limit) (z .l) s + length word ≤ length ws′
+      word-in = omega (arith, place-in, value-long h, words-long, h .granted .words-long)
+
+      numbers″ : Only (usesRow ∷ freeRow ∷ nodeSlot ∷ nodePhase ∷ []) (z .u) xs t″
+      unfolding allOf member anyOf
+      numbers″ =
+          let rows = usesRow ∷ freeRow ∷ nodeSlot ∷ nodePhase ∷ [] in
+          only-then (only-of rows refl (c .only)) (only-of rows refl (q .only))
+
+      same-row : (f : ℕ) → f < 24 → member f (usesRow ∷ freeRow ∷ nodeSlot ∷ nodePhase ∷ []) ≡ false → row t″ (z .u) f ≡ row xs (z .u) f
+      same-row f b o = numbers″ .rows f b o
+
+      same-uses : row t″ (z .u) usesRow ≡ row t (z .u) usesRow
+      unfolding member anyOf
+      same-uses = q .only .rows usesRow (omega arith) refl
+
+      same-free : row t″ (z .u) freeRow ≡ row t (z .u) freeRow
+      unfolding member anyOf
+      same-free = q .only .rows freeRow (omega arith) refl
+
+      -- the node itself is still to be used
+      own-use : 0 < getD (k₁ .uses) n 0
+      unfolding nodeAt
+      own-use =
+          omega (
+            arith,
+            used-at (nodeAt p n) (before p n) n,
+            edges-later n (nodeAt p n) (children-before (p .nodes) (fine h .ordered) n (below h)) n (omega arith),
+            h .used,
+          )
+
+      axes″ : axesOf (z .l) (st′ .axes) ws″ ≡ takeSlot (z .l) k₁ .store .axes
+      axes″ =
+          let room : st .axes * (2 * z .l) + st′ .slots * (2 * z .l) ≤ z .limit = rw (← took .same-axes) (omega (arith, took .room)) in
+          ap₂ (axesOf (z .l)) (took .same-axes) words″
+          ∙ axes-apart (z .l) (st .axes) ws′ (slotPlace (z .limit) (z .l) s) word word-in
+          (slot-behind (z .limit) (z .l) (st′ .slots) slots-fit′ s (st .axes * (2 * z .l)) (took .takes .inside) room)
+          ∙ axes₁
+          ∙ sym (took .stored)
+
+      held″ : SlotsHold (z .l) (z .limit) (suc n) (st′ .slots) (st′ .free) (valueOf p) (takeSlot (z .l) k₁ .uses)
+          (row t″ (z .u) nodeSlot) (row t″ (z .u) nodePhase) (row t″ (z .u) freeRow) ws″
+      held″ =
+          rw (took .uses, q .slot, q .phase, same-free, words″)
+          (slots-kept slots-fit′ (omega (arith, words-long, h .granted .words-long))
+          (omega (arith, row-length t (z .u) 24 nodeSlot numbers-long (omega arith), h .node, nodes-in h))
+          (omega (arith, row-length t (z .u) 24 nodePhase numbers-long (omega arith), h .node, nodes-in h))
+          turns-are refl (value-long h) (took .takes) (slots₁ .held))
+
+      holding″ : Holding p z (suc n) n 0 (takeSlot (z .l) k₁) st′ ws″ t″
+      unfolding entries member anyOf
+      holding″ = record {
+        going = took .refused ∙ children-keep (nodeAt p n) (before p n) .1 .1 ∙ h .holding .going;
+        fits = took .fits;
+        axes = axes″;
+        room = took .room;
+        slots = took .slots-are;
+        free = took .all;
+        live = rw (took .uses) (omega (arith, took .live-more, slots₁ .live, used-below-more n (k₁ .uses) own-use));
+        uses = ap (take (z .nodes)) same-uses ∙ slots₁ .uses ∙ sym (took .uses);
+        held = held″;
+        signed = λ j a b d.
+            signed-same (took .stored ∙ ap (λ (y : Store). y .axes) (children-keep (nodeAt p n) (before p n) .0))
+            (same-row rootAxis (omega arith) refl) (same-row rootSign (omega arith) refl) (h .holding .signed j a b d);
+        linked =
+            linked-same (same-row firstRoot (omega arith) refl) (same-row nextRoot (omega arith) refl)
+            (same-row rootAxis (omega arith) refl) (same-row rootSign (omega arith) refl) (h .holding .linked);
+      }
+
+      -- the turn goes on
+      pub place-next : Turned p z (suc n) n 0 (slotted p n) (Next st′) ws″ t″
+      place-next = rw is-slotted (turned-next holding″)
+
+      pub left-next : Left z ws xs ws″ t″
+      unfolding allOf member anyOf
+      left-next = record {
+        words = kept-then kept₁
+            (rw words″ (kept-put (z .limit + 2 * z .l) ws′ (slotPlace (z .limit) (z .l) s) word (omega (arith, place-in, value-long h))
+            (omega (arith, words-long, h .granted .words-long))));
+        numbers = only-of written refl numbers″;
+      }

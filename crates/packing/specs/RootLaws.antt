@@ -1,0 +1,146 @@
+-- Before a root's turn: what memory holds of its node, the root's sign, the model's next state, what `intern` answers. Assumes nothing.
+use mathlib.Core.Path.{_≡_, sym, ap, ap₂, _∙_, subst}
+use mathlib.Core.Bool.{true, false}
+use mathlib.Core.List.{List}
+use Prim.Native.Nat.{ℕ, suc, _+_, _*_, _%_, _≤_, _<_}
+use native.Mathlib.Omega.{arith}
+use lib.ListN.{getD}
+use borrow.Author.Tests.{eq-eqb, ne-eqb, eqb-true}
+use Rattle.store.specs.Row.{row}
+use Rattle.pauli.specs.Word.{width}
+use Rattle.model.specs.Lists.{isOdd}
+use Rattle.model.specs.Program.{Program}
+use Rattle.model.specs.Words.{Store, intern}
+use Rattle.model.specs.Packing.{withStore, withRefusal, useNode, packRoot}
+use Rattle.theory.specs.Cases.{if-true, if-false, and-left, and-right}
+use Rattle.axes.specs.View.{wordAt}
+use Rattle.axes.specs.Intern.{InternPre, Stores}
+use Rattle.axes.specs.Stored.{Accepted, accepted, Refused, refused}
+use Rattle.axes.specs.declared.Interned.{Interned}
+use Rattle.axes.specs.declared.Interned.the-variants.{Id, Full}
+use Rattle.layout.specs.declared.Shape.{Shape}
+use Rattle.layout.specs.Rows.{nodeSlot}
+use Rattle.layout.specs.Words.{slotPlace, slots-le, slot-in, slot-counted}
+use Rattle.packing_states.specs.References.{referenceAt, isRootAt, rootOf}
+use Rattle.packing_states.specs.States.{valueOf, within}
+use Rattle.packing_states.specs.StateLaws.{pack-reference}
+use Rattle.packing.specs.declared.Slots.{Slots}
+use Rattle.packing.specs.declared.ValueHeld.{ValueHeld}
+use Rattle.packing.specs.Holding.{RootAt}
+use Rattle.packing.specs.Values.{HeldPre, heldAt}
+use Rattle.packing.specs.NodeValues.{value-turns}
+
+-- ---- signs
+
+sum-mod : (a b : ℕ) → (a + b % 4) % 4 ≡ (a + b) % 4
+sum-mod a b = omega arith
+
+mod-odd : (a : ℕ) → (a % 4) % 2 ≡ a % 2
+mod-odd a = omega arith
+
+-- ---- roots
+
+pub root-is : (p : Program) (n j : ℕ) → rootOf p n j ≡ true → (isRootAt p j ≡ true) × (referenceAt p j .node ≡ n)
+unfolding rootOf
+root-is p n j e = (and-left (isRootAt p j) _ e, eqb-true _ n (and-right (isRootAt p j) _ e))
+
+-- the model's store once the root's word is stored
+abbrev pub rootStore : Program → Shape → Slots → ℕ → ℕ → Store
+rootStore p z st n j = intern (z .l) (st .slots * (2 * z .l)) (within p n j .store) (valueOf p n .word)
+
+-- what the id of the root's word means
+abbrev pub RootAccepted : Program → Shape → Slots → ℕ → ℕ → List ℕ → ℕ → List ℕ → Type 0
+RootAccepted p z st n j ws id ws′ =
+    Accepted (z .l) (st .slots * (2 * z .l)) (z .limit) (st .axes) ws (within p n j .store) (valueOf p n .word) id ws′
+
+-- ---- before the root's turn
+
+module _ {p : Program} {z : Shape} {st : Slots} {n j phase : ℕ} {ws xs : List ℕ} (h : RootAt p z st n j phase ws xs) where
+  slot-below : getD (row xs (z .u) nodeSlot) n 0 < st .slots
+  slot-below = h .holding .held .slot n (omega arith) (h .used)
+
+  pub slots-fit : st .slots * (2 * z .l) ≤ z .limit
+  slots-fit = omega (arith, h .holding .room)
+
+  width-is : width (p .qubits) ≡ z .l
+  width-is = ap width (h .whole .qubits) ∙ sym (h .granted .sized .l-is)
+
+  -- the reference has its entry in a row
+  pub reference-in : j < z .u
+  reference-in = omega (arith, h .reference, h .whole .references, h .granted .sized .row)
+
+  pub node-in : n < z .u
+  node-in = omega (arith, h .node, h .granted .sized .row)
+
+  pub held-pre : HeldPre z xs n
+  held-pre = record {
+    long = h .granted .numbers-long;
+    node = node-in;
+    slot = omega (arith, slots-fit, slots-le (z .l) (getD (row xs (z .u) nodeSlot) n 0) (st .slots) slot-below);
+  }
+
+  module _ {v : ValueHeld} (e : v ≡ heldAt z xs n) where
+    held-turns : v .phase ≡ valueOf p n .turns
+    unfolding heldAt
+    held-turns = ap (λ (x : ValueHeld). x .phase) e ∙ h .holding .held .turns n (omega arith) (h .used)
+
+    pub held-small : v .phase < 4
+    held-small = omega (arith, held-turns, value-turns p (h .whole .fine) n (omega (arith, h .node, h .whole .nodes)))
+
+    held-word : wordAt (z .l) ws (v .at) ≡ valueOf p n .word
+    unfolding heldAt
+    held-word = ap (λ (x : ValueHeld). wordAt (z .l) ws (x .at)) e ∙ h .holding .held .word n (omega arith) (h .used)
+
+    pub intern-pre : InternPre (z .l) (st .slots * (2 * z .l)) (z .limit) (st .axes) ws (v .at)
+    unfolding heldAt
+    intern-pre =
+        let s = getD (row xs (z .u) nodeSlot) n 0 in
+        let at : v .at ≡ slotPlace (z .limit) (z .l) s = ap (λ (x : ValueHeld). x .at) e in
+        record {
+          stored = omega (arith, h .holding .room);
+          counted = slots-fit;
+          inside = omega (arith, h .granted .words-long);
+          word-in = omega (arith, at, h .granted .words-long, slot-in (z .limit) (z .l) (st .slots) slots-fit s slot-below);
+          behind = omega (arith, at, slot-counted (z .limit) (z .l) (st .slots) slots-fit s slot-below);
+        }
+
+    -- the root's total phase
+    pub sign-is : (v .phase + phase % 4) % 4 ≡ (valueOf p n .turns + referenceAt p j .phase) % 4
+    sign-is = sum-mod (v .phase) phase ∙ ap₂ (λ (a b : ℕ). (a + b) % 4) held-turns (h .phase-is)
+
+    pub odd-root : ((v .phase + phase % 4) % 4) % 2 ≡ 1 → isOdd (valueOf p n .turns + referenceAt p j .phase) ≡ true
+    odd-root o =
+        eq-eqb _ 1 (sym (mod-odd (valueOf p n .turns + referenceAt p j .phase)) ∙ ap (λ (a : ℕ). a % 2) (sym sign-is) ∙ o)
+
+    pub even-root : (((v .phase + phase % 4) % 4) % 2 ≡ 1 → ⊥) → isOdd (valueOf p n .turns + referenceAt p j .phase) ≡ false
+    even-root o =
+        ne-eqb _ 1 (λ q. o (ap (λ (a : ℕ). a % 2) sign-is ∙ mod-odd (valueOf p n .turns + referenceAt p j .phase) ∙ q))
+
+  -- the model's next state: refused, or with the word stored and a use given up
+  pub refused-next : isOdd (valueOf p n .turns + referenceAt p j .phase) ≡ true → within p n (suc j) ≡ withRefusal (within p n j)
+  unfolding packRoot
+  refused-next e = pack-reference p n j (h .root) (h .holding .going) ∙ if-true _ _ e
+
+  pub stored-next : isOdd (valueOf p n .turns + referenceAt p j .phase) ≡ false
+      → within p n (suc j) ≡ useNode n (withStore (rootStore p z st n j) (within p n j))
+  unfolding packRoot
+  stored-next e =
+      pack-reference p n j (h .root) (h .holding .going) ∙ if-false _ _ e
+      ∙ ap₂ (λ (l s : ℕ). useNode n (withStore (intern l (s * (2 * l)) (within p n j .store) (valueOf p n .word)) (within p n j)))
+      width-is (h .holding .slots)
+
+  -- ---- the answer of `intern`
+
+  module _ {v : ValueHeld} (e : v ≡ heldAt z xs n) {r : Interned} {ws′ : List ℕ}
+      (s : Stores (z .l) (st .slots * (2 * z .l)) (z .limit) (st .axes) ws (v .at) r ws′) where
+    pub root-accepted : {id : ℕ} → r ≡ Id id → RootAccepted p z st n j ws id ws′
+    root-accepted {id} q =
+        subst (λ (w : List ℕ). Accepted (z .l) (st .slots * (2 * z .l)) (z .limit) (st .axes) ws (within p n j .store) w id ws′)
+        (held-word e)
+        (accepted _ _ _ _ ws (v .at) (intern-pre e) (within p n j .store) (sym (h .holding .axes)) r ws′ s (h .holding .fits) id q)
+
+    pub root-refused : r ≡ Full → Refused (z .l) (st .slots * (2 * z .l)) (z .limit) ws (within p n j .store) (valueOf p n .word) ws′
+    root-refused q =
+        subst (λ (w : List ℕ). Refused (z .l) (st .slots * (2 * z .l)) (z .limit) ws (within p n j .store) w ws′)
+        (held-word e)
+        (refused _ _ _ _ ws (v .at) (intern-pre e) (within p n j .store) (sym (h .holding .axes)) r ws′ s q)

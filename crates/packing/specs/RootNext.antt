@@ -1,0 +1,248 @@
+-- After a root's turn: its axis and sign stand in their rows, its node's use is given up. Assumes nothing.
+use mathlib.Core.Path.{_≡_, refl, sym, ap, _∙_, subst}
+use mathlib.Core.Bool.{true, false, true≢false}
+use mathlib.Core.Logic.{_≢_, inl, inr}
+use mathlib.Core.List.{List, [], _∷_}
+use Prim.Native.Nat.{ℕ, suc, _+_, _*_, _%_, _≤_, _<_}
+use native.Mathlib.Nat.{add-zero}
+use native.Mathlib.Omega.{arith}
+use native.Mathlib.Decide.{decLt, ℕ-discrete}
+use lib.ListN.{length, getD, set, take, List·getD-eq-default}
+use lib.Seq.{getD-set-same, getD-set-other}
+use Rattle.store.specs.Part.{part, part-at}
+use Rattle.store.specs.Row.{row, Written, row-length}
+use Rattle.model.specs.Lists.{anyOf, member, allOf}
+use Rattle.model.specs.Program.{Program}
+use Rattle.model.specs.Words.{Value, idOf, Store}
+use Rattle.model.specs.Packing.{withStore, useNode}
+use Rattle.theory.specs.Ids.{id-in, id-stored, intern-grows, stored-keeps, id-keeps}
+use Rattle.axes.specs.Intern.{countWith}
+use Rattle.axes.specs.Stored.{Accepted}
+use Rattle.layout.specs.declared.Shape.{Shape}
+use Rattle.layout.specs.Rows.{usesRow, nodeSlot, nodePhase, freeRow, firstRoot, nextRoot, rootAxis, rootSign, entries, written-row}
+use Rattle.layout.specs.Only.{Only, only-then, only-of, only-written}
+use Rattle.layout.specs.Words.{slotPlace, slot-in, slot-counted, KeptFrom}
+use Rattle.packing_states.specs.References.{referenceAt, total, isRootAt}
+use Rattle.packing_states.specs.States.{valueOf, within}
+use Rattle.packing_states.specs.Linked.{Linked}
+use Rattle.packing.specs.declared.Slots.{Slots}
+use Rattle.packing.specs.Holding.{SlotsHold, SignedAt, Done, Holding, Left, RootAt}
+use Rattle.packing.specs.Values.{ReleasePre, Released}
+use Rattle.packing.specs.Release.{SlotsAre, count-is, free-room, slots-release}
+use Rattle.packing.specs.RootLaws.{root-is, rootStore, RootAccepted, slots-fit, reference-in, node-in}
+
+-- ---- the root's axis and sign in their rows
+
+-- reference j's are written, and of the other rows only some change
+pub record RootRows (rs : List ℕ) (u j id turns : ℕ) (xs t : List ℕ) : Type 0 where
+  pub only : Only rs u xs t
+  pub axis : row t u rootAxis ≡ set (row xs u rootAxis) j id
+  pub sign : row t u rootSign ≡ set (row xs u rootSign) j turns
+
+abbrev pub rootRows : List ℕ
+rootRows = rootAxis ∷ rootSign ∷ []
+
+-- those of a root's whole turn
+abbrev turnRows : List ℕ
+turnRows = usesRow ∷ freeRow ∷ rootAxis ∷ rootSign ∷ []
+
+pub root-rows : {u j id turns : ℕ} {xs xs′ t : List ℕ} → 24 * u ≤ length xs → j < u → Written xs u rootAxis j id xs′
+    → Written xs′ u rootSign j turns t → RootRows rootRows u j id turns xs t
+unfolding member anyOf allOf
+root-rows {u} {j} {id} {turns} {xs} {xs′} {t} h b a s =
+    let long : 24 * u ≤ length xs′ = omega (arith, a .long) in
+    let x = only-written h (omega arith) b a in
+    let y = only-written long (omega arith) b s in
+    record {
+      only = only-then (only-of _ refl x) (only-of _ refl y);
+      axis = y .rows rootAxis (omega arith) refl ∙ written-row h (omega arith) b a;
+      sign = written-row long (omega arith) b s ∙ ap (λ (q : List ℕ). set q j turns) (x .rows rootSign (omega arith) refl);
+    }
+
+-- then the node's use is given up
+rows-released : {u j id turns free n r : ℕ} {xs xs′ t : List ℕ} → RootRows rootRows u j id turns xs xs′ → Released xs′ u free n r t
+    → RootRows turnRows u j id turns xs t
+unfolding member anyOf allOf
+rows-released m r = record {
+  only = only-then (only-of _ refl (m .only)) (only-of _ refl (r .only));
+  axis = r .only .rows rootAxis (omega arith) refl ∙ m .axis;
+  sign = r .only .rows rootSign (omega arith) refl ∙ m .sign;
+}
+
+module _ {rs : List ℕ} {u j id turns : ℕ} {xs t : List ℕ} (w : RootRows rs u j id turns xs t) where
+  axis-own : 24 * u ≤ length xs → j < u → getD (row t u rootAxis) j 0 ≡ id
+  axis-own long b =
+      ap (λ (q : List ℕ). getD q j 0) (w .axis)
+      ∙ getD-set-same (row xs u rootAxis) j id 0 (omega (arith, row-length xs u 24 rootAxis long (omega arith)))
+
+  sign-own : 24 * u ≤ length xs → j < u → getD (row t u rootSign) j 0 ≡ turns
+  sign-own long b =
+      ap (λ (q : List ℕ). getD q j 0) (w .sign)
+      ∙ getD-set-same (row xs u rootSign) j turns 0 (omega (arith, row-length xs u 24 rootSign long (omega arith)))
+
+  axis-other : (i : ℕ) → i ≢ j → getD (row t u rootAxis) i 0 ≡ getD (row xs u rootAxis) i 0
+  axis-other i n = ap (λ (q : List ℕ). getD q i 0) (w .axis) ∙ getD-set-other (row xs u rootAxis) j i id 0 n
+
+  sign-other : (i : ℕ) → i ≢ j → getD (row t u rootSign) i 0 ≡ getD (row xs u rootSign) i 0
+  sign-other i n = ap (λ (q : List ℕ). getD q i 0) (w .sign) ∙ getD-set-other (row xs u rootSign) j i turns 0 n
+
+-- links stay: a reference that is no root is not this one
+linked-after : {p : Program} {z : Shape} {j id turns : ℕ} {xs t : List ℕ} → RootRows turnRows (z .u) j id turns xs t
+    → isRootAt p j ≡ true → Linked p z xs → Linked p z t
+unfolding member anyOf
+linked-after {p} {z} {j} {id} {turns} {xs} {t} w root k = record {
+  first = λ n b. ap (λ (q : List ℕ). getD q n 0) (w .only .rows firstRoot (omega arith) refl) ∙ k .first n b;
+  next = λ i b r. ap (λ (q : List ℕ). getD q i 0) (w .only .rows nextRoot (omega arith) refl) ∙ k .next i b r;
+  no-axis = λ i b r. axis-other w i (other i r) ∙ k .no-axis i b r;
+  no-sign = λ i b r. sign-other w i (other i r) ∙ k .no-sign i b r;
+}
+  where
+    other : (i : ℕ) → isRootAt p i ≡ false → i ≢ j
+    other i r e = true≢false (sym root ∙ ap (isRootAt p) (sym e) ∙ r)
+
+-- ---- words that stay where the slots are
+
+slots-words : {l limit b slots free : ℕ} {value : ℕ → Value} {uses slotRow phaseRow stack ws ws′ : List ℕ}
+    → ((s : ℕ) → s < slots → part ws′ (slotPlace limit l s) (2 * l) ≡ part ws (slotPlace limit l s) (2 * l))
+    → SlotsHold l limit b slots free value uses slotRow phaseRow stack ws → SlotsHold l limit b slots free value uses slotRow phaseRow stack ws′
+slots-words {slotRow = slotRow} f s = record {
+  slot = s .slot;
+  word = λ m a u. f (getD slotRow m 0) (s .slot m a u) ∙ s .word m a u;
+  turns = s .turns;
+  one = s .one;
+  free-slot = s .free-slot;
+  free-one = s .free-one;
+  free-other = s .free-other;
+}
+
+at-part : (s : List ℕ) (i : ℕ) → getD (part s i 1) 0 0 ≡ getD s i 0
+at-part s i = part-at s i 1 0 (omega arith) ∙ ap (λ (m : ℕ). getD s m 0) (add-zero i)
+
+-- storing an axis leaves what lies behind the limit
+accepted-kept : {l others limit n : ℕ} {s : List ℕ} {st : Store} {w : List ℕ} {id : ℕ} {t : List ℕ}
+    → Accepted l others limit n s st w id t → KeptFrom (limit + 2 * l) s t
+accepted-kept {l} {others} {limit} {n} {s} {st} {w} {id} {t} a = record { long = a .long; kept = λ i b. go i b (decLt i (length s)) }
+  where
+    go : (i : ℕ) → limit + 2 * l ≤ i → Dec (i < length s) → getD t i 0 ≡ getD s i 0
+    go i b (yes c) = sym (at-part t i) ∙ ap (λ (q : List ℕ). getD q 0 0) (a .rest i 1 (omega arith) (omega arith)) ∙ at-part s i
+    go i b (no c) =
+        let x : length s ≤ i = omega arith in
+        let y : length t ≤ i = omega (arith, a .long) in
+        List·getD-eq-default t 0 y ∙ sym (List·getD-eq-default s 0 x)
+
+-- ---- the turn
+
+module _ {p : Program} {z : Shape} {st : Slots} {n j phase : ℕ} {ws xs : List ℕ} (h : RootAt p z st n j phase ws xs)
+    {id turns : ℕ} {ws′ xs′ : List ℕ} (a : RootAccepted p z st n j ws id ws′)
+    (m : RootRows rootRows (z .u) j id turns xs xs′) where
+  same-words : (s : ℕ) → s < st .slots
+      → part ws′ (slotPlace (z .limit) (z .l) s) (2 * z .l) ≡ part ws (slotPlace (z .limit) (z .l) s) (2 * z .l)
+  same-words s b =
+      a .rest (slotPlace (z .limit) (z .l) s) (2 * z .l) (slot-counted (z .limit) (z .l) (st .slots) (slots-fit h) s b)
+      (omega (arith, slot-in (z .limit) (z .l) (st .slots) (slots-fit h) s b, h .granted .words-long))
+
+  slots-marked : SlotsAre (z .l) (z .limit) (z .u) (z .nodes) (suc n) (st .slots) (st .free) (valueOf p)
+      (withStore (rootStore p z st n j) (within p n j)) ws′ xs′
+  unfolding member anyOf entries
+  slots-marked =
+      let slots = m .only .rows nodeSlot (omega arith) refl in
+      let phases = m .only .rows nodePhase (omega arith) refl in
+      let stack = m .only .rows freeRow (omega arith) refl in
+      record {
+        all = h .holding .free;
+        live = h .holding .live;
+        uses = ap (take (z .nodes)) (m .only .rows usesRow (omega arith) refl) ∙ h .holding .uses;
+        held = rw (slots, phases, stack) (slots-words same-words (h .holding .held));
+      }
+
+  long-marked : 24 * z .u ≤ length xs′
+  long-marked = omega (arith, m .only .long, h .granted .numbers-long)
+
+  nodes-in : z .nodes ≤ z .u
+  nodes-in = omega (arith, h .granted .sized .row)
+
+  slots-in : st .slots ≤ z .u
+  slots-in = omega (arith, h .granted .sized .words-row (st .slots) (slots-fit h))
+
+  pub release-pre : ReleasePre xs′ (z .u) (st .free) n
+  release-pre = record {
+    long = long-marked;
+    node = node-in h;
+    room = omega (arith, slots-in, free-room n long-marked nodes-in (h .node) slots-in (omega arith) (h .used) slots-marked);
+    u-small = h .granted .sized .u-small;
+    used = omega (arith, h .used, count-is n long-marked nodes-in (h .node) slots-in (omega arith) (h .used) slots-marked);
+  }
+
+  module _ {free : ℕ} {t : List ℕ} (r : Released xs′ (z .u) (st .free) n free t) where
+    rows : RootRows turnRows (z .u) j id turns xs t
+    rows = rows-released m r
+
+    pub left-next : Left z ws xs ws′ t
+    unfolding member anyOf allOf
+    left-next = record { words = accepted-kept a; numbers = only-of _ refl (rows .only) }
+
+    abbrev axesNext : List (List ℕ)
+    axesNext = rootStore p z st n j .axes
+
+    module _ (q : turns ≡ (valueOf p n .turns + referenceAt p j .phase) % 4) where
+      signed-own : SignedAt p (z .u) axesNext t j
+      signed-own =
+          let w = valueOf p n .word in
+          let node = sym (root-is p n j (h .root) .1) in
+          let extra = st .slots * (2 * z .l) in
+          record {
+            stored =
+                subst (λ (i : ℕ). idOf axesNext (valueOf p i .word) < length axesNext) node
+                (id-in (z .l) extra (within p n j .store) w);
+            axis =
+                axis-own rows (h .granted .numbers-long) (reference-in h)
+                ∙ a .id-is
+                ∙ sym (id-stored (z .l) extra (within p n j .store) w)
+                ∙ ap (λ (i : ℕ). idOf axesNext (valueOf p i .word)) node;
+            sign =
+                sign-own rows (h .granted .numbers-long) (reference-in h)
+                ∙ q
+                ∙ ap (λ (i : ℕ). (valueOf p i .turns + referenceAt p j .phase) % 4) node;
+          }
+
+      signed-other : (i : ℕ) → i ≢ j → SignedAt p (z .u) (within p n j .store .axes) xs i → SignedAt p (z .u) axesNext t i
+      signed-other i ne o =
+          let w = valueOf p n .word in
+          let v = valueOf p (referenceAt p i .node) .word in
+          let extra = st .slots * (2 * z .l) in
+          record {
+            stored =
+                stored-keeps (within p n j .store .axes) axesNext v (intern-grows (z .l) extra (within p n j .store) w) (o .stored);
+            axis = axis-other rows i ne ∙ o .axis ∙ sym (id-keeps (z .l) extra (within p n j .store) w v (o .stored));
+            sign = sign-other rows i ne ∙ o .sign;
+          }
+
+      signed-next : (i : ℕ) → i < total p → isRootAt p i ≡ true → Done p n (suc j) i → SignedAt p (z .u) axesNext t i
+      signed-next i b root d = go (ℕ-discrete i j)
+        where
+          earlier : i ≢ j → Done p n (suc j) i → Done p n j i
+          earlier ne (inl x) = inl x
+          earlier ne (inr x) = inr (x .0, omega (arith, x .1))
+
+          go : Dec (i ≡ j) → SignedAt p (z .u) axesNext t i
+          go (yes e) = subst (SignedAt p (z .u) axesNext t) (sym e) signed-own
+          go (no ne) = signed-other i ne (h .holding .signed i b root (earlier ne d))
+
+      pub holding-next : Holding p z (suc n) n (suc j) (useNode n (withStore (rootStore p z st n j) (within p n j)))
+          (record { axes = countWith (st .axes) id; slots = st .slots; free = free }) ws′ t
+      unfolding useNode
+      holding-next =
+          let s = slots-release n long-marked nodes-in (h .node) slots-in (omega arith) (h .used) slots-marked r in
+          record {
+            going = h .holding .going;
+            fits = a .fits;
+            axes = a .axes-are;
+            room = omega (arith, a .room (omega (arith, h .holding .room)));
+            slots = h .holding .slots;
+            free = s .all;
+            live = s .live;
+            uses = s .uses;
+            held = s .held;
+            signed = signed-next;
+            linked = linked-after rows (root-is p n j (h .root) .0) (h .holding .linked);
+          }

@@ -1,0 +1,86 @@
+-- How a root's turn ends, answer by answer, and the bounds under which its numbers fit. Assumes nothing.
+use mathlib.Core.Path.{_≡_, refl, sym, ap, _∙_, subst}
+use mathlib.Core.List.{List}
+use Prim.Native.Nat.{ℕ, suc, _+_, _*_, _%_, _≤_, _<_}
+use native.Mathlib.Omega.{arith}
+use lib.ListN.{length}
+use Rattle.store.specs.Row.{Written}
+use Rattle.model.specs.Program.{Program}
+use Rattle.model.specs.Packing.{useNode}
+use Rattle.theory.specs.Ids.{id-le}
+use Rattle.axes.specs.View.{axes-length}
+use Rattle.axes.specs.Intern.{Stores, countWith}
+use Rattle.axes.specs.declared.Interned.{Interned}
+use Rattle.axes.specs.declared.Interned.the-variants.{Id, Full as InternedFull}
+use Rattle.layout.specs.declared.Shape.{Shape}
+use Rattle.layout.specs.Rows.{rootAxis, rootSign}
+use Rattle.packing_states.specs.States.{valueOf, within}
+use Rattle.packing.specs.declared.Slots.{Slots}
+use Rattle.packing.specs.declared.ValueHeld.{ValueHeld}
+use Rattle.packing.specs.declared.Step.the-variants.{Next, NonHermitianAxis, Full}
+use Rattle.packing.specs.Holding.{Turned, Left, RootAt}
+use Rattle.packing.specs.Values.{heldAt, ReleasePre, Released}
+use Rattle.packing.specs.Turns.{turned-next, turned-odd, turned-full, left-none}
+use Rattle.packing.specs.RootLaws.{slots-fit, reference-in, sign-is, odd-root, even-root, refused-next, stored-next}
+use Rattle.packing.specs.RootLaws.{RootAccepted, root-accepted, root-refused}
+use Rattle.packing.specs.RootNext.{RootRows, rootRows, root-rows, release-pre, left-next, holding-next}
+
+module _ {p : Program} {z : Shape} {st : Slots} {n j phase : ℕ} {ws xs : List ℕ} (h : RootAt p z st n j phase ws xs) where
+  -- ---- bounds
+
+  pub l-small : z .l ≤ 64
+  l-small = h .granted .sized .few
+
+  pub slots-small : st .slots * (2 * z .l) ≤ 1048576
+  slots-small = omega (arith, slots-fit h, h .granted .sized .limit)
+
+  pub axes-small : st .axes < 1187839
+  axes-small =
+      let b : st .axes * (2 * z .l) ≤ z .limit = omega (arith, h .holding .room) in
+      omega (arith, h .granted .sized .words-row (st .axes) b, h .granted .sized .u-small)
+
+  module _ {v : ValueHeld} (e : v ≡ heldAt z xs n) where
+    -- ---- 9
+
+    pub root-odd : ((v .phase + phase % 4) % 4) % 2 ≡ 1 → Turned p z (suc n) n (suc j) (within p n (suc j)) NonHermitianAxis ws xs
+    root-odd o = rw (refused-next h (odd-root h e o)) (turned-odd refl (h .holding .fits))
+
+    module _ {r : Interned} {ws′ : List ℕ}
+        (s : Stores (z .l) (st .slots * (2 * z .l)) (z .limit) (st .axes) ws (v .at) r ws′) where
+      -- ---- 10
+
+      pub left-full : r ≡ InternedFull → Left z ws xs ws′ xs
+      left-full q = subst (λ (w : List ℕ). Left z ws xs w xs) (sym (root-refused h e s q .kept)) (left-none z ws xs)
+
+      pub root-full : (((v .phase + phase % 4) % 4) % 2 ≡ 1 → ⊥) → r ≡ InternedFull
+          → Turned p z (suc n) n (suc j) (within p n (suc j)) Full ws′ xs
+      unfolding useNode
+      root-full o q = rw (stored-next h (even-root h e o)) (turned-full (root-refused h e s q .exceeds))
+
+      -- ---- the word has an id
+
+      module _ {id : ℕ} (q : r ≡ Id id) where
+        stored : RootAccepted p z st n j ws id ws′
+        stored = root-accepted h e s q
+
+        pub id-small : id < 1187839
+        id-small =
+            let long : length (within p n j .store .axes) ≡ st .axes =
+            ap length (sym (h .holding .axes)) ∙ axes-length (z .l) (st .axes) ws in
+            omega (arith, axes-small, long, stored .id-is, id-le (within p n j .store .axes) (valueOf p n .word))
+
+        module _ {x y : List ℕ} (a : Written xs (z .u) rootAxis j id x)
+            (b : Written x (z .u) rootSign j ((v .phase + phase % 4) % 4) y) where
+          written : RootRows rootRows (z .u) j id ((v .phase + phase % 4) % 4) xs y
+          written = root-rows (h .granted .numbers-long) (reference-in h) a b
+
+          pub root-release : ReleasePre y (z .u) (st .free) n
+          root-release = release-pre h stored written
+
+          module _ {free : ℕ} {t : List ℕ} (c : Released y (z .u) (st .free) n free t) where
+            pub root-left : Left z ws xs ws′ t
+            root-left = left-next h stored written c
+
+            pub root-next : (((v .phase + phase % 4) % 4) % 2 ≡ 1 → ⊥) → {count : ℕ} → count ≡ countWith (st .axes) id
+                → Turned p z (suc n) n (suc j) (within p n (suc j)) (Next (record { axes = count; slots = st .slots; free = free })) ws′ t
+            root-next o f = rw (f, stored-next h (even-root h e o)) (turned-next (holding-next h stored written c (sign-is h e)))

@@ -1,0 +1,225 @@
+-- A node's roots, from link to link: what pack_roots' loop keeps. Assumes nothing.
+use mathlib.Core.Path.{_≡_, refl, sym, ap, _∙_}
+use mathlib.Core.Bool.{true, false, true≢false}
+use mathlib.Core.Logic.{inl, inr}
+use mathlib.Core.List.{List}
+use Prim.Native.Nat.{ℕ, zero, suc, _+_, _-_, _*_, _≤_, _<_}
+use native.Mathlib.Omega.{arith}
+use native.Mathlib.Decide.{decLt}
+use lib.ListN.{length, getD}
+use borrow.Author.Tests.{eq-eqb}
+use Rattle.store.specs.Row.{row}
+use Rattle.model.specs.Program.{Program}
+use Rattle.model.specs.Packing.{Pack}
+use Rattle.layout.specs.declared.Shape.{Shape}
+use Rattle.layout.specs.Rows.{firstRoot, nextRoot}
+use Rattle.layout.specs.Only.{only-then}
+use Rattle.layout.specs.Words.{kept-then}
+use Rattle.layout.specs.Shape.{Granted}
+use Rattle.packing_states.specs.References.{referenceAt, total, isRootAt, rootOf, linkFrom}
+use Rattle.packing_states.specs.ReferenceLaws.{link-none, link-some}
+use Rattle.packing_states.specs.States.{within}
+use Rattle.packing_states.specs.StateLaws.{within-none, within-next, peak-within, refused-within}
+use Rattle.packing_states.specs.Uses.{root-used}
+use Rattle.packing.specs.declared.Slots.{Slots}
+use Rattle.packing.specs.declared.Step.{Step}
+use Rattle.packing.specs.declared.Step.the-variants.{Next, NonHermitianAxis, Full}
+use Rattle.packing.specs.Phases.{PhasePre, phaseIn}
+use Rattle.packing.specs.Holding.{Done, Holding, Turned, Left, Some, RootAt, RootsAt}
+use Rattle.packing.specs.RootLaws.{root-is}
+use Rattle.packing.specs.Turns.{turned-next, turned-odd, turned-full, left-none}
+
+-- ---- what turns leave, one after the other
+
+pub left-then : {z : Shape} {ws xs ws′ xs′ ws″ xs″ : List ℕ} → Left z ws xs ws′ xs′ → Left z ws′ xs′ ws″ xs″ → Left z ws xs ws″ xs″
+left-then a b = record { words = kept-then (a .words) (b .words); numbers = only-then (a .numbers) (b .numbers) }
+
+-- the stores stay as long as refusal 3 asks
+pub granted-left : {z : Shape} {ws xs ws′ xs′ : List ℕ} → Granted z ws xs → Left z ws xs ws′ xs′ → Granted z ws′ xs′
+granted-left g l = record {
+  sized = g .sized;
+  words-long = omega (arith, g .words-long, l .words .long);
+  numbers-long = omega (arith, g .numbers-long, l .numbers .long);
+}
+
+-- ---- a root of node n
+
+pub its-root : (p : Program) (n j : ℕ) → isRootAt p j ≡ true → referenceAt p j .node ≡ n → rootOf p n j ≡ true
+unfolding rootOf
+its-root p n j r e = rw (r, eq-eqb (referenceAt p j .node) n e) refl
+
+-- ---- between two links
+
+module _ {p : Program} {z : Shape} {b n i : ℕ} {k : Pack} {st : Slots} {ws xs : List ℕ} where
+  -- references that are no roots of the node change nothing
+  past : (t : ℕ) → ((j : ℕ) → i ≤ j → j < t → rootOf p n j ≡ false) → Holding p z b n i k st ws xs → Holding p z b n t k st ws xs
+  past t none h = record {
+    going = h .going;
+    fits = h .fits;
+    axes = h .axes;
+    room = h .room;
+    slots = h .slots;
+    free = h .free;
+    live = h .live;
+    uses = h .uses;
+    held = h .held;
+    signed = λ j a r d. h .signed j a r (earlier j r d);
+    linked = h .linked;
+  }
+    where
+      before-i : (j : ℕ) → isRootAt p j ≡ true → referenceAt p j .node ≡ n → j < t → Dec (j < i) → Done p n i j
+      before-i j r e a (yes c) = inr (e, c)
+      before-i j r e a (no c) = absurd (true≢false (sym (its-root p n j r e) ∙ none j (omega arith) a))
+
+      earlier : (j : ℕ) → isRootAt p j ≡ true → Done p n t j → Done p n i j
+      earlier j r (inl a) = inl a
+      earlier j r (inr (e, a)) = before-i j r e a (decLt j i)
+
+-- root r of node n is to be packed
+pub record BeforeRoot (p : Program) (z : Shape) (n r : ℕ) (st : Slots) (ws xs : List ℕ) : Type 0 where
+  pub reference : r < total p
+  pub root : rootOf p n r ≡ true
+  pub holding : Holding p z (suc n) n r (within p n r) st ws xs
+
+-- the link is 0 at the end, else it names the next root
+pub record AtLink (p : Program) (z : Shape) (n link : ℕ) (st : Slots) (ws xs : List ℕ) : Type 0 where
+  pub end : link ≡ 0 → Holding p z (suc n) n (total p) (within p n (total p)) st ws xs
+  pub some : (r : ℕ) → link ≡ suc r → BeforeRoot p z n r st ws xs
+
+module _ {p : Program} {z : Shape} {n : ℕ} {st : Slots} {ws xs : List ℕ} where
+  at-link : (j link : ℕ) → j ≤ total p → link ≡ linkFrom p n j → Holding p z (suc n) n j (within p n j) st ws xs → AtLink p z n link st ws xs
+  at-link j link b e h = record {
+    end = λ f.
+        let g : linkFrom p n j ≡ 0 = sym e ∙ f in
+        rw (within-none p n j g b) (past (total p) (link-none p n j g) h);
+    some = λ r f.
+        let g : linkFrom p n j ≡ suc r = sym e ∙ f in
+        let s = link-some p n j r g in
+        record { reference = s .1; root = s .2; holding = rw (within-next p n j r g) (past r (s .3) h) };
+  }
+
+-- ---- the loop
+
+-- what is left of both stores, and where the loop is for each program that they hold
+pub record Along (z : Shape) (first : Slots) (n : ℕ) (os rs ws₀ xs₀ ws xs : List ℕ) (st : Slots) (link : ℕ) : Type 0 where
+  pub left : Left z ws₀ xs₀ ws xs
+  pub at : (p : Program) → RootsAt p z first n os rs ws₀ xs₀ → AtLink p z n link st ws xs
+
+-- how many references stand from the linked one on
+unfoldable pub referencesLeft : ℕ → ℕ → ℕ
+referencesLeft t zero = 0
+referencesLeft t (suc r) = t - r
+
+fall : (t r link : ℕ) → r < t → ((s : ℕ) → link ≡ suc s → r < s) → referencesLeft t link < referencesLeft t (suc r)
+unfolding referencesLeft
+fall t r zero b h = omega arith
+fall t r (suc s) b h = omega (arith, h s refl)
+
+module _ {z : Shape} {first : Slots} {n : ℕ} {os rs ws₀ xs₀ : List ℕ} where
+  -- it starts at the node's first link
+  pub along-first : (link : ℕ) → link ≡ getD (row xs₀ (z .u) firstRoot) n 0 → Along z first n os rs ws₀ xs₀ ws₀ xs₀ first link
+  unfolding within
+  along-first link e = record {
+    left = left-none z ws₀ xs₀;
+    at = λ p a. at-link 0 link (omega arith) (e ∙ a .holding .linked .first n (a .node)) (a .holding);
+  }
+
+  -- the node has its first link
+  pub first-there : Some (λ p. RootsAt p z first n os rs ws₀ xs₀) → (24 * z .u ≤ length xs₀) × (firstRoot < 24) × (n < z .u)
+  first-there s = let g = s .it .granted in (g .numbers-long, omega arith, omega (arith, s .it .node, g .sized .row))
+
+  module _ {ws xs : List ℕ} {st : Slots} {link r : ℕ} (a : Along z first n os rs ws₀ xs₀ ws xs st link) (l : link ≡ suc r) where
+    -- the linked root has its phase
+    pub phase-there : Some (λ p. RootsAt p z first n os rs ws₀ xs₀) → PhasePre (z .operations) os rs r
+    phase-there s =
+        let w = s .it .whole .references in
+        let b = a .at (s .p) (s .it) .some r l .reference in
+        record {
+          operation = λ h. omega (arith, s .it .operations-long);
+          row = λ h. omega (arith, s .it .rows-long);
+        }
+
+    root-at : (p : Program) (phase : ℕ) → RootsAt p z first n os rs ws₀ xs₀ → phase ≡ phaseIn (z .operations) os rs r → RootAt p z st n r phase ws xs
+    root-at p phase h e =
+        let b = a .at p h .some r l in
+        record {
+          granted = granted-left (h .granted) (a .left);
+          whole = h .whole;
+          node = h .node;
+          reference = b .reference;
+          root = b .root;
+          phase-is = e ∙ h .phases r (b .reference);
+          used = root-used p (h .whole .fine) n (omega (arith, h .whole .nodes, h .node)) (h .going) (h .used) r
+              (b .reference) (b .root) (b .holding .going);
+          holding = b .holding;
+        }
+
+    -- it can be packed
+    pub root-there : (phase : ℕ) → Some (λ p. RootsAt p z first n os rs ws₀ xs₀) → phase ≡ phaseIn (z .operations) os rs r
+        → Some (λ p. RootAt p z st n r phase ws xs)
+    root-there phase s e = record { p = s .p; it = root-at (s .p) phase (s .it) e }
+
+    -- it has its next link, whatever packing it left
+    pub next-there : {ws′ xs′ : List ℕ} → Some (λ p. RootsAt p z first n os rs ws₀ xs₀) → Left z ws xs ws′ xs′
+        → (24 * z .u ≤ length xs′) × (nextRoot < 24) × (r < z .u)
+    next-there s k =
+        let g = granted-left (s .it .granted) (left-then (a .left) k) in
+        (g .numbers-long, omega arith, omega (arith, a .at (s .p) (s .it) .some r l .reference, s .it .whole .references, g .sized .row))
+
+    -- and has been
+    module _ {step : Step} {phase : ℕ} {ws′ xs′ : List ℕ} (e : phase ≡ phaseIn (z .operations) os rs r) (k : Left z ws xs ws′ xs′)
+        (t : (p : Program) → RootAt p z st n r phase ws xs → Turned p z (suc n) n (suc r) (within p n (suc r)) step ws′ xs′) where
+      turned : (p : Program) → RootsAt p z first n os rs ws₀ xs₀ → Turned p z (suc n) n (suc r) (within p n (suc r)) step ws′ xs′
+      turned p h = t p (root-at p phase h e)
+
+      next-is : (p : Program) → RootsAt p z first n os rs ws₀ xs₀ → (st′ : Slots) → step ≡ Next st′
+          → getD (row xs′ (z .u) nextRoot) r 0 ≡ linkFrom p n (suc r)
+      next-is p h st′ f =
+          let b = a .at p h .some r l in
+          let s = root-is p n r (b .root) in
+          turned p h .next st′ f .linked .next r (b .reference) (s .0) ∙ ap (λ (m : ℕ). linkFrom p m (suc r)) (s .1)
+
+      -- the next link
+      pub along-next : (st′ : Slots) (link′ : ℕ) → step ≡ Next st′ → link′ ≡ getD (row xs′ (z .u) nextRoot) r 0
+          → Along z first n os rs ws₀ xs₀ ws′ xs′ st′ link′
+      along-next st′ link′ f g = record {
+        left = left-then (a .left) k;
+        at = λ p h. at-link (suc r) link′ (a .at p h .some r l .reference) (g ∙ next-is p h st′ f) (turned p h .next st′ f);
+      }
+
+      -- it is a later one
+      pub next-later : Some (λ p. RootsAt p z first n os rs ws₀ xs₀) → (st′ : Slots) (link′ : ℕ) → step ≡ Next st′
+          → link′ ≡ getD (row xs′ (z .u) nextRoot) r 0
+          → referencesLeft (z .operations + 2 * z .qubits) link′ < referencesLeft (z .operations + 2 * z .qubits) link
+      next-later s st′ link′ f g =
+          let p = s .p in
+          let b = a .at p (s .it) .some r l .reference in
+          let w = s .it .whole .references in
+          rw l (fall (z .operations + 2 * z .qubits) r link′ (omega arith)
+          (λ m i. link-some p n (suc r) m (sym (next-is p (s .it) st′ f) ∙ sym g ∙ i) .0))
+
+      -- "refused" ends the node's turn
+      pub along-odd : step ≡ NonHermitianAxis → Left z ws₀ xs₀ ws′ xs′
+          × ((p : Program) → RootsAt p z first n os rs ws₀ xs₀ → Turned p z (suc n) n (total p) (within p n (total p)) NonHermitianAxis ws′ xs′)
+      along-odd f = (
+        left-then (a .left) k,
+        λ p h.
+            let o = turned p h .odd f in
+            let same = refused-within p n (suc r) (total p) (o .0) (a .at p h .some r l .reference) in
+            turned-odd (rw same (o .0)) (rw same (o .1)),
+      )
+
+      -- and so does a sum above the limit
+      pub along-full : step ≡ Full → Left z ws₀ xs₀ ws′ xs′
+          × ((p : Program) → RootsAt p z first n os rs ws₀ xs₀ → Turned p z (suc n) n (total p) (within p n (total p)) Full ws′ xs′)
+      along-full f = (
+        left-then (a .left) k,
+        λ p h.
+            turned-full (omega (arith, turned p h .full f, peak-within p n (suc r) (total p) (a .at p h .some r l .reference))),
+      )
+
+  -- the last link
+  pub along-end : {ws xs : List ℕ} {st : Slots} {link : ℕ} → Along z first n os rs ws₀ xs₀ ws xs st link → link ≡ 0
+      → Left z ws₀ xs₀ ws xs
+      × ((p : Program) → RootsAt p z first n os rs ws₀ xs₀ → Turned p z (suc n) n (total p) (within p n (total p)) (Next st) ws xs)
+  along-end a e = (a .left, λ p h. turned-next (a .at p h .end e))

@@ -1,0 +1,104 @@
+-- After the last node's turn: the rows of roots' axes and signs are the model's. Assumes nothing.
+use mathlib.Core.Path.{_≡_, refl, sym, ap, _∙_}
+use mathlib.Core.Bool.{Bool, true, false}
+use mathlib.Core.List.{List, [], _∷_, map, _++_, append-nil}
+use Prim.Native.Nat.{ℕ, zero, suc, _+_, _<_}
+use native.Mathlib.Nat.{zero-add}
+use native.Mathlib.Omega.{arith}
+use lib.ListN.{length, getD, length-append, length-map, List·getD-map}
+use Rattle.store.specs.Row.{row}
+use Rattle.model.specs.Lists.{numbersFrom}
+use Rattle.model.specs.Program.{PauliRef, Program}
+use Rattle.model.specs.Roots.{isRoot, operationRoot}
+use Rattle.model.specs.Packing.{packed, valuesOf, SignedAxis, signedAxis}
+use Rattle.model.specs.Results.{noOperation}
+use Rattle.theory.specs.Cases.{if-true, if-false}
+use Rattle.layout.specs.declared.Shape.{Shape}
+use Rattle.layout.specs.Rows.{rootAxis, rootSign}
+use Rattle.packing_states.specs.References.{references, referenceAt, total, isRootAt}
+use Rattle.packing_states.specs.ReferenceLaws.{operation-kept, row-at, row-kept}
+use Rattle.packing_states.specs.States.{valueOf}
+use Rattle.packing_states.specs.Linked.{Linked}
+use Rattle.packing.specs.Holding.{SignedAt, Whole}
+use Rattle.packing.specs.Packed.{signsIn, rowSign, signsOf}
+
+-- ---- numbers by f, a list's elements by g
+
+module _ {A B : Type 0} (f : ℕ → B) (g : A → B) (d : A) where
+  -- the numbers in front are the list's places
+  map-front : (xs : List A) (i m t : ℕ) → t ≡ length xs + m → ((k : ℕ) → k < length xs → f (k + i) ≡ g (getD xs k d))
+      → map f (numbersFrom i t) ≡ map g xs ++ map f (numbersFrom (length xs + i) m)
+  unfolding numbersFrom
+  map-front [] i m t e h = let z : t ≡ m = omega arith in rw (z, zero-add i) refl
+  map-front (x ∷ xs) i m zero e h = absurd (omega arith)
+  map-front (x ∷ xs) i m (suc t) e h = go (map-front xs (suc i) m t (omega arith) later)
+    where
+      later : (k : ℕ) → k < length xs → f (k + suc i) ≡ g (getD xs k d)
+      later k b = let e : suc k + i ≡ k + suc i = omega arith in rw e at (h (suc k) (omega arith))
+
+      here : f i ≡ g x
+      here = rw zero-add at (h 0 (omega arith))
+
+      go : map f (numbersFrom (suc i) t) ≡ map g xs ++ map f (numbersFrom (length xs + suc i) m)
+          → f i ∷ map f (numbersFrom (suc i) t) ≡ g x ∷ (map g xs ++ map f (numbersFrom (suc (length xs) + i) m))
+      go ih = let e : suc (length xs) + i ≡ length xs + suc i = omega arith in rw (here, ih, e) refl
+
+  -- all of them are
+  map-all : (xs : List A) (i : ℕ) → ((k : ℕ) → k < length xs → f (k + i) ≡ g (getD xs k d)) → map f (numbersFrom i (length xs)) ≡ map g xs
+  unfolding numbersFrom
+  map-all xs i h = map-front xs i 0 (length xs) (omega arith) h ∙ append-nil (map g xs)
+
+-- ---- reference by reference
+
+module _ {p : Program} {z : Shape} {xs : List ℕ} (w : Whole p z) (linked : Linked p z xs)
+    (signed : (j : ℕ) → j < total p → isRootAt p j ≡ true → SignedAt p (z .u) (packed p .store .axes) xs j) where
+  abbrev signAt : ℕ → SignedAxis
+  signAt j = record { axis = getD (row xs (z .u) rootAxis) j 0; sign = getD (row xs (z .u) rootSign) j 0 }
+
+  abbrev signOf : PauliRef → SignedAxis
+  signOf = signedAxis (packed p .store .axes) (valuesOf p)
+
+  root-sign : (j : ℕ) → j < total p → isRootAt p j ≡ true → signAt j ≡ signOf (referenceAt p j)
+  unfolding signedAxis valueOf
+  root-sign j b r = let s = signed j b r in rw (s .axis, s .sign) refl
+
+  counted : total p ≡ length (p .operations) + length (p .rows)
+  unfolding total references
+  counted =
+      omega (arith, length-append (map operationRoot (p .operations)) (p .rows), length-map (p .operations) operationRoot)
+
+  operation-sign : (k : ℕ) → k < length (p .operations) → signAt (k + 0) ≡ signOf (operationRoot (getD (p .operations) k noOperation))
+  unfolding operationRoot noOperation
+  operation-sign k b =
+      let o = operation-kept p k (omega (arith, length-map (p .operations) operationRoot)) in
+      root-sign (k + 0) (omega (arith, counted)) (o .0)
+      ∙ ap signOf (o .1 ∙ List·getD-map operationRoot (p .operations) k noOperation)
+
+  row-sign : (k : ℕ) → k < length (p .rows)
+      → signAt (k + (length (p .operations) + 0)) ≡ rowSign p (getD (p .rows) k (record { node = 0; phase = 0 }))
+  unfolding rowSign
+  row-sign k b =
+      let e : length (p .operations) ≡ length (map operationRoot (p .operations)) = sym (length-map (p .operations) operationRoot) in
+      rw e (go (isRoot p r) refl)
+    where
+      r : PauliRef
+      r = getD (p .rows) k (record { node = 0; phase = 0 })
+
+      j : ℕ
+      j = k + (length (map operationRoot (p .operations)) + 0)
+
+      in-all : j < total p
+      in-all = omega (arith, counted, length-map (p .operations) operationRoot)
+
+      go : (t : Bool) → isRoot p r ≡ t → signAt j ≡ rowSign p r
+      go true e = root-sign j in-all (row-kept p k ∙ e) ∙ ap signOf (row-at p k) ∙ sym (if-true _ _ e)
+      go false e =
+          rw (linked .no-axis j in-all (row-kept p k ∙ e), linked .no-sign j in-all (row-kept p k ∙ e)) (sym (if-false _ _ e))
+
+  pub signs-are : signsIn z xs ≡ signsOf p
+  unfolding signsIn signsOf
+  signs-are =
+      let ops = p .operations in
+      map-front signAt (λ o. signOf (operationRoot o)) noOperation ops 0 (length (p .rows)) _ (sym (w .references) ∙ counted) operation-sign
+      ∙ ap (λ (ys : List SignedAxis). map (λ o. signOf (operationRoot o)) ops ++ ys)
+      (map-all signAt (rowSign p) (record { node = 0; phase = 0 }) (p .rows) (length ops + 0) row-sign)

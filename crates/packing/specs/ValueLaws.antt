@@ -1,0 +1,276 @@
+-- What the functions over slots leave, shown from what their callees leave. Assumes nothing.
+use mathlib.Core.Path.{_≡_, refl, sym, ap, _∙_}
+use mathlib.Core.Bool.{true, false}
+use mathlib.Core.List.{List, [], _∷_}
+use mathlib.Core.Logic.{inr}
+use Prim.Native.Nat.{ℕ, _+_, _-_, _*_, _/_, _%_, _≤_, _<_}
+use native.Mathlib.Nat.{add-zero}
+use native.Mathlib.Omega.{arith}
+use lib.Dec.{eqb}
+use lib.ListN.{length, getD, set, take, drop, replicate}
+use borrow.Author.Tests.{lt-ltb, le-ltb, eq-eqb, ne-eqb}
+use borrow.Rule.Slice.PartMut.{putMid}
+use Rattle.bits.specs.Remainder.{same4}
+use Rattle.store.specs.Part.{part, put, zeros-lent}
+use Rattle.store.specs.Row.{row, Written}
+use Rattle.store.specs.Copy.{CopyPre}
+use Rattle.pauli.specs.Word.{xorWords, phase, identity as identityWord}
+use Rattle.pauli.specs.Letter.{single}
+use Rattle.product.specs.Product.{StoredPre, StoredProduct}
+use Rattle.model.specs.Lists.{if_then_else_, allOf, anyOf, member}
+use Rattle.model.specs.Words.{Value, asValue, scaled, multiply}
+use Rattle.model.specs.Value.{nodeValue}
+use Rattle.theory.specs.Cases.{by-if, if-true, if-false}
+use Rattle.layout.specs.declared.Shape.{Shape}
+use Rattle.layout.specs.Rows.{usesRow, nodeSlot, nodePhase, freeRow, written-row}
+use Rattle.layout.specs.Only.{Only, only-none, only-then, only-of, only-written}
+use Rattle.layout.specs.Words.{slotPlace}
+use Rattle.records.specs.declared.NodeRecord.{NodeRecord}
+use Rattle.records.specs.Records.{said-identity, said-letter, said-product}
+use Rattle.packing.specs.declared.Slots.{Slots}
+use Rattle.packing.specs.declared.ValueHeld.{ValueHeld}
+use Rattle.packing.specs.declared.Taken.the-variants.{Slot, Full}
+use Rattle.packing.specs.Values.{slotOf, phaseOf, HeldPre, heldAt, heldValue, EvaluatePre, valueOfRecord, Evaluated, usesOf}
+use Rattle.packing.specs.Values.{ReleasePre, Released, ChildrenPre, ChildrenReleased, taken, KeepPre, Kept}
+
+-- a slot within the limit ends within it
+slot-ends : (limit l s : ℕ) → s * (2 * l) + 2 * l ≤ limit → slotPlace limit l s + 2 * l ≤ limit
+unfolding slotPlace
+slot-ends limit l s h = omega arith
+
+-- ---- what is held of a node
+
+module _ (z : Shape) (xs : List ℕ) (n : ℕ) where
+  pub held-fits : (s : ℕ) → HeldPre z xs n → s ≡ slotOf z xs n → s * (2 * z .l) + 2 * z .l ≤ z .limit
+  held-fits s pre e = rw e (pre .slot)
+
+  pub held-is : (s a p : ℕ) → s ≡ slotOf z xs n → a ≡ slotPlace (z .limit) (z .l) s → p ≡ phaseOf z xs n
+      → _≡_ {A = ValueHeld} (record { at = a; phase = p }) (heldAt z xs n)
+  unfolding heldAt
+  held-is s a p e f g = λ i. record { at = (f ∙ ap (slotPlace (z .limit) (z .l)) e) i; phase = g i }
+
+  pub held-place : {h : ValueHeld} → h ≡ heldAt z xs n → h .at ≡ slotPlace (z .limit) (z .l) (slotOf z xs n)
+  unfolding heldAt
+  held-place e = ap (λ (x : ValueHeld). x .at) e
+
+  pub held-phase : {h : ValueHeld} → h ≡ heldAt z xs n → h .phase ≡ phaseOf z xs n
+  unfolding heldAt
+  held-phase e = ap (λ (x : ValueHeld). x .phase) e
+
+  -- its word ends within the limit
+  held-ends : {h : ValueHeld} → HeldPre z xs n → h ≡ heldAt z xs n → h .at + 2 * z .l ≤ z .limit
+  held-ends pre e = omega (arith, held-place e, slot-ends (z .limit) (z .l) (slotOf z xs n) (pre .slot))
+
+-- ---- evaluation
+
+module _ (z : Shape) (x : NodeRecord) (ws xs : List ℕ) where
+  value-identity : x .kind ≡ 0 → valueOfRecord z ws xs x ≡ asValue (identityWord (z .l))
+  unfolding valueOfRecord nodeValue
+  value-identity e = ap (nodeValue (z .l) (heldValue z ws xs)) (said-identity x e)
+
+  value-letter : x .kind ≡ 1 → valueOfRecord z ws xs x ≡ asValue (single (z .l) (x .a) (x .p))
+  unfolding valueOfRecord nodeValue
+  value-letter e = ap (nodeValue (z .l) (heldValue z ws xs)) (said-letter x e)
+
+  value-product : (x .kind ≡ 0 → ⊥) → (x .kind ≡ 1 → ⊥)
+      → valueOfRecord z ws xs x ≡ multiply (z .l) (scaled (x .p) (heldValue z ws xs (x .a))) (scaled (x .q) (heldValue z ws xs (x .b)))
+  unfolding valueOfRecord nodeValue
+  value-product f g = ap (nodeValue (z .l) (heldValue z ws xs)) (said-product x f g)
+
+  -- the words behind the limit are those of a value
+  evaluated : {ws′ : List ℕ} {e : ℕ} (v : Value) → valueOfRecord z ws xs x ≡ v → ws′ ≡ put ws (z .limit) (v .word) → e ≡ v .turns
+      → Evaluated z x ws xs ws′ e
+  evaluated v is p q = record {
+    words = p ∙ ap (λ (y : Value). put ws (z .limit) (y .word)) (sym is);
+    turns = q ∙ ap (λ (y : Value). y .turns) (sym is);
+  }
+
+  -- zeros came back for the words behind the limit
+  pub evaluated-identity : (w : List ℕ) → x .kind ≡ 0 → z .limit + 2 * z .l ≤ length ws
+      → w ≡ replicate (length (take (z .limit + 2 * z .l - z .limit) (drop (z .limit) ws))) 0
+      → Evaluated z x ws xs (putMid (z .limit) (z .limit + 2 * z .l - z .limit) ws w) 0
+  evaluated-identity w k h e = evaluated (asValue (identityWord (z .l))) (value-identity k) (zeros-lent ws (z .limit) (2 * z .l) w h e) refl
+
+  pub evaluated-letter : (ws′ : List ℕ) → x .kind ≡ 1 → ws′ ≡ put ws (z .limit) (single (z .l) (x .a) (x .p)) → Evaluated z x ws xs ws′ 0
+  evaluated-letter ws′ k e = evaluated (asValue (single (z .l) (x .a) (x .p))) (value-letter k) e refl
+
+-- neither an identity nor a letter
+pub from-two : {k : ℕ} → (k ≡ 0 → ⊥) × (k ≡ 1 → ⊥) → 2 ≤ k
+from-two (f, g) = omega arith
+
+-- the phases of a product, remainder by remainder
+turns-sum : (e a p b q : ℕ) → (e + a + p % 4 + b + q % 4) % 4 ≡ ((a + p) % 4 + (b + q) % 4 + e) % 4
+turns-sum e a p b q =
+    same4 (e + a + p % 4 + b + q % 4) ((a + p) % 4 + (b + q) % 4 + e) (p / 4 + q / 4) ((a + p) / 4 + (b + q) / 4) (omega arith)
+
+phase-small : (l : ℕ) (p q : List ℕ) → phase l p q < 4
+unfolding phase
+phase-small l p q = omega arith
+
+module _ {z : Shape} {x : NodeRecord} {ws xs : List ℕ} (a b : ValueHeld) where
+  -- the words of both children, and the one behind the limit, for `product_in`
+  pub stored-pre : EvaluatePre z x ws xs → 2 ≤ x .kind → a ≡ heldAt z xs (x .a) → b ≡ heldAt z xs (x .b)
+      → StoredPre (z .l) ws (a .at) (b .at) (z .limit)
+  stored-pre pre k e f =
+      let p : a .at + 2 * z .l ≤ z .limit = held-ends z xs (x .a) (pre .first k) e in
+      let q : b .at + 2 * z .l ≤ z .limit = held-ends z xs (x .b) (pre .second k) f in
+      let s : z .limit + 2 * z .l ≤ length ws = pre .scratch in
+      record { p-in = omega arith; q-in = omega arith; o-in = s; p-clear = inr (inr p); q-clear = inr (inr q) }
+
+  -- all that is summed is small
+  pub phases-small : {ws′ : List ℕ} {e : ℕ} → EvaluatePre z x ws xs → 2 ≤ x .kind → a ≡ heldAt z xs (x .a) → b ≡ heldAt z xs (x .b)
+      → StoredProduct (z .l) ws (a .at) (b .at) (z .limit) ws′ e → (e < 4) × (a .phase < 4) × (b .phase < 4)
+  phases-small pre k g h s = (
+    omega (arith, s .turns, phase-small (z .l) (part ws (a .at) (2 * z .l)) (part ws (b .at) (2 * z .l))),
+    omega (arith, held-phase z xs (x .a) g, pre .first-phase k),
+    omega (arith, held-phase z xs (x .b) h, pre .second-phase k),
+  )
+
+  pub evaluated-product : {ws′ : List ℕ} {e : ℕ} → (x .kind ≡ 0 → ⊥) → (x .kind ≡ 1 → ⊥) → a ≡ heldAt z xs (x .a) → b ≡ heldAt z xs (x .b)
+      → StoredProduct (z .l) ws (a .at) (b .at) (z .limit) ws′ e
+      → Evaluated z x ws xs ws′ ((e + a .phase + x .p % 4 + b .phase + x .q % 4) % 4)
+  unfolding multiply scaled heldValue
+  evaluated-product {ws′} {e} f g p q s =
+      let n = 2 * z .l in
+      let u = slotPlace (z .limit) (z .l) (slotOf z xs (x .a)) in
+      let v = slotPlace (z .limit) (z .l) (slotOf z xs (x .b)) in
+      let c = phaseOf z xs (x .a) in
+      let d = phaseOf z xs (x .b) in
+      evaluated z x ws xs (multiply (z .l) (scaled (x .p) (heldValue z ws xs (x .a))) (scaled (x .q) (heldValue z ws xs (x .b))))
+      (value-product z x ws xs f g)
+      (s .store
+      ∙ ap (λ (i : ℕ). put ws (z .limit) (xorWords (part ws i n) (part ws (b .at) n))) (held-place z xs (x .a) p)
+      ∙ ap (λ (i : ℕ). put ws (z .limit) (xorWords (part ws u n) (part ws i n))) (held-place z xs (x .b) q))
+      (ap (λ (i : ℕ). (i + a .phase + x .p % 4 + b .phase + x .q % 4) % 4) (s .turns)
+      ∙ turns-sum (phase (z .l) (part ws (a .at) n) (part ws (b .at) n)) (a .phase) (x .p) (b .phase) (x .q)
+      ∙ ap (λ (i : ℕ). ((i + x .p) % 4 + (b .phase + x .q) % 4 + phase (z .l) (part ws (a .at) n) (part ws (b .at) n)) % 4) (held-phase z xs (x .a) p)
+      ∙ ap (λ (i : ℕ). ((c + x .p) % 4 + (i + x .q) % 4 + phase (z .l) (part ws (a .at) n) (part ws (b .at) n)) % 4) (held-phase z xs (x .b) q)
+      ∙ ap (λ (i : ℕ). ((c + x .p) % 4 + (d + x .q) % 4 + phase (z .l) (part ws i n) (part ws (b .at) n)) % 4) (held-place z xs (x .a) p)
+      ∙ ap (λ (i : ℕ). ((c + x .p) % 4 + (d + x .q) % 4 + phase (z .l) (part ws u n) (part ws i n)) % 4) (held-place z xs (x .b) q))
+
+-- ---- giving up a use
+
+module _ {s t : List ℕ} {u free n : ℕ} (k : ℕ) (pre : ReleasePre s u free n) (is : k ≡ usesOf s u n) (w : Written s u usesRow n (k - 1) t) where
+  only-uses : Only (usesRow ∷ []) u s t
+  only-uses = only-written (pre .long) (omega arith) (pre .node) w
+
+  less-used : row t u usesRow ≡ set (row s u usesRow) n (usesOf s u n - 1)
+  less-used = written-row (pre .long) (omega arith) (pre .node) w ∙ ap (λ (i : ℕ). set (row s u usesRow) n (i - 1)) is
+
+  -- it is still used
+  pub released-still : (k - 1 ≡ 0 → ⊥) → Released s u free n free t
+  unfolding allOf member anyOf
+  released-still more =
+      let f : eqb (usesOf s u n) 1 ≡ false = ne-eqb (usesOf s u n) 1 (λ e. more (omega arith)) in
+      record {
+        only = only-of (usesRow ∷ freeRow ∷ []) refl only-uses;
+        uses = less-used;
+        count = sym (ap (λ (i : ℕ). free + i) (if-false 1 0 f) ∙ add-zero free);
+        stack = only-uses .rows freeRow (omega arith) refl ∙ sym (if-false _ _ f);
+      }
+
+  -- it was the last use: the slot is free
+  pub released-last : {v : List ℕ} (x : ℕ) → x ≡ getD (row t u nodeSlot) n 0 → Written t u freeRow free x v → k - 1 ≡ 0
+      → Released s u free n (free + 1) v
+  unfolding allOf member anyOf
+  released-last {v} x e y none =
+      let long : 24 * u ≤ length t = omega (arith, pre .long, w .long) in
+      let one : usesOf s u n ≡ 1 = omega (arith, pre .used) in
+      let f : eqb (usesOf s u n) 1 ≡ true = eq-eqb (usesOf s u n) 1 one in
+      let o : Only (freeRow ∷ []) u t v = only-written long (omega arith) (pre .room) y in
+      let slot : x ≡ getD (row s u nodeSlot) n 0 = e ∙ ap (λ (r : List ℕ). getD r n 0) (only-uses .rows nodeSlot (omega arith) refl) in
+      record {
+        only = only-then (only-of (usesRow ∷ freeRow ∷ []) refl only-uses) (only-of (usesRow ∷ freeRow ∷ []) refl o);
+        uses = o .rows usesRow (omega arith) refl ∙ less-used;
+        count = sym (ap (λ (i : ℕ). free + i) (if-true 1 0 f));
+        stack =
+            written-row long (omega arith) (pre .room) y
+            ∙ ap (λ (r : List ℕ). set r free x) (only-uses .rows freeRow (omega arith) refl)
+            ∙ ap (set (row s u freeRow) free) slot
+            ∙ sym (if-true _ _ f);
+      }
+
+module _ {s : List ℕ} {u free : ℕ} {x : NodeRecord} where
+  pub children-none : x .kind < 2 → ChildrenReleased s u free x free s
+  children-none h = record {
+    only = only-none _ u s;
+    leaf = λ _. (refl, refl);
+    between = free;
+    store = s;
+    first = λ k. absurd (omega arith);
+    second = λ k. absurd (omega arith);
+  }
+
+  pub first-pre : ChildrenPre s u free x → 2 ≤ x .kind → ReleasePre s u free (x .a)
+  first-pre pre k = record {
+    long = pre .long;
+    node = pre .first k;
+    room = omega (arith, pre .room k);
+    u-small = pre .u-small;
+    used = pre .first-used k;
+  }
+
+  pub second-pre : (r : ℕ) {t : List ℕ} → ChildrenPre s u free x → 2 ≤ x .kind → Released s u free (x .a) r t → ReleasePre t u r (x .b)
+  second-pre r {t} pre k one =
+      let most : (if eqb (usesOf s u (x .a)) 1 then 1 else 0) ≤ 1 = by-if (λ (i : ℕ). i ≤ 1) _ _ _ (omega arith) (omega arith) in
+      record {
+        long = omega (arith, pre .long, one .only .long);
+        node = pre .second k;
+        room = omega (arith, pre .room k, one .count);
+        u-small = pre .u-small;
+        used = rw (one .uses) (pre .second-used k);
+      }
+
+  pub children-both : (m r : ℕ) {v t : List ℕ} → 2 ≤ x .kind → Released s u free (x .a) m v → Released v u m (x .b) r t
+      → ChildrenReleased s u free x r t
+  children-both m r {v} h a b = record {
+    only = only-then (a .only) (b .only);
+    leaf = λ k. absurd (omega arith);
+    between = m;
+    store = v;
+    first = λ _. a;
+    second = λ _. b;
+  }
+
+-- ---- taking a slot
+
+module _ (z : Shape) (xs : List ℕ) (st : Slots) where
+  pub taken-free : (s : ℕ) → 0 < st .free → s ≡ getD (row xs (z .u) freeRow) (st .free - 1) 0
+      → Slot s (record { axes = st .axes; slots = st .slots; free = st .free - 1 }) ≡ taken z xs st
+  unfolding taken
+  taken-free s h e =
+      ap (λ (i : ℕ). Slot i (record { axes = st .axes; slots = st .slots; free = st .free - 1 })) e ∙ sym (if-true _ _ (lt-ltb 0 (st .free) h))
+
+  pub taken-full : st .free ≤ 0 → z .limit < st .slots * (2 * z .l) + 2 * z .l + st .axes * (2 * z .l) → Full ≡ taken z xs st
+  unfolding taken
+  taken-full h k = sym (if-false _ _ (le-ltb 0 (st .free) h) ∙ if-true _ _ (lt-ltb (z .limit) _ k))
+
+  pub taken-new : st .free ≤ 0 → st .slots * (2 * z .l) + 2 * z .l + st .axes * (2 * z .l) ≤ z .limit
+      → Slot (st .slots) (record { axes = st .axes; slots = st .slots + 1; free = 0 }) ≡ taken z xs st
+  unfolding taken
+  taken-new h k = sym (if-false _ _ (le-ltb 0 (st .free) h) ∙ if-false _ _ (le-ltb (z .limit) _ k))
+
+-- ---- keeping a value
+
+module _ {z : Shape} {n s : ℕ} {ws xs : List ℕ} (pre : KeepPre z n s ws xs) where
+  pub keep-apart : (a : ℕ) → a ≡ slotPlace (z .limit) (z .l) s → CopyPre ws (z .limit) a (2 * z .l)
+  keep-apart a e =
+      let p : a + 2 * z .l ≤ z .limit = omega (arith, slot-ends (z .limit) (z .l) s (pre .slot)) in
+      let h : z .limit + 2 * z .l ≤ length ws = pre .scratch in
+      record { source = h; target = omega arith; apart = inr p }
+
+  pub kept : {e : ℕ} {ws′ t xs′ : List ℕ} (a : ℕ) → a ≡ slotPlace (z .limit) (z .l) s → ws′ ≡ put ws a (part ws (z .limit) (2 * z .l))
+      → Written xs (z .u) nodeSlot n s t → Written t (z .u) nodePhase n e xs′ → Kept z n s e ws xs ws′ xs′
+  unfolding allOf member anyOf
+  kept {e} {ws′} {t} {xs′} a p q v w =
+      let long : 24 * z .u ≤ length t = omega (arith, pre .long, v .long) in
+      let c : Only (nodeSlot ∷ []) (z .u) xs t = only-written (pre .long) (omega arith) (pre .node) v in
+      let d : Only (nodePhase ∷ []) (z .u) t xs′ = only-written long (omega arith) (pre .node) w in
+      record {
+        words = q ∙ ap (λ (i : ℕ). put ws i (part ws (z .limit) (2 * z .l))) p;
+        only = only-then (only-of (nodeSlot ∷ nodePhase ∷ []) refl c) (only-of (nodeSlot ∷ nodePhase ∷ []) refl d);
+        slot = d .rows nodeSlot (omega arith) refl ∙ written-row (pre .long) (omega arith) (pre .node) v;
+        phase =
+            written-row long (omega arith) (pre .node) w
+            ∙ ap (λ (r : List ℕ). set r n e) (c .rows nodePhase (omega arith) refl);
+      }

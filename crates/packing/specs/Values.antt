@@ -1,0 +1,141 @@
+-- Slots: what the functions over them demand and leave. Assumes nothing.
+use mathlib.Core.Path.{_≡_}
+use mathlib.Core.List.{List, [], _∷_}
+use Prim.Native.Nat.{ℕ, _+_, _-_, _*_, _≤_, _<_}
+use lib.Dec.{eqb, ltb}
+use lib.ListN.{length, getD, set}
+use Rattle.store.specs.Part.{part, put}
+use Rattle.store.specs.Row.{row}
+use Rattle.model.specs.Lists.{if_then_else_}
+use Rattle.model.specs.Words.{Value}
+use Rattle.model.specs.Value.{nodeValue}
+use Rattle.layout.specs.declared.Shape.{Shape}
+use Rattle.layout.specs.Rows.{usesRow, nodeSlot, nodePhase, freeRow}
+use Rattle.layout.specs.Only.{Only}
+use Rattle.layout.specs.Words.{slotPlace}
+use Rattle.records.specs.declared.NodeRecord.{NodeRecord}
+use Rattle.records.specs.Records.{nodeSaid}
+use Rattle.packing.specs.declared.Slots.{Slots}
+use Rattle.packing.specs.declared.ValueHeld.{ValueHeld}
+use Rattle.packing.specs.declared.Taken.{Taken}
+use Rattle.packing.specs.declared.Taken.the-variants.{Slot, Full}
+
+-- ---- what is held of a node
+
+-- its slot
+abbrev pub slotOf : Shape → List ℕ → ℕ → ℕ
+slotOf z xs n = getD (row xs (z .u) nodeSlot) n 0
+
+-- its phase
+abbrev pub phaseOf : Shape → List ℕ → ℕ → ℕ
+phaseOf z xs n = getD (row xs (z .u) nodePhase) n 0
+
+pub record HeldPre (z : Shape) (xs : List ℕ) (n : ℕ) : Type 0 where
+  pub long : 24 * z .u ≤ length xs
+  pub node : n < z .u
+  pub slot : slotOf z xs n * (2 * z .l) + 2 * z .l ≤ z .limit
+
+unfoldable pub heldAt : Shape → List ℕ → ℕ → ValueHeld
+heldAt z xs n = record { at = slotPlace (z .limit) (z .l) (slotOf z xs n); phase = phaseOf z xs n }
+
+-- the value that memory has for node n
+unfoldable pub heldValue : Shape → List ℕ → List ℕ → ℕ → Value
+heldValue z ws xs n = record {
+  turns = phaseOf z xs n;
+  word = part ws (slotPlace (z .limit) (z .l) (slotOf z xs n)) (2 * z .l);
+}
+
+-- ---- evaluation
+
+-- a product's two children are held, with phases 0 to 3; a letter's qubit has its bit
+pub record EvaluatePre (z : Shape) (x : NodeRecord) (ws xs : List ℕ) : Type 0 where
+  pub scratch : z .limit + 2 * z .l ≤ length ws
+  pub long : 24 * z .u ≤ length xs
+  pub few : z .l ≤ 64
+  pub limit : z .limit ≤ 1048576
+  pub qubit : x .kind ≡ 1 → x .a < 64 * z .l
+  pub first : 2 ≤ x .kind → HeldPre z xs (x .a)
+  pub second : 2 ≤ x .kind → HeldPre z xs (x .b)
+  pub first-phase : 2 ≤ x .kind → phaseOf z xs (x .a) < 4
+  pub second-phase : 2 ≤ x .kind → phaseOf z xs (x .b) < 4
+
+-- the node's value, from those that memory has for its children
+unfoldable pub valueOfRecord : Shape → List ℕ → List ℕ → NodeRecord → Value
+valueOfRecord z ws xs x = nodeValue (z .l) (heldValue z ws xs) (nodeSaid x)
+
+pub record Evaluated (z : Shape) (x : NodeRecord) (ws xs ws′ : List ℕ) (e : ℕ) : Type 0 where
+  pub words : ws′ ≡ put ws (z .limit) (valueOfRecord z ws xs x .word)
+  pub turns : e ≡ valueOfRecord z ws xs x .turns
+
+-- ---- giving up a use
+
+abbrev pub usesOf : List ℕ → ℕ → ℕ → ℕ
+usesOf s u n = getD (row s u usesRow) n 0
+
+pub record ReleasePre (s : List ℕ) (u free n : ℕ) : Type 0 where
+  pub long : 24 * u ≤ length s
+  pub node : n < u
+  pub room : free < u
+  pub u-small : u ≤ 1187839
+  pub used : 0 < usesOf s u n
+
+-- one use less; after the last one the slot is on top of the free slots
+pub record Released (s : List ℕ) (u free n r : ℕ) (t : List ℕ) : Type 0 where
+  pub only : Only (usesRow ∷ freeRow ∷ []) u s t
+  pub uses : row t u usesRow ≡ set (row s u usesRow) n (usesOf s u n - 1)
+  pub count : r ≡ free + (if eqb (usesOf s u n) 1 then 1 else 0)
+  pub stack : row t u freeRow ≡ (if eqb (usesOf s u n) 1 then set (row s u freeRow) free (getD (row s u nodeSlot) n 0) else row s u freeRow)
+
+-- both children are used; the second still is where the first is given up
+pub record ChildrenPre (s : List ℕ) (u free : ℕ) (x : NodeRecord) : Type 0 where
+  pub long : 24 * u ≤ length s
+  pub u-small : u ≤ 1187839
+  pub room : 2 ≤ x .kind → free + 1 < u
+  pub first : 2 ≤ x .kind → x .a < u
+  pub second : 2 ≤ x .kind → x .b < u
+  pub first-used : 2 ≤ x .kind → 0 < usesOf s u (x .a)
+  pub second-used : 2 ≤ x .kind → 0 < getD (set (row s u usesRow) (x .a) (usesOf s u (x .a) - 1)) (x .b) 0
+
+-- nothing for a leaf; for a product its first child is released, then its second, m and t being what stands in between
+pub record ChildrenReleased (s : List ℕ) (u free : ℕ) (x : NodeRecord) (r : ℕ) (t : List ℕ) : Type 0 where
+  pub only : Only (usesRow ∷ freeRow ∷ []) u s t
+  pub leaf : x .kind < 2 → (r ≡ free) × (t ≡ s)
+  pub between : ℕ
+  pub store : List ℕ
+  pub first : 2 ≤ x .kind → Released s u free (x .a) between store
+  pub second : 2 ≤ x .kind → Released store u between (x .b) r t
+
+-- ---- taking a slot
+
+pub record TakePre (z : Shape) (xs : List ℕ) (st : Slots) : Type 0 where
+  pub long : 24 * z .u ≤ length xs
+  pub free : st .free ≤ z .u
+  pub limit : z .limit ≤ 1048576
+  pub few : z .l ≤ 64
+  pub room : st .slots * (2 * z .l) + st .axes * (2 * z .l) ≤ z .limit
+  pub slots : st .slots < z .u
+  pub u-small : z .u ≤ 1187839
+
+-- "a slot is freed after its last use and reused, last freed first"; "(slots with the new one + axes) × 2l" is tested
+unfoldable pub taken : Shape → List ℕ → Slots → Taken
+taken z xs st =
+    if ltb 0 (st .free) then Slot (getD (row xs (z .u) freeRow) (st .free - 1) 0)
+    (record { axes = st .axes; slots = st .slots; free = st .free - 1 })
+    else if ltb (z .limit) (st .slots * (2 * z .l) + 2 * z .l + st .axes * (2 * z .l)) then Full
+    else Slot (st .slots) (record { axes = st .axes; slots = st .slots + 1; free = 0 })
+
+-- ---- keeping a value
+
+pub record KeepPre (z : Shape) (n s : ℕ) (ws xs : List ℕ) : Type 0 where
+  pub scratch : z .limit + 2 * z .l ≤ length ws
+  pub long : 24 * z .u ≤ length xs
+  pub node : n < z .u
+  pub slot : s * (2 * z .l) + 2 * z .l ≤ z .limit
+  pub small : s < z .u
+  pub u-small : z .u ≤ 1187839
+
+pub record Kept (z : Shape) (n s e : ℕ) (ws xs ws′ xs′ : List ℕ) : Type 0 where
+  pub words : ws′ ≡ put ws (slotPlace (z .limit) (z .l) s) (part ws (z .limit) (2 * z .l))
+  pub only : Only (nodeSlot ∷ nodePhase ∷ []) (z .u) xs xs′
+  pub slot : row xs′ (z .u) nodeSlot ≡ set (row xs (z .u) nodeSlot) n s
+  pub phase : row xs′ (z .u) nodePhase ≡ set (row xs (z .u) nodePhase) n e

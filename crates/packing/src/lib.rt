@@ -1,0 +1,221 @@
+// Packing: used nodes by rising index, each value in a slot, each root stored at its node's turn.
+ghost use mathlib.Core.Path.{_≡_};
+ghost use Prim.Native.Nat.{ℕ, suc, _+_, _*_, _<_, _≤_};
+ghost use lib.ListN.{length};
+ghost use Rattle.model.specs.Program.{Program};
+ghost use Rattle.packing_states.specs.References.{total};
+ghost use Rattle.packing_states.specs.States.{before, slotted, within};
+ghost use Rattle.packing.specs.Holding.{Some, PlaceAt, RootAt, RootsAt, NodeAt, Turned, Left};
+ghost use Rattle.packing.specs.Phases.{PhasePre, phaseIn};
+ghost use Rattle.packing.specs.Packed.{PackPre, PackedAs};
+ghost use Rattle.records.specs.Given.{programIn};
+
+mod values;
+
+use axes::Interned;
+use layout::FIRST_ROOT;
+use layout::NEXT_ROOT;
+use layout::ROOT_AXIS;
+use layout::ROOT_SIGN;
+use layout::Shape;
+use layout::USES;
+use records::NodeRecord;
+
+// Axes stored, slots allocated, slots on the free stack.
+pub struct Slots {
+    pub axes: usize,
+    pub slots: usize,
+    pub free: usize,
+}
+
+// Where a node's word is, and its phase.
+pub struct ValueHeld {
+    pub at: usize,
+    pub phase: u32,
+}
+
+// The slot that a value gets, and the slots then.
+pub enum Taken {
+    Slot(usize, Slots),
+    Full,
+}
+
+// How a turn ends.
+pub enum Step {
+    Next(Slots),
+    NonHermitianAxis,
+    Full,
+}
+
+// How packing ends: with so many axes, or refused.
+pub enum Packed {
+    Axes(usize),
+    NonHermitianAxis,
+    Full,
+}
+
+// Works node n out, gives up its children's uses, and keeps its value in a slot.
+fn place_node(
+    words: &mut [u64],
+    numbers: &mut [u32],
+    shape: Shape,
+    st: Slots,
+    n: usize,
+    x: NodeRecord,
+) -> Step
+    requires { ⌜ Some (λ (p : Program). PlaceAt p shape st n x (now words) (now numbers)) ⌝ }
+    ensures { λ r. ⌜ Left shape (now (words .entry)) (now (numbers .entry)) (now (words .exit)) (now (numbers .exit))
+        × ((p : Program) → PlaceAt p shape st n x (now (words .entry)) (now (numbers .entry))
+        → Turned p shape (suc n) n 0 (slotted p n) r (now (words .exit)) (now (numbers .exit))) ⌝ }
+{
+    let phase = values::evaluate(words, &numbers[..], shape, x);
+    let free = values::release_children(numbers, shape.u, st.free, x);
+    let freed = Slots {
+        axes: st.axes,
+        slots: st.slots,
+        free,
+    };
+    let taken = values::take_slot(&numbers[..], shape, freed);
+    match taken {
+        Taken::Slot(s, after) => {
+            values::keep(words, numbers, shape, n, s, phase);
+            Step::Next(after)
+        }
+        Taken::Full => Step::Full,
+    }
+}
+
+// The phase of a reference: operations first, then frame rows.
+fn reference_phase(operations: &[u32], rows: &[u32], count: usize, root: usize) -> u32
+    requires { ⌜ PhasePre count (now operations) (now rows) root ⌝ }
+    ensures { λ r. ⌜ r ≡ phaseIn count (now (operations .entry)) (now (rows .entry)) root ⌝ }
+{
+    if root < count {
+        return records::operation_at(operations, root).phase;
+    }
+    records::row_at(rows, root - count).phase
+}
+
+// Stores a root of node n, whose reference has the phase, or refuses it.
+fn pack_root(
+    words: &mut [u64],
+    numbers: &mut [u32],
+    shape: Shape,
+    st: Slots,
+    n: usize,
+    root: usize,
+    phase: u32,
+) -> Step
+    requires { ⌜ Some (λ (p : Program). RootAt p shape st n root phase (now words) (now numbers)) ⌝ }
+    ensures { λ r. ⌜ Left shape (now (words .entry)) (now (numbers .entry)) (now (words .exit)) (now (numbers .exit))
+        × ((p : Program) → RootAt p shape st n root phase (now (words .entry)) (now (numbers .entry))
+        → Turned p shape (suc n) n (suc root) (within p n (suc root)) r (now (words .exit)) (now (numbers .exit))) ⌝ }
+{
+    let v = values::held(&numbers[..], shape, n);
+    let sign = (v.phase + phase % 4) % 4;
+    if sign % 2 == 1 {
+        return Step::NonHermitianAxis;
+    }
+    let counted = st.slots * (2 * shape.l);
+    let i = axes::intern(words, v.at, st.axes, counted, shape.limit, shape.l);
+    let Interned::Id(id) = i else {
+        return Step::Full;
+    };
+    store::write(numbers, shape.u, ROOT_AXIS, root, id as u32);
+    store::write(numbers, shape.u, ROOT_SIGN, root, sign);
+    let free = values::release(numbers, shape.u, st.free, n);
+    Step::Next(Slots {
+        axes: axes::count_with(st.axes, id),
+        slots: st.slots,
+        free,
+    })
+}
+
+// Stores the roots of node n, in root order.
+fn pack_roots(
+    operations: &[u32],
+    rows: &[u32],
+    words: &mut [u64],
+    numbers: &mut [u32],
+    shape: Shape,
+    first: Slots,
+    n: usize,
+) -> Step
+    requires { ⌜ Some (λ (p : Program). RootsAt p shape first n (now operations) (now rows) (now words) (now numbers)) ⌝ }
+    ensures { λ r. ⌜ Left shape (now (words .entry)) (now (numbers .entry)) (now (words .exit)) (now (numbers .exit))
+        × ((p : Program) → RootsAt p shape first n (now (operations .entry)) (now (rows .entry)) (now (words .entry)) (now (numbers .entry))
+        → Turned p shape (suc n) n (total p) (within p n (total p)) r (now (words .exit)) (now (numbers .exit))) ⌝ }
+{
+    let mut st = first;
+    let mut next = store::read(&numbers[..], shape.u, FIRST_ROOT, n) as usize;
+    while next != 0 {
+        let root = next - 1;
+        let phase = reference_phase(operations, rows, shape.operations, root);
+        let step = pack_root(words, numbers, shape, st, n, root, phase);
+        match step {
+            Step::Next(s) => st = s,
+            Step::NonHermitianAxis => return Step::NonHermitianAxis,
+            Step::Full => return Step::Full,
+        }
+        next = store::read(&numbers[..], shape.u, NEXT_ROOT, root) as usize;
+    }
+    Step::Next(st)
+}
+
+// Node n's turn.
+pub fn pack_node(
+    nodes: &[u32],
+    operations: &[u32],
+    rows: &[u32],
+    words: &mut [u64],
+    numbers: &mut [u32],
+    shape: Shape,
+    st: Slots,
+    n: usize,
+) -> Step
+    requires { ⌜ NodeAt shape st n (now nodes) (now operations) (now rows) (now words) (now numbers) ⌝ }
+    ensures { λ r. ⌜ Left shape (now (words .entry)) (now (numbers .entry)) (now (words .exit)) (now (numbers .exit))
+        × Turned (programIn shape (now (nodes .entry)) (now (operations .entry)) (now (rows .entry))) shape (suc n) (suc n) 0
+        (before (programIn shape (now (nodes .entry)) (now (operations .entry)) (now (rows .entry))) (suc n))
+        r (now (words .exit)) (now (numbers .exit)) ⌝ }
+{
+    if store::read(&numbers[..], shape.u, USES, n) == 0 {
+        return Step::Next(st);
+    }
+    let x = records::node_at(nodes, n);
+    let placed = place_node(words, numbers, shape, st, n, x);
+    let Step::Next(s) = placed else {
+        return Step::Full;
+    };
+    pack_roots(operations, rows, words, numbers, shape, s, n)
+}
+
+// Packs the program: every root's axis and sign, and the axes' words, or a refusal by 9 or 10.
+pub fn pack(
+    nodes: &[u32],
+    operations: &[u32],
+    rows: &[u32],
+    words: &mut [u64],
+    numbers: &mut [u32],
+    shape: Shape,
+) -> Packed
+    requires { ⌜ PackPre shape (now nodes) (now operations) (now rows) (now words) (now numbers) ⌝ }
+    ensures { λ r. ⌜ PackedAs shape (programIn shape (now (nodes .entry)) (now (operations .entry)) (now (rows .entry))) r
+        (now (words .entry)) (now (numbers .entry)) (now (words .exit)) (now (numbers .exit)) ⌝ }
+{
+    roots::prepare(nodes, operations, rows, numbers, shape);
+    let mut st = Slots {
+        axes: 0,
+        slots: 0,
+        free: 0,
+    };
+    for n in 0..shape.nodes {
+        let step = pack_node(nodes, operations, rows, words, numbers, shape, st, n);
+        match step {
+            Step::Next(s) => st = s,
+            Step::NonHermitianAxis => return Packed::NonHermitianAxis,
+            Step::Full => return Packed::Full,
+        }
+    }
+    Packed::Axes(st.axes)
+}

@@ -1,0 +1,83 @@
+// What is printed of a job.
+ghost use Prim.Native.Nat.{_+_, _*_, _≤_};
+ghost use lib.ListN.{length};
+use layout::NONE;
+use layout::ROOT_AXIS;
+use layout::ROOT_SIGN;
+use layout::Shape;
+use model::Answer;
+
+// A line of two numbers.
+fn pair(a: u64, b: u64) {
+    io::print_decimal(1, a);
+    io::write_all(1, b" ");
+    io::print_decimal(1, b);
+    io::write_all(1, b"\n");
+}
+
+// A refused job.
+pub fn refused(a: Answer) {
+    pair(model::number_of(a) as u64, 0);
+    io::write_all(1, b"end\n");
+}
+
+// A reference's axis and sign; -1 0 for a row that is no root.
+fn reference(axis: u32, sign: u32) {
+    if axis == NONE {
+        io::write_all(1, b"-1 0\n");
+        return;
+    }
+    pair(axis as u64, sign as u64);
+}
+
+fn references(numbers: &[u32], u: usize, count: usize)
+    requires { ⌜ (24 * u ≤ length (now numbers)) × (count ≤ u) ⌝ }
+{
+    for j in 0..count {
+        reference(
+            store::read(numbers, u, ROOT_AXIS, j),
+            store::read(numbers, u, ROOT_SIGN, j),
+        );
+    }
+}
+
+// A number of a word, and the byte behind it.
+fn word_number(v: u64, last: bool) {
+    io::print_decimal(1, v);
+    if last {
+        io::write_all(1, b"\n");
+        return;
+    }
+    io::write_all(1, b" ");
+}
+
+// A line with the numbers of a word.
+fn word(w: &[u64]) {
+    for i in 0..w.len() {
+        word_number(w[i], i + 1 == w.len());
+    }
+}
+
+// The words of the stored axes, of n numbers each.
+fn axes(words: &[u64], count: usize, n: usize) {
+    let mut at: usize = 0;
+    for _ in 0..count {
+        if words.len() - at < n {
+            return;
+        }
+        let e = at + n;
+        word(&words[at..e]);
+        at = e;
+    }
+}
+
+// A job that is packed.
+pub fn packed(words: &[u64], numbers: &[u32], shape: Shape, count: usize)
+    requires { ⌜ (24 * shape .u ≤ length (now numbers)) × (shape .operations + 2 * shape .qubits ≤ shape .u) ⌝ }
+    requires { ⌜ 2 * shape .l ≤ 128 ⌝ }
+{
+    pair(0, count as u64);
+    references(numbers, shape.u, shape.operations + 2 * shape.qubits);
+    axes(words, count, 2 * shape.l);
+    io::write_all(1, b"end\n");
+}

@@ -1,0 +1,107 @@
+//! The list for packing alone: small jobs and some on 0, 64, 65 and 130 qubits, at most a few of each class.
+
+use std::collections::BTreeMap;
+
+use jobs::Job;
+use record::{Place, Record};
+
+use super::random::{self, Shape};
+use super::rng::Rng;
+
+/// How many jobs are taken of a class.
+const MOST: usize = 3;
+
+/// One job in so many is on 0 qubits or on many.
+const WIDE_EVERY: usize = 10;
+
+/// Programs that lend memory lend by the limit: keep it small.
+const LARGEST_LIMIT: usize = 1024;
+
+const WIDE: Shape = Shape {
+    most_qubits: 3,
+    most_operations: 8,
+    wide_percent: 100,
+    wide: &[0, 0, 64, 65, 130],
+};
+
+pub fn list(seed: u64, count: usize) -> Vec<Job> {
+    let mut rng = Rng::new(seed);
+    let mut taken: BTreeMap<String, usize> = BTreeMap::new();
+    let mut list = Vec::new();
+    while list.len() < count {
+        let wide = list.len() % WIDE_EVERY == WIDE_EVERY - 1;
+        let shape = if wide { &WIDE } else { &Shape::SMALL };
+        let mut job = random::job(&mut rng, shape);
+        job.options.limit = job.options.limit.min(LARGEST_LIMIT);
+        let of_class = taken.entry(class(&job)).or_default();
+        if *of_class < MOST {
+            *of_class += 1;
+            list.push(job);
+        }
+    }
+    list
+}
+
+/// How packing ends, and what it meets on the way.
+fn class(job: &Job) -> String {
+    let (seen, record) = shown::run(job);
+    let end = match (&record.packed, seen) {
+        (Some(_), Ok(_)) => "accepted".to_string(),
+        (Some(_), Err(_)) => "refused later".to_string(),
+        (None, Err(refusal)) => {
+            let place = record.sums.last().map(|(place, _)| place.name());
+            format!("{} {place:?}", refusal.answer())
+        }
+        (None, Ok(_)) => unreachable!("a run packs first"),
+    };
+    let wide = if job.qubits > 6 || job.qubits == 0 {
+        job.qubits
+    } else {
+        1
+    };
+    format!("{end} {wide} {:?}", met(job, &record))
+}
+
+/// A product used twice, a node not used, a used leaf with letter I, a slot used again, a row that is no root.
+fn met(job: &Job, record: &Record) -> [bool; 5] {
+    let rows: Vec<usize> = match &record.packed {
+        Some(packed) => packed
+            .rows
+            .iter()
+            .map(|&(q, is_z)| 2 * q + usize::from(is_z))
+            .collect(),
+        None => Vec::new(),
+    };
+    let uses = uses(job, &rows);
+    let used = |node: usize| uses[node] > 0;
+    let any = |test: &dyn Fn(usize) -> bool| (0..job.nodes.len()).any(test);
+    let slots = record
+        .sums
+        .iter()
+        .filter(|(place, _)| *place == Place::PackSlot)
+        .count();
+    [
+        any(&|n| job.nodes[n][0] == 2 && uses[n] > 1),
+        any(&|n| !used(n)),
+        any(&|n| used(n) && job.nodes[n][0] == 1 && job.nodes[n][2] == 0),
+        record.packed.is_some() && slots < (0..job.nodes.len()).filter(|&n| used(n)).count(),
+        record.packed.is_some() && rows.len() < job.rows.len(),
+    ]
+}
+
+/// How often operations, the rows given and used products name each node.
+fn uses(job: &Job, rows: &[usize]) -> Vec<usize> {
+    let mut uses = vec![0; job.nodes.len()];
+    let rows = rows.iter().map(|&i| job.rows[i][2]);
+    for node in job.operations.iter().map(|o| o[1]).chain(rows) {
+        uses[node as usize] += 1;
+    }
+    for node in (0..job.nodes.len()).rev() {
+        let [kind, a, _, b, _] = job.nodes[node];
+        if uses[node] > 0 && kind == 2 {
+            uses[a as usize] += 1;
+            uses[b as usize] += 1;
+        }
+    }
+    uses
+}
