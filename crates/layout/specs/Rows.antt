@@ -4,7 +4,7 @@ use mathlib.Core.List.{List}
 use Prim.Native.Nat.{ℕ, _*_, _≤_, _<_}
 use native.Mathlib.Omega.{arith}
 use lib.ListN.{length, getD, set, take, drop, replicate, length-replicate}
-use lib.Seq.{length-take-le, getD-take, take-take, take-set-lt}
+use lib.Seq.{length-take-le, getD-take, take-take}
 use Rattle.store.specs.Part.{part, put, part-put-same}
 use Rattle.store.specs.Row.{row, Written, row-length, row-set, row-in}
 
@@ -58,14 +58,6 @@ module _ (s : List ℕ) (u r n : ℕ) (long : 24 * u ≤ length s) (l : r < 24) 
   pub entries-at : (i : ℕ) → i < n → getD (entries s u r n) i 0 ≡ getD (row s u r) i 0
   unfolding entries
   entries-at i k = getD-take n (row s u r) i 0 k
-
-  -- an entry is written
-  pub entries-written : (i v : ℕ) {t : List ℕ} → i < n → Written s u r i v t → entries t u r n ≡ set (entries s u r n) i v
-  unfolding entries
-  entries-written i v k w =
-      ap (λ (x : List ℕ). take n (row x u r)) (w .store)
-      ∙ ap (take n) (row-set s u 24 r i v long l (omega arith))
-      ∙ take-set-lt n (row s u r) i v k
 
   -- the entries are cleared
   pub entries-cleared : {t : List ℕ} → t ≡ put s (r * u) (replicate n 0) → entries t u r n ≡ replicate n 0

@@ -78,11 +78,6 @@ pub record Left (z : Shape) (ws xs ws′ xs′ : List ℕ) : Type 0 where
 
 -- ---- what the turns demand
 
--- some program has it
-pub record Some (P : Program → Type 0) : Type 0 where
-  pub p : Program
-  pub it : P p
-
 -- the program has this many nodes and references, and is fine
 pub record Whole (p : Program) (z : Shape) : Type 0 where
   pub fine : Fine p

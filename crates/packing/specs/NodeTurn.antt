@@ -28,7 +28,8 @@ use Rattle.packing.specs.declared.Slots.{Slots}
 use Rattle.packing.specs.declared.Step.{Step}
 use Rattle.packing.specs.declared.Step.the-variants.{Next, NonHermitianAxis, Full}
 use Rattle.packing.specs.Phases.{phaseIn, phase-operation, phase-row}
-use Rattle.packing.specs.Holding.{SlotsHold, Done, Holding, Turned, Left, Some, Whole, PlaceAt, RootsAt, NodeAt}
+use Rattle.packing_states.specs.Some.{Some}
+use Rattle.packing.specs.Holding.{SlotsHold, Done, Holding, Turned, Left, Whole, PlaceAt, RootsAt, NodeAt}
 use Rattle.packing.specs.Place.{children-keep}
 use Rattle.packing.specs.Turns.{turned-next, turned-full, left-none}
 use Rattle.packing.specs.Roots.{left-then, granted-left, its-root}

@@ -10,7 +10,6 @@ use Rattle.model.specs.Program.{Node, identity, letter, product, Program}
 use Rattle.model.specs.Words.{Value, scaled, multiply}
 use Rattle.model.specs.Value.{nodeValue}
 use Rattle.theory.specs.Every.{every-at}
-use Rattle.theory.specs.PackedRoots.{ChildrenBefore}
 use Rattle.theory.specs.Checked.{LeafIn, Fine}
 use Rattle.theory.specs.PlainValue.{own}
 use Rattle.packing_states.specs.States.{nodeAt, valueOf}
@@ -20,12 +19,6 @@ abbrev pub OfChildren : (ℕ → Type 0) → Node → Type 0
 OfChildren P identity = Unit {0}
 OfChildren P (letter q c) = Unit {0}
 OfChildren P (product a p b r) = P a × P b
-
--- as it holds of all nodes before it
-children-all : (P : ℕ → Type 0) (n : ℕ) (node : Node) → ChildrenBefore n node → ((i : ℕ) → i < n → P i) → OfChildren P node
-children-all P n identity c h = tt
-children-all P n (letter q x) c h = tt
-children-all P n (product a p b r) c h = (h a (c .0), h b (c .1))
 
 -- a node's value asks for its children's only
 pub nodeValue-same : (l : ℕ) (f g : ℕ → Value) (node : Node) → OfChildren (λ i. f i ≡ g i) node → nodeValue l f node ≡ nodeValue l g node

@@ -25,7 +25,8 @@ use Rattle.packing.specs.declared.Slots.{Slots}
 use Rattle.packing.specs.declared.Step.{Step}
 use Rattle.packing.specs.declared.Step.the-variants.{Next, NonHermitianAxis, Full}
 use Rattle.packing.specs.Phases.{PhasePre, phaseIn}
-use Rattle.packing.specs.Holding.{Done, Holding, Turned, Left, Some, RootAt, RootsAt}
+use Rattle.packing_states.specs.Some.{Some}
+use Rattle.packing.specs.Holding.{Done, Holding, Turned, Left, RootAt, RootsAt}
 use Rattle.packing.specs.RootLaws.{root-is}
 use Rattle.packing.specs.Turns.{turned-next, turned-odd, turned-full, left-none}
 

@@ -1,15 +1,13 @@
 -- Use counts, entry by entry: one use more or less, what a product uses, how large a count can be. Assumes nothing.
 use mathlib.Core.Path.{_≡_, refl, sym, _∙_}
-use mathlib.Core.Logic.{⊎-elim}
 use mathlib.Core.List.{List, [], _∷_, map}
-use Prim.Native.Nat.{ℕ, zero, suc, _+_, _-_, _*_, _≤_, _<_}
+use Prim.Native.Nat.{ℕ, zero, suc, _+_, _-_, _≤_, _<_}
 use native.Mathlib.Nat.{le-refl}
 use native.Mathlib.Omega.{arith}
 use lib.Dec.{eqb}
-use lib.ListN.{length, getD, length-set, length-map, List·getD-eq-default}
+use lib.ListN.{length, getD, length-set, length-map}
 use lib.Seq.{getD-set-other}
 use borrow.Author.Tests.{eqb-true, eqb-false}
-use Rattle.bits.specs.Remainder.{lt-or-ge}
 use Rattle.model.specs.Lists.{if_then_else_, numbersFrom}
 use Rattle.model.specs.Program.{Node, identity, letter, product, PauliRef}
 use Rattle.model.specs.Packing.{rootsAt, oneUseMore, oneUseLess, countChildren, countUses, useCounts, Pack, useNode, useChildren}
@@ -136,14 +134,6 @@ countUses-bound node uses n bound h m =
     by-if (λ (x : List ℕ). getD x m 0 ≤ bound + 2) _ uses (countChildren node uses) (omega (arith, h m))
     (omega (arith, h m, counted-most node uses m))
 
-countUses-most : (nodes : List Node) (n : ℕ) (uses : List ℕ) (bound : ℕ) → ((m : ℕ) → getD uses m 0 ≤ bound)
-    → (m : ℕ) → getD (countUses nodes n uses) m 0 ≤ bound + 2 * n
-unfolding countUses
-countUses-most nodes zero uses bound h m = omega (arith, h m)
-countUses-most nodes (suc n) uses bound h m =
-    let node = getD nodes n identity in
-    omega (arith, countUses-most nodes n (countNode n node uses) (bound + 2) (countUses-bound node uses n bound h) m)
-
 roots-most : (rs : List PauliRef) (n : ℕ) → length (rootsAt n rs) ≤ length rs
 unfolding rootsAt
 roots-most rs n = omega (arith, keep-count (λ (r : PauliRef). eqb (r .node) n) rs, count-le (λ (r : PauliRef). eqb (r .node) n) rs)
@@ -161,18 +151,6 @@ rootCounts-at rs t m h =
 -- one for each node
 pub rootCounts-length : (rs : List PauliRef) (t : ℕ) → length (rootCounts rs t) ≡ t
 rootCounts-length rs t = length-map (numbersFrom 0 t) (λ n. length (rootsAt n rs)) ∙ numbers-length 0 t
-
-rootCounts-most : (rs : List PauliRef) (t m : ℕ) → getD (rootCounts rs t) m 0 ≤ length rs
-rootCounts-most rs t m =
-    ⊎-elim (λ (h : m < t). omega (arith, rootCounts-at rs t m h, roots-most rs m))
-    (λ (h : t ≤ m). let b : length (rootCounts rs t) ≤ m = omega (arith, rootCounts-length rs t) in
-    omega (arith, List·getD-eq-default (rootCounts rs t) 0 b))
-    (lt-or-ge m t)
-
--- a node is used at most once by each root and twice by each node
-pub every-use : (nodes : List Node) (rs : List PauliRef) (m : ℕ) → getD (useCounts nodes rs) m 0 ≤ length rs + 2 * length nodes
-unfolding useCounts
-every-use nodes rs m = countUses-most nodes (length nodes) (rootCounts rs (length nodes)) (length rs) (rootCounts-most rs (length nodes)) m
 
 countUses-length : (nodes : List Node) (n : ℕ) (uses : List ℕ) → length (countUses nodes n uses) ≡ length uses
 unfolding countUses

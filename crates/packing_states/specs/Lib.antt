@@ -8,3 +8,4 @@ pub mod Uses
 pub mod Live
 pub mod Linked
 pub mod InMemory
+pub mod Some

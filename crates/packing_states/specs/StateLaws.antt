@@ -1,5 +1,5 @@
 -- The states of packing: the last one is the packed program, peaks rise, refusals stay, references that are no roots change nothing. Assumes nothing.
-use mathlib.Core.Path.{_≡_, refl, sym, ap, _∙_}
+use mathlib.Core.Path.{_≡_, refl, sym, _∙_}
 use mathlib.Core.Bool.{Bool, true, false, _||_}
 use mathlib.Core.List.{List, [], _∷_, map}
 use Prim.Native.Nat.{ℕ, zero, suc, _+_, _-_, _≤_, _<_}
@@ -12,9 +12,9 @@ use Rattle.pauli.specs.Word.{width}
 use Rattle.model.specs.Lists.{if_then_else_, keep, numbersFrom}
 use Rattle.model.specs.Program.{identity, PauliRef, Program}
 use Rattle.model.specs.Roots.{roots}
-use Rattle.model.specs.Packing.{rootsAt, Pack, useChildren, packRoot, packRoots, packNode, packFrom, valuesOf, packed}
+use Rattle.model.specs.Packing.{rootsAt, Pack, packRoot, packRoots, packNode, packFrom, valuesOf, packed}
 use Rattle.theory.specs.Cases.{by-if, if-true, if-false}
-use Rattle.theory.specs.Peak.{useChildren-rises, takeSlot-rises, packRoot-rises, packFrom-rises}
+use Rattle.theory.specs.Peak.{packRoot-rises, packFrom-rises}
 use Rattle.packing_states.specs.References.{referenceAt, total, rootOf, linkFrom}
 use Rattle.packing_states.specs.ReferenceLaws.{keep-taken, keep-left, roots-of, link-none, link-some}
 use Rattle.packing_states.specs.States.{nodeAt, valueOf, before, slotted, packReference, within}
@@ -134,11 +134,6 @@ module _ (p : Program) where
   pub refused-before : (n m : ℕ) → before p n .refused ≡ true → n ≤ m → before p m ≡ before p n
   refused-before n m r h = frozen (before p) (stay-node p) (m - n) n m (omega arith) r
 
-  -- taking a slot
-  pub peak-slotted : (n : ℕ) → before p n .store .peak ≤ slotted p n .store .peak
-  unfolding slotted
-  peak-slotted n = le-trans (useChildren-rises (nodeAt p n) (before p n)) (takeSlot-rises (width (p .qubits)) (useChildren (nodeAt p n) (before p n)))
-
   within-rises : (n j : ℕ) → within p n j .store .peak ≤ within p n (suc j) .store .peak
   unfolding within packReference
   within-rises n j = by-if Higher _ _ _ (by-if Higher _ _ _ (le-refl _) (packRoot-rises _ n _ (within p n j) _)) (le-refl _)
@@ -153,28 +148,3 @@ module _ (p : Program) where
   -- a refusal ends the node's turn
   pub refused-within : (n j i : ℕ) → within p n j .refused ≡ true → j ≤ i → within p n i ≡ within p n j
   refused-within n j i r h = frozen (within p n) (stay-reference p n) (i - j) j i (omega arith) r
-
--- ---- what a used node's turn says of the packed program
-
-module _ (p : Program) (n : ℕ) (b : n < length (p .nodes)) (f : before p n .refused ≡ false) (u : 0 < getD (before p n .uses) n 0) where
-  -- a sum above the limit within the turn is one at the end
-  pub full-within : (limit j : ℕ) → limit < within p n j .store .peak → j ≤ total p → limit < packed p .store .peak
-  full-within limit j h c =
-      omega (
-        arith,
-        peak-within p n j (total p) c,
-        ap (λ (k : Pack). k .store .peak) (before-used p n f u),
-        peak-before p (suc n) (length (p .nodes)) b,
-        ap (λ (k : Pack). k .store .peak) (before-all p),
-      )
-
-  -- also where the slot is taken
-  pub full-slotted : (limit : ℕ) → limit < slotted p n .store .peak → limit < packed p .store .peak
-  unfolding within
-  full-slotted limit h = full-within limit 0 h (omega arith)
-
-  -- a refusal within the turn is one at the end
-  pub refused-packed : (j : ℕ) → within p n j .refused ≡ true → j ≤ total p → packed p ≡ within p n j
-  refused-packed j r c =
-      let e : before p (suc n) ≡ within p n j = before-used p n f u ∙ refused-within p n j (total p) r c in
-      sym (before-all p) ∙ refused-before p (suc n) (length (p .nodes)) (rw e r) b ∙ e

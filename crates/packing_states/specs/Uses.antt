@@ -206,14 +206,6 @@ module _ (p : Program) where
       go false f (yes z) = rw (before-unused p n z) refl
       go false f (no ne) = rw (before-used p n f (omega arith)) (within-long n (total p))
 
-  -- when it has its slot
-  pub uses-long-slotted : (n : ℕ) → length (slotted p n .uses) ≡ length (p .nodes)
-  uses-long-slotted n = slotted-long n ∙ uses-long n
-
-  -- and within its turn
-  pub uses-long-within : (n j : ℕ) → length (within p n j .uses) ≡ length (p .nodes)
-  uses-long-within n j = within-long n j ∙ uses-long n
-
 -- ---- no use is missing
 
 itself : (a : ℕ) → _≡_ {A = ℕ} (if eqb a a then 1 else 0) 1

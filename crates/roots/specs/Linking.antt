@@ -20,7 +20,8 @@ use Rattle.records.specs.Records.{operationRecord, rowRecord}
 use Rattle.packing_states.specs.References.{referenceAt, total, relevant, isRootAt}
 use Rattle.packing_states.specs.ReferenceLaws.{roots-from-le, roots-from-all}
 use Rattle.packing_states.specs.Counts.{rootCounts, rootCounts-at, rootCounts-length}
-use Rattle.roots.specs.Links.{FrontPre, InFront, OperationPre, RowPre, linkRows, RowLinked, LinkedFrom, Some, Sizes, RowsIn}
+use Rattle.packing_states.specs.Some.{Some}
+use Rattle.roots.specs.Links.{FrontPre, InFront, OperationPre, RowPre, linkRows, RowLinked, LinkedFrom, Sizes, RowsIn}
 use Rattle.roots.specs.Links.{RowsPre, RowsLinked, OperationsPre, OperationsLinked, LinkPre, Links, RootsLinked}
 use Rattle.roots.specs.LinkLaws.{link-root, link-none, linked-none}
 

@@ -83,11 +83,6 @@ pub record LinkedFrom (p : Program) (u j : ℕ) (t : List ℕ) : Type 0 where
   pub no-axis : (i : ℕ) → j ≤ i → i < total p → isRootAt p i ≡ false → getD (row t u rootAxis) i 0 ≡ none
   pub no-sign : (i : ℕ) → j ≤ i → i < total p → isRootAt p i ≡ false → getD (row t u rootSign) i 0 ≡ 0
 
--- some program has it
-pub record Some (P : Program → Type 0) : Type 0 where
-  pub p : Program
-  pub it : P p
-
 -- the program has these sizes, its references are to its nodes, and the number store has its rows
 pub record Sizes (p : Program) (z : Shape) (s : List ℕ) : Type 0 where
   pub sized : Sized z

@@ -27,7 +27,8 @@ use Rattle.packing_states.specs.Owed.{children-before}
 use Rattle.packing_states.specs.Linked.{Linked}
 use Rattle.packing_states.specs.InMemory.{nodes-count, operations-count, total-is, node-is, operation-reference, row-reference, reference-node}
 use Rattle.mentions.specs.Relevance.{RelevancePre, Relevance}
-use Rattle.roots.specs.Links.{Some, Sizes, LinkPre, Links, RootsLinked}
+use Rattle.packing_states.specs.Some.{Some}
+use Rattle.roots.specs.Links.{Sizes, LinkPre, Links, RootsLinked}
 use Rattle.roots.specs.UseCounts.{CountPre, UsesCounted}
 use Rattle.roots.specs.Prepared.{Prepared}
 

@@ -4,6 +4,7 @@ pub mod checked;
 pub mod directed;
 pub mod fixed;
 mod frame;
+pub mod large;
 pub mod limit;
 mod notation;
 mod operations;

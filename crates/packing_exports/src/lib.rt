@@ -1,0 +1,98 @@
+// Checking and packing for programs in other languages, as the benchmark of oracle/bench calls them.
+ghost use mathlib.Core.Path.{_≡_};
+ghost use Rattle.checking.specs.Call.{jobOf, lentOf};
+ghost use Rattle.packing_exports.specs.Calls.{countsOf, checkedNumber, PackedCall};
+use model::Counts;
+use packing::Packed;
+
+// The number of Checking's answer, with Rust's default options at this word limit.
+#[no_mangle]
+pub extern "C" fn werdutxa_check(
+    qubits: usize,
+    node_count: usize,
+    operation_count: usize,
+    limit: usize,
+    nodes: &[u32],
+    operations: &[u32],
+    rows: &[u32],
+    words: &[u64],
+    numbers: &[u32],
+    result_operations: &[u32],
+    result_rows: &[u32],
+) -> u32
+    ensures { λ r. ⌜ r ≡ checkedNumber limit
+        (jobOf (countsOf qubits «node_count» «operation_count») (now (nodes .entry)) (now (operations .entry)) (now (rows .entry)))
+        (lentOf (now (words .entry)) (now (numbers .entry)) (now («result_operations» .entry)) (now («result_rows» .entry))) ⌝ }
+{
+    let counts = Counts {
+        qubits,
+        nodes: node_count,
+        operations: operation_count,
+    };
+    let answer = checking::checking(
+        counts,
+        model::defaults(limit),
+        nodes,
+        operations,
+        rows,
+        words,
+        numbers,
+        result_operations,
+        result_rows,
+    );
+    model::number_of(answer)
+}
+
+// Checking, and packing where it passes: the answer's number, and where that is 0 how many axes there are.
+#[no_mangle]
+pub extern "C" fn werdutxa_pack(
+    qubits: usize,
+    node_count: usize,
+    operation_count: usize,
+    limit: usize,
+    nodes: &[u32],
+    operations: &[u32],
+    rows: &[u32],
+    words: &mut [u64],
+    numbers: &mut [u32],
+    result_operations: &[u32],
+    result_rows: &[u32],
+    axes: &mut usize,
+) -> u32
+    ensures { λ r. ⌜ PackedCall limit
+        (jobOf (countsOf qubits «node_count» «operation_count») (now (nodes .entry)) (now (operations .entry)) (now (rows .entry)))
+        (lentOf (now (words .entry)) (now (numbers .entry)) (now («result_operations» .entry)) (now («result_rows» .entry)))
+        (now (axes .entry)) r (now (words .exit)) (now (numbers .exit)) (now (axes .exit)) ⌝ }
+{
+    let answer = werdutxa_check(
+        qubits,
+        node_count,
+        operation_count,
+        limit,
+        nodes,
+        operations,
+        rows,
+        &words[..],
+        &numbers[..],
+        result_operations,
+        result_rows,
+    );
+    if answer != 0 {
+        return answer;
+    }
+    let counts = Counts {
+        qubits,
+        nodes: node_count,
+        operations: operation_count,
+    };
+    let shape = layout::shape_of(counts, limit);
+    let packed = packing::pack(nodes, operations, rows, words, numbers, shape);
+    match packed {
+        Packed::Axes(n) => {
+            *axes = n;
+            0
+        }
+        Packed::NonHermitianAxis => 9,
+        Packed::Full => 10,
+    }
+}
