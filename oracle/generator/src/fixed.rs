@@ -1,37 +1,22 @@
 //! The fixed list: small jobs and a few wide ones, at most a few of each class so that every kind of run is there.
 
-use std::collections::BTreeMap;
-
 use jobs::Job;
 
-use super::random::{self, Shape};
-use super::rng::Rng;
+use super::classes::{self, Recipe};
+use super::random::Shape;
 
 /// How many jobs are taken of a class of runs that end in a refusal or change nothing, and of another.
 const MOST_PLAIN: usize = 10;
 const MOST_OTHER: usize = 2;
 
-/// One job in so many is on many qubits.
-const WIDE_EVERY: usize = 20;
+const RECIPE: Recipe = Recipe {
+    wide_every: 20,
+    wide: &Shape::WIDE,
+    largest_limit: 4096,
+};
 
 pub fn list(seed: u64, count: usize) -> Vec<Job> {
-    let mut rng = Rng::new(seed);
-    let mut taken: BTreeMap<String, usize> = BTreeMap::new();
-    let mut list = Vec::new();
-    while list.len() < count {
-        let wide = list.len() % WIDE_EVERY == WIDE_EVERY - 1;
-        let shape = if wide { &Shape::WIDE } else { &Shape::SMALL };
-        let mut job = random::job(&mut rng, shape);
-        // Programs that lend memory lend by the limit: keep it small.
-        job.options.limit = job.options.limit.min(4096);
-        let (class, most) = class(&job);
-        let of_class = taken.entry(class).or_default();
-        if *of_class < most {
-            *of_class += 1;
-            list.push(job);
-        }
-    }
-    list
+    classes::list(seed, count, &RECIPE, class)
 }
 
 /// What happens in a job's run, coarsely, and how many of the kind are taken.

@@ -1,6 +1,7 @@
 //! Jobs for the driver: random ones from a seed, directed ones for single rules, the fixed list, and those for packing alone.
 
 pub mod checked;
+mod classes;
 pub mod directed;
 pub mod fixed;
 mod frame;

@@ -1,21 +1,13 @@
 //! The list for packing alone: small jobs and some on 0, 64, 65 and 130 qubits, at most a few of each class.
 
-use std::collections::BTreeMap;
-
 use jobs::Job;
 use record::{Place, Record};
 
-use super::random::{self, Shape};
-use super::rng::Rng;
+use super::classes::{self, Recipe};
+use super::random::Shape;
 
 /// How many jobs are taken of a class.
 const MOST: usize = 3;
-
-/// One job in so many is on 0 qubits or on many.
-const WIDE_EVERY: usize = 10;
-
-/// Programs that lend memory lend by the limit: keep it small.
-const LARGEST_LIMIT: usize = 1024;
 
 const WIDE: Shape = Shape {
     most_qubits: 3,
@@ -24,22 +16,14 @@ const WIDE: Shape = Shape {
     wide: &[0, 0, 64, 65, 130],
 };
 
+const RECIPE: Recipe = Recipe {
+    wide_every: 10,
+    wide: &WIDE,
+    largest_limit: 1024,
+};
+
 pub fn list(seed: u64, count: usize) -> Vec<Job> {
-    let mut rng = Rng::new(seed);
-    let mut taken: BTreeMap<String, usize> = BTreeMap::new();
-    let mut list = Vec::new();
-    while list.len() < count {
-        let wide = list.len() % WIDE_EVERY == WIDE_EVERY - 1;
-        let shape = if wide { &WIDE } else { &Shape::SMALL };
-        let mut job = random::job(&mut rng, shape);
-        job.options.limit = job.options.limit.min(LARGEST_LIMIT);
-        let of_class = taken.entry(class(&job)).or_default();
-        if *of_class < MOST {
-            *of_class += 1;
-            list.push(job);
-        }
-    }
-    list
+    classes::list(seed, count, &RECIPE, |job| (class(job), MOST))
 }
 
 /// How packing ends, and what it meets on the way.

@@ -1,0 +1,42 @@
+//! Lists of random jobs with at most a few of each class, so that every kind of run is there.
+
+use std::collections::BTreeMap;
+
+use jobs::Job;
+
+use super::random::{self, Shape};
+use super::rng::Rng;
+
+/// What a list is made of.
+pub struct Recipe<'a> {
+    /// One job in so many has the wide shape, the others the small one.
+    pub wide_every: usize,
+    pub wide: &'a Shape,
+    /// Programs that lend memory lend by the limit: it is kept small.
+    pub largest_limit: usize,
+}
+
+/// `class` says what a job is, and how many of the kind are taken.
+pub fn list(
+    seed: u64,
+    count: usize,
+    recipe: &Recipe,
+    class: fn(&Job) -> (String, usize),
+) -> Vec<Job> {
+    let mut rng = Rng::new(seed);
+    let mut taken: BTreeMap<String, usize> = BTreeMap::new();
+    let mut list = Vec::new();
+    while list.len() < count {
+        let wide = list.len() % recipe.wide_every == recipe.wide_every - 1;
+        let shape = if wide { recipe.wide } else { &Shape::SMALL };
+        let mut job = random::job(&mut rng, shape);
+        job.options.limit = job.options.limit.min(recipe.largest_limit);
+        let (class, most) = class(&job);
+        let of_class = taken.entry(class).or_default();
+        if *of_class < most {
+            *of_class += 1;
+            list.push(job);
+        }
+    }
+    list
+}
