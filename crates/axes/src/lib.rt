@@ -2,6 +2,7 @@
 ghost use mathlib.Core.Path.{_≡_};
 ghost use Prim.Native.Nat.{ℕ, _+_, _*_, _^_, _<_, _≤_};
 ghost use lib.ListN.{length};
+ghost use Rattle.store.specs.Equal.{sameList};
 ghost use Rattle.model.specs.Words.{anticommute, idOf, wordOf};
 ghost use Rattle.axes.specs.View.{axesOf, wordAt};
 ghost use Rattle.axes.specs.Intern.{InternPre, Stores, countWith};
@@ -40,13 +41,36 @@ pub fn anticommute(words: &[u64], a: usize, b: usize, l: usize) -> bool
     anticommutes(axis(words, a, l), axis(words, b, l), l)
 }
 
+// The place of the first number of w that is not 0; its length if there is none. Only the time of `find` depends on it.
+fn first_nonzero(w: &[u64]) -> usize
+    ensures { λ r. ⌜ r ≤ length (now (w .entry)) ⌝ }
+{
+    for k in 0..w.len() {
+        if w[k] != 0 {
+            return k;
+        }
+    }
+    w.len()
+}
+
+// Whether p and w are one word. The numbers at k are compared first: where w has its first that is not 0, few words have the same.
+fn same_by(p: &[u64], w: &[u64], k: usize) -> bool
+    ensures { λ r. ⌜ r ≡ sameList (now (p .entry)) (now (w .entry)) ⌝ }
+{
+    if k < p.len() && k < w.len() && p[k] != w[k] {
+        return false;
+    }
+    same(p, w)
+}
+
 // The id of w among the count axes; count if it is none of them.
 pub fn find(words: &[u64], w: &[u64], count: usize, l: usize) -> usize
     requires { ⌜ count * (2 * l) ≤ length (now words) ⌝ }
     ensures { λ r. ⌜ r ≡ idOf (axesOf l count (now (words .entry))) (now (w .entry)) ⌝ }
 {
+    let k = first_nonzero(w);
     for id in 0..count {
-        if same(axis(words, id, l), w) {
+        if same_by(axis(words, id, l), w, k) {
             return id;
         }
     }

@@ -9,25 +9,28 @@ use Rattle.axes.proofs.find.Statement.{statement}
 use Rattle.axes.proofs.find.Tie as tie
 
 abbrev Inv-loop : tie.InvT-loop
-Inv-loop words w count l id₀ id = (id ≤ count) × (id ≤ idOf (axesOf l count words) w)
+Inv-loop words w count l k id₀ id = (id ≤ count) × (id ≤ idOf (axesOf l count words) w)
 
 abbrev μ-loop : tie.MeasureT-loop
-μ-loop words w count l id₀ id = count - id
+μ-loop words w count l k id₀ id = count - id
+
+first-nonzero-requires : tie.Need-first-nonzero-requires Inv-loop μ-loop
+first-nonzero-requires c κs = search needs
 
 loop-holds : tie.Need-loop-holds Inv-loop μ-loop
 loop-holds c = omega arith
 
 axis-requires : tie.Need-axis-requires Inv-loop μ-loop
-axis-requires c κs = let s = c .before .before .before .before in omega (arith, axis-in (s .args .l) _ _ (c .loop-test .taken))
+axis-requires c κs = let s = c .before .before .before .before .before in omega (arith, axis-in (s .args .l) _ _ (c .loop-test .taken))
 
-same-requires : tie.Need-same-requires Inv-loop μ-loop
-same-requires c κs = search needs
+same-by-requires : tie.Need-same-by-requires Inv-loop μ-loop
+same-by-requires c κs = search needs
 
 returns : tie.Need-returns Inv-loop μ-loop
 returns c =
     let turn = c .before .before .before in
     id-here _ _ _ _ _ (turn .before .loop .inv .1) (turn .loop-test .taken)
-    (c .before .same .ensures) (c .if1 .taken) (c .before .before .axis .ensures _ (turn .loop-test .taken))
+    (c .before .same-by .ensures) (c .if1 .taken) (c .before .before .axis .ensures _ (turn .loop-test .taken))
 
 add-id : tie.Need-add-id Inv-loop μ-loop
 add-id c = omega arith
@@ -39,7 +42,7 @@ loop-again : tie.Need-loop-again Inv-loop μ-loop
 loop-again c =
     let turn = c .before .before .before in
     let more = id-next _ _ _ _ _ (turn .before .loop .inv .1) (turn .loop-test .taken)
-    (c .before .same .ensures) (c .if1 .left) (c .before .before .axis .ensures _ (turn .loop-test .taken)) in
+    (c .before .same-by .ensures) (c .if1 .left) (c .before .before .axis .ensures _ (turn .loop-test .taken)) in
     (omega arith, more)
 
 returns-2 : tie.Need-returns-2 Inv-loop μ-loop
@@ -51,9 +54,10 @@ find-spec =
     (tie.spec
     Inv-loop
     μ-loop
+    first-nonzero-requires
     loop-holds
     axis-requires
-    same-requires
+    same-by-requires
     returns
     add-id
     loop-less
