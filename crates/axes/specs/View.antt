@@ -1,12 +1,12 @@
 -- The axes in the word store, id at id * 2l: `axesOf l n s` is the model's list of the first n. Assumes nothing.
-use mathlib.Core.Path.{_≡_, sym, ap, ap₂, _∙_}
+use mathlib.Core.Path.{_≡_, ap, ap₂, _∙_}
 use mathlib.Core.Bool.{Bool}
 use mathlib.Core.List.{List, [], _∷_, _++_}
 use Prim.Native.Nat.{ℕ, _+_, _*_, _≤_, _<_}
 use native.Mathlib.Omega.{arith}
-use lib.ListN.{length, getD}
-use Rattle.store.specs.Part.{part, put, part-length, part-at, part-ext}
-use Rattle.store.specs.Chunk.{chunks, chunks-length, chunks-at, chunks-ext, chunk-in, chunks-snoc, chunks-apart, chunks-put}
+use lib.ListN.{length}
+use Rattle.store.specs.Part.{part, put, part-length}
+use Rattle.store.specs.Chunk.{chunks, chunks-length, chunks-at, chunk-in, chunks-apart, chunks-put}
 use Rattle.pauli.specs.Word.{anticommutes}
 use Rattle.model.specs.Words.{wordOf, anticommute}
 
@@ -29,9 +29,6 @@ pub axis-word : (l n : ℕ) (s : List ℕ) (a : ℕ) → a < n → wordOf (axesO
 unfolding axesOf
 axis-word l n s a h = chunks-at (2 * l) n s a h
 
-pub axis-long : (l n : ℕ) (s : List ℕ) (a : ℕ) → n * (2 * l) ≤ length s → a < n → length (wordOf (axesOf l n s) a) ≡ 2 * l
-axis-long l n s a k h = ap length (axis-word l n s a h) ∙ part-length s (a * (2 * l)) (2 * l) (omega (arith, axis-in l n a h))
-
 -- what the code reads as axis a is as long as a word
 pub read-long : (l : ℕ) (s : List ℕ) (a : ℕ) {p : List ℕ} → ((n : ℕ) → a < n → p ≡ wordOf (axesOf l n s) a)
     → a * (2 * l) + 2 * l ≤ length s → length p ≡ 2 * l
@@ -47,10 +44,6 @@ read-anticommute l axes a b e f g = e ∙ ap₂ (anticommutes l) f g
 
 -- ---- growth
 
-pub axes-more : (l n : ℕ) (s : List ℕ) → axesOf l (n + 1) s ≡ axesOf l n s ++ (wordAt l s (n * (2 * l)) ∷ [])
-unfolding axesOf
-axes-more l n s = chunks-snoc (2 * l) n s
-
 -- a word laid behind the last axis
 pub axes-put : (l n : ℕ) (s w : List ℕ) → n * (2 * l) + 2 * l ≤ length s → length w ≡ 2 * l
     → axesOf l (n + 1) (put s (n * (2 * l)) w) ≡ axesOf l n s ++ (w ∷ [])
@@ -63,16 +56,3 @@ pub axes-apart : (l n : ℕ) (s : List ℕ) (b : ℕ) (w : List ℕ) → b + len
     → axesOf l n (put s b w) ≡ axesOf l n s
 unfolding axesOf
 axes-apart l n s b w h k = chunks-apart (2 * l) n s b w h k
-
--- two stores with the same numbers up to the last axis's end
-pub axes-ext : (l n : ℕ) (s t : List ℕ) → n * (2 * l) ≤ length s → n * (2 * l) ≤ length t
-    → ((i : ℕ) → i < n * (2 * l) → getD s i 0 ≡ getD t i 0) → axesOf l n s ≡ axesOf l n t
-unfolding axesOf
-axes-ext l n s t h k f = chunks-ext (2 * l) n s t one
-  where
-    one : (a : ℕ) → a < n → part s (a * (2 * l)) (2 * l) ≡ part t (a * (2 * l)) (2 * l)
-    one a m =
-        let b = a * (2 * l) in
-        let e = axis-in l n a m in
-        part-ext s b (2 * l) (part t b (2 * l)) (omega arith) (part-length t b (2 * l) (omega arith))
-        (λ i c. f (b + i) (omega arith) ∙ sym (part-at t b (2 * l) i c))

@@ -3,3 +3,4 @@ pub mod Only
 pub mod Words
 pub mod Bounds
 pub mod Shape
+pub mod Cleared

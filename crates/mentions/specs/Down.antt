@@ -35,6 +35,7 @@ actedFrom true identity xs = xs
 actedFrom true (letter q c) xs = set xs q 1
 actedFrom true (product a p b r) xs = xs
 
+-- so for node n, in rows MARK and ACTED
 pub record MarkedFrom (ns : List ℕ) (u n : ℕ) (s t : List ℕ) : Type 0 where
   pub only : Only (mark ∷ acted ∷ []) u s t
   pub marks : row t u mark ≡ marksFrom (isSet (row s u mark) n) (nodeHere ns n) (row s u mark)

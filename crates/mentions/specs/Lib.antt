@@ -5,4 +5,4 @@ pub mod Operations
 pub mod Down
 pub mod Relevant
 pub mod Relevance
-pub mod Whole
+pub mod RelevanceLaws

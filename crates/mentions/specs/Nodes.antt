@@ -3,12 +3,12 @@ use mathlib.Core.Path.{_≡_, sym, ap, _∙_}
 use mathlib.Core.List.{List, map}
 use Prim.Native.Nat.{ℕ, _+_, _*_, _≤_, _<_}
 use native.Mathlib.Omega.{arith}
-use lib.ListN.{length, getD, length-map}
-use Rattle.store.specs.Chunk.{chunks, chunks-length, chunk-in}
+use lib.ListN.{length, getD}
+use Rattle.store.specs.Chunk.{chunks, chunk-in}
 use Rattle.model.specs.Program.{Node, identity, nodeOf}
 use Rattle.theory.specs.Every.{Every, every-at}
 use Rattle.theory.specs.PackedRoots.{ChildrenBefore, Ordered}
-use Rattle.theory.specs.Checked.{LeafIn}
+use Rattle.theory.specs.Checked.{LeafIn, records-length}
 use Rattle.records.specs.declared.NodeRecord.{NodeRecord}
 use Rattle.records.specs.Records.{nodeRecord, nodeSaid, node-said, said-letter, said-product}
 use Rattle.packing_states.specs.Owed.{children-before}
@@ -38,11 +38,12 @@ pub record NodePre (ns : List ℕ) (u n : ℕ) (xs : List ℕ) : Type 0 where
   pub first : (nodeRecord ns n .kind ≡ 0 → ⊥) → (nodeRecord ns n .kind ≡ 1 → ⊥) → nodeRecord ns n .a < u
   pub second : (nodeRecord ns n .kind ≡ 0 → ⊥) → (nodeRecord ns n .kind ≡ 1 → ⊥) → nodeRecord ns n .b < u
 
+-- they are as many
 pub nodes-count : (count : ℕ) (ns : List ℕ) → length (nodesIn count ns) ≡ count
 unfolding nodesIn
-nodes-count count ns = length-map (chunks 5 count ns) nodeOf ∙ chunks-length 5 count ns
+nodes-count count ns = records-length nodeOf 5 count ns
 
--- the n of them that the model has is the n of the slice
+-- node n is what record n says
 pub node-here : {ns : List ℕ} {u count : ℕ} {xs : List ℕ} → NodesPre ns u count xs → (n : ℕ) → n < count
     → getD (nodesIn count ns) n identity ≡ nodeHere ns n
 unfolding nodesIn

@@ -17,6 +17,7 @@ use Rattle.mentions.specs.Marks.{someBelow, someMarked, marked-more}
 abbrev pub nodeOfOperation : List ℕ → ℕ → ℕ
 nodeOfOperation os i = operationRecord os i .node
 
+-- each operation has its record, and its node an entry in a row
 pub record OperationsPre (os : List ℕ) (u count : ℕ) (xs : List ℕ) : Type 0 where
   pub numbers-long : 24 * u ≤ length xs
   pub operations-long : count * 6 ≤ length os
@@ -27,6 +28,7 @@ unfoldable pub markedBy : List ℕ → ℕ → List ℕ → List ℕ
 markedBy os zero xs = xs
 markedBy os (suc i) xs = set (markedBy os i xs) (nodeOfOperation os i) 1
 
+-- row MARK has a 1 at their nodes
 pub record MarkedOperations (os : List ℕ) (u count : ℕ) (s t : List ℕ) : Type 0 where
   pub only : Only (mark ∷ []) u s t
   pub marks : row t u mark ≡ markedBy os count (row s u mark)

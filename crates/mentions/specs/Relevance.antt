@@ -12,12 +12,15 @@ use Rattle.layout.specs.Shape.{Sized}
 use Rattle.records.specs.Given.{programIn, Given}
 use Rattle.packing_states.specs.References.{relevant}
 
-pub record RelevancePre (z : Shape) (ns os rs xs : List ℕ) : Type 0 where
+-- the nodes and operations are those of a program that Checking passed, whichever its frame rows are
+pub record RelevancePre (z : Shape) (ns os xs : List ℕ) : Type 0 where
   pub sized : Sized z
-  pub given : Given z ns os rs
+  pub rows : List ℕ
+  pub given : Given z ns os rows
   pub numbers-long : 24 * z .u ≤ length xs
 
--- row RELEVANT tells the relevant nodes; only rows MARK, ACTED and RELEVANT are written
-pub record Relevance (z : Shape) (ns os rs s t : List ℕ) : Type 0 where
+-- row RELEVANT tells the relevant nodes, which are the same for all frame rows; only rows MARK, ACTED and RELEVANT are written
+pub record Relevance (z : Shape) (ns os s t : List ℕ) : Type 0 where
   pub only : Only (mark ∷ acted ∷ relevantRow ∷ []) (z .u) s t
-  pub tells : (n : ℕ) → n < z .nodes → getD (row t (z .u) relevantRow) n 0 ≡ (if relevant (programIn z ns os rs) n then 1 else 0)
+  pub tells : (rs : List ℕ) (n : ℕ) → n < z .nodes
+      → getD (row t (z .u) relevantRow) n 0 ≡ (if relevant (programIn z ns os rs) n then 1 else 0)

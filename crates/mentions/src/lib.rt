@@ -11,9 +11,9 @@ use layout::RELEVANT;
 use layout::Shape;
 
 // Row RELEVANT says of each node whether it mentions a qubit that an operation's nodes mention.
-pub fn relevance(nodes: &[u32], operations: &[u32], rows: &[u32], numbers: &mut [u32], shape: Shape)
-    requires { ⌜ RelevancePre shape (now nodes) (now operations) (now rows) (now numbers) ⌝ }
-    ensures { λ _. ⌜ Relevance shape (now (nodes .entry)) (now (operations .entry)) (now (rows .entry)) (now (numbers .entry)) (now (numbers .exit)) ⌝ }
+pub fn relevance(nodes: &[u32], operations: &[u32], numbers: &mut [u32], shape: Shape)
+    requires { ⌜ RelevancePre shape (now nodes) (now operations) (now numbers) ⌝ }
+    ensures { λ _. ⌜ Relevance shape (now (nodes .entry)) (now (operations .entry)) (now (numbers .entry)) (now (numbers .exit)) ⌝ }
 {
     store::clear_row(numbers, shape.u, MARK, shape.nodes);
     store::clear_row(numbers, shape.u, ACTED, shape.qubits);

@@ -10,7 +10,6 @@ use Rattle.store.specs.Row.{row}
 use Rattle.model.specs.Program.{Program}
 use Rattle.model.specs.Words.{Value, idOf}
 use Rattle.model.specs.Packing.{Pack}
-use Rattle.theory.specs.Checked.{Fine}
 use Rattle.axes.specs.View.{axesOf}
 use Rattle.layout.specs.declared.Shape.{Shape}
 use Rattle.layout.specs.Rows.{usesRow, nodeSlot, nodePhase, freeRow, rootAxis, rootSign, entries}
@@ -24,6 +23,7 @@ use Rattle.packing_states.specs.References.{referenceAt, total, isRootAt, rootO
 use Rattle.packing_states.specs.States.{nodeAt, valueOf, before, slotted, within}
 use Rattle.packing_states.specs.Live.{usedBelow}
 use Rattle.packing_states.specs.Linked.{Linked}
+use Rattle.packing_states.specs.InMemory.{Whole}
 use Rattle.packing.specs.Phases.{phaseIn}
 use Rattle.packing.specs.declared.Slots.{Slots}
 use Rattle.packing.specs.declared.Step.{Step}
@@ -77,14 +77,6 @@ pub record Left (z : Shape) (ws xs ws′ xs′ : List ℕ) : Type 0 where
   pub numbers : Only (usesRow ∷ nodeSlot ∷ nodePhase ∷ freeRow ∷ rootAxis ∷ rootSign ∷ []) (z .u) xs xs′
 
 -- ---- what the turns demand
-
--- the program has this many nodes and references, and is fine
-pub record Whole (p : Program) (z : Shape) : Type 0 where
-  pub fine : Fine p
-  pub qubits : p .qubits ≡ z .qubits
-  pub nodes : length (p .nodes) ≡ z .nodes
-  pub operations : length (p .operations) ≡ z .operations
-  pub references : total p ≡ z .operations + 2 * z .qubits
 
 -- node n, which is used, is to get its slot
 pub record PlaceAt (p : Program) (z : Shape) (st : Slots) (n : ℕ) (x : NodeRecord) (ws xs : List ℕ) : Type 0 where

@@ -12,7 +12,7 @@ pub mod Place
 pub mod RootLaws
 pub mod RootNext
 pub mod RootTurn
-pub mod Roots
+pub mod RootsLoop
 pub mod NodeTurn
 pub mod Signs
 pub mod Packing

@@ -8,7 +8,7 @@ use native.Mathlib.Omega.{arith}
 use native.Mathlib.Decide.{decLt, ℕ-discrete}
 use lib.ListN.{length, getD}
 use Rattle.store.specs.Row.{row}
-use Rattle.model.specs.Program.{PauliRef, Program, programOf}
+use Rattle.model.specs.Program.{PauliRef, Program}
 use Rattle.model.specs.Words.{Value}
 use Rattle.model.specs.Packing.{Pack, useChildren, takeSlot}
 use Rattle.theory.specs.Cases.{by-if}
@@ -23,30 +23,20 @@ use Rattle.packing_states.specs.States.{nodeAt, before, slotted, within}
 use Rattle.packing_states.specs.StateLaws.{before-unused, before-used, peak-within}
 use Rattle.packing_states.specs.Uses.{unused-no-roots}
 use Rattle.packing_states.specs.Live.{used-below-same}
-use Rattle.packing_states.specs.InMemory.{nodes-count, operations-count, total-is, node-is, operation-reference, row-reference}
+use Rattle.packing_states.specs.InMemory.{total-is, node-is, operation-reference, row-reference, Whole, given-whole}
 use Rattle.packing.specs.declared.Slots.{Slots}
 use Rattle.packing.specs.declared.Step.{Step}
 use Rattle.packing.specs.declared.Step.the-variants.{Next, NonHermitianAxis, Full}
 use Rattle.packing.specs.Phases.{phaseIn, phase-operation, phase-row}
 use Rattle.packing_states.specs.Some.{Some}
-use Rattle.packing.specs.Holding.{SlotsHold, Done, Holding, Turned, Left, Whole, PlaceAt, RootsAt, NodeAt}
+use Rattle.packing.specs.Holding.{SlotsHold, Done, Holding, Turned, Left, PlaceAt, RootsAt, NodeAt}
 use Rattle.packing.specs.Place.{children-keep}
-use Rattle.packing.specs.Turns.{turned-next, turned-full, left-none}
-use Rattle.packing.specs.Roots.{left-then, granted-left, its-root}
+use Rattle.packing.specs.Turns.{turned-next, turned-full, left-none, left-then, granted-left}
+use Rattle.packing.specs.RootLaws.{its-root}
 
 -- ---- the program in the lent slices
 
 module _ {z : Shape} {ns os rs : List ℕ} (g : Given z ns os rs) where
-  pub given-whole : Whole (programIn z ns os rs) z
-  unfolding programIn programOf
-  given-whole = record {
-    fine = g .fine;
-    qubits = refl;
-    nodes = nodes-count z ns os rs;
-    operations = operations-count z ns os rs;
-    references = total-is z ns os rs;
-  }
-
   -- each reference has its phase there
   phases-there : (j : ℕ) → j < total (programIn z ns os rs) → phaseIn (z .operations) os rs j ≡ referenceAt (programIn z ns os rs) j .phase
   phases-there j b = go (decLt j (z .operations))

@@ -44,6 +44,11 @@ rowSign p r = if isRoot p r then signedAxis (packed p .store .axes) (valuesOf p)
 unfoldable pub signsOf : Program → List SignedAxis
 signsOf p = map (λ o. signedAxis (packed p .store .axes) (valuesOf p) (operationRoot o)) (p .operations) ++ map (rowSign p) (p .rows)
 
+-- the rows that packing writes
+abbrev pub packRows : List ℕ
+packRows =
+    mark ∷ acted ∷ relevantRow ∷ usesRow ∷ firstRoot ∷ nextRoot ∷ nodeSlot ∷ nodePhase ∷ freeRow ∷ rootAxis ∷ rootSign ∷ []
+
 -- the answer is the model's; where packing is accepted, so are the axes and each root's axis and sign;
 -- only packing's rows, and words up to the scratch word's end, are written
 pub record PackedAs (z : Shape) (p : Program) (r : Packed) (ws xs ws′ xs′ : List ℕ) : Type 0 where
@@ -51,5 +56,4 @@ pub record PackedAs (z : Shape) (p : Program) (r : Packed) (ws xs ws′ xs′ : 
   pub axes : (n : ℕ) → r ≡ Axes n → axesOf (z .l) n ws′ ≡ packed p .store .axes
   pub signs : (n : ℕ) → r ≡ Axes n → signsIn z xs′ ≡ signsOf p
   pub words : KeptFrom (z .limit + 2 * z .l) ws ws′
-  pub numbers : Only (mark ∷ acted ∷ relevantRow ∷ usesRow ∷ firstRoot ∷ nextRoot ∷ nodeSlot ∷ nodePhase ∷ freeRow ∷ rootAxis ∷ rootSign ∷ [])
-      (z .u) xs xs′
+  pub numbers : Only packRows (z .u) xs xs′

@@ -2,7 +2,7 @@
 use mathlib.Core.Path.{_≡_, refl, sym, ap, _∙_}
 use mathlib.Core.Bool.{true, false}
 use mathlib.Core.Logic.{inl, inr}
-use mathlib.Core.List.{List, [], _∷_}
+use mathlib.Core.List.{List}
 use Prim.Native.Nat.{ℕ, suc, _+_, _*_, _≤_, _<_}
 use native.Mathlib.Numerals.{add-one}
 use native.Mathlib.Omega.{arith}
@@ -16,24 +16,23 @@ use Rattle.model.specs.Packing.{Pack, useCounts, emptyPack, packed}
 use Rattle.theory.specs.Cases.{if-true, if-false}
 use Rattle.axes.specs.View.{axesOf, axes-length}
 use Rattle.layout.specs.declared.Shape.{Shape}
-use Rattle.layout.specs.Rows.{mark, acted, relevantRow, usesRow, firstRoot, nextRoot, nodeSlot, nodePhase, freeRow, rootAxis, rootSign, entries}
+use Rattle.layout.specs.Rows.{usesRow, entries}
 use Rattle.layout.specs.Only.{Only, only-then, only-of}
 use Rattle.layout.specs.Words.{KeptFrom}
 use Rattle.layout.specs.Shape.{Granted}
 use Rattle.records.specs.Given.{programIn, Given}
+use Rattle.roots.specs.Prepared.{preparedRows}
 use Rattle.packing_states.specs.States.{before}
 use Rattle.packing_states.specs.StateLaws.{before-all, peak-before, refused-before}
 use Rattle.packing_states.specs.Live.{usedBelow}
 use Rattle.packing_states.specs.Linked.{Linked}
-use Rattle.packing_states.specs.InMemory.{reference-node}
+use Rattle.packing_states.specs.InMemory.{reference-node, Whole, given-whole}
 use Rattle.packing.specs.declared.Slots.{Slots}
 use Rattle.packing.specs.declared.Packed.{Packed}
 use Rattle.packing.specs.declared.Packed.the-variants.{Axes, NonHermitianAxis, Full}
-use Rattle.packing.specs.Holding.{Done, Holding, Left, Whole, NodeAt}
-use Rattle.packing.specs.Packed.{PackPre, packedAnswer, PackedAs}
-use Rattle.packing.specs.Turns.{left-none}
-use Rattle.packing.specs.Roots.{left-then, granted-left}
-use Rattle.packing.specs.NodeTurn.{given-whole}
+use Rattle.packing.specs.Holding.{Done, Holding, Left, NodeAt}
+use Rattle.packing.specs.Packed.{PackPre, packedAnswer, packRows, PackedAs}
+use Rattle.packing.specs.Turns.{left-none, left-then, granted-left}
 use Rattle.packing.specs.Signs.{signs-are}
 
 -- ---- before the first node: no axes, no slots
@@ -109,14 +108,9 @@ module _ (limit : ℕ) (k : Pack) where
   unfolding packedAnswer
   answer-axes h r n e = sym (if-false _ _ (le-ltb limit (k .store .peak) h) ∙ if-false _ _ r ∙ ap Axes e)
 
--- what packing writes, in both stores
-abbrev packRows : List ℕ
-packRows =
-    mark ∷ acted ∷ relevantRow ∷ usesRow ∷ firstRoot ∷ nextRoot ∷ nodeSlot ∷ nodePhase ∷ freeRow ∷ rootAxis ∷ rootSign ∷ []
-
 module _ {p : Program} {z : Shape} {ws₀ xs₀ ws xs : List ℕ} (w : Whole p z) (words : KeptFrom (z .limit + 2 * z .l) ws₀ ws)
     (numbers : Only packRows (z .u) xs₀ xs) where
-  -- 10
+  -- refusal 10
   packed-full : (n : ℕ) → n ≤ z .nodes → z .limit < before p n .store .peak → PackedAs z p Full ws₀ xs₀ ws xs
   packed-full n b h = record {
     answer = answer-full (z .limit) (packed p) (omega (
@@ -130,7 +124,7 @@ module _ {p : Program} {z : Shape} {ws₀ xs₀ ws xs : List ℕ} (w : Whole p z
     numbers = numbers;
   }
 
-  -- 9
+  -- refusal 9
   packed-odd : (n : ℕ) → n ≤ z .nodes → (before p n .refused ≡ true) × (before p n .store .peak ≤ z .limit)
       → PackedAs z p NonHermitianAxis ws₀ xs₀ ws xs
   packed-odd n b h =
@@ -187,10 +181,7 @@ module _ {z : Shape} {ns os rs : List ℕ} where
 
 -- ---- packing, from what it demands
 
--- the number store before packing, and before the first node
-abbrev pub preparedRows : List ℕ
-preparedRows = mark ∷ acted ∷ relevantRow ∷ usesRow ∷ firstRoot ∷ nextRoot ∷ rootAxis ∷ rootSign ∷ []
-
+-- xs is the number store before packing, xs₀ before the first node
 module _ {z : Shape} {ns os rs ws xs xs₀ : List ℕ} (pre : PackPre z ns os rs ws xs) (prepared : Only preparedRows (z .u) xs xs₀) where
   -- the stores are still long enough
   pub granted-prepared : Granted z ws xs₀

@@ -11,10 +11,12 @@ use Rattle.records.specs.declared.OperationRecord.{OperationRecord}
 use Rattle.records.specs.declared.RowRecord.{RowRecord}
 use Rattle.records.specs.Records.{operationRecord, rowRecord}
 
+-- reference j has its record
 pub record PhasePre (count : ℕ) (os rs : List ℕ) (j : ℕ) : Type 0 where
   pub operation : j < count → j * 6 + 6 ≤ length os
   pub row : count ≤ j → (j - count) * 4 + 4 ≤ length rs
 
+-- its phase
 unfoldable pub phaseIn : ℕ → List ℕ → List ℕ → ℕ → ℕ
 phaseIn count os rs j = if ltb j count then operationRecord os j .phase else rowRecord rs (j - count) .phase
 

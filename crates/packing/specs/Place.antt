@@ -29,7 +29,7 @@ use Rattle.packing_states.specs.Counts.{less-at, edges-later, used-at}
 use Rattle.packing_states.specs.Owed.{children-before}
 use Rattle.packing_states.specs.Uses.{children-below, children-used}
 use Rattle.packing_states.specs.Live.{used-below-more}
-use Rattle.packing_states.specs.Linked.{Linked}
+use Rattle.packing_states.specs.Linked.{linked-same}
 use Rattle.packing.specs.declared.Slots.{Slots}
 use Rattle.packing.specs.declared.Step.the-variants.{Next, Full}
 use Rattle.packing.specs.declared.Taken.the-variants.{Slot, Full as None}
@@ -80,17 +80,6 @@ children-keep (product a u b v) k = (refl, (refl, refl))
 signed-same : {p : Program} {u j : ℕ} {axes axes′ : List (List ℕ)} {xs t : List ℕ} → axes′ ≡ axes → row t u rootAxis ≡ row xs u rootAxis
     → row t u rootSign ≡ row xs u rootSign → SignedAt p u axes xs j → SignedAt p u axes′ t j
 signed-same e a b s = rw e (record { stored = s .stored; axis = rw a (s .axis); sign = rw b (s .sign) })
-
--- the links
-linked-same : {p : Program} {z : Shape} {xs t : List ℕ} → row t (z .u) firstRoot ≡ row xs (z .u) firstRoot
-    → row t (z .u) nextRoot ≡ row xs (z .u) nextRoot → row t (z .u) rootAxis ≡ row xs (z .u) rootAxis
-    → row t (z .u) rootSign ≡ row xs (z .u) rootSign → Linked p z xs → Linked p z t
-linked-same a b c d s = record {
-  first = λ n e. rw a (s .first n e);
-  next = λ j e f. rw b (s .next j e f);
-  no-axis = λ j e f. rw c (s .no-axis j e f);
-  no-sign = λ j e f. rw d (s .no-sign j e f);
-}
 
 -- ---- before the node is worked out
 

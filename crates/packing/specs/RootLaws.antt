@@ -1,5 +1,5 @@
 -- Before a root's turn: what memory holds of its node, the root's sign, the model's next state, what `intern` answers. Assumes nothing.
-use mathlib.Core.Path.{_≡_, sym, ap, ap₂, _∙_, subst}
+use mathlib.Core.Path.{_≡_, refl, sym, ap, ap₂, _∙_, subst}
 use mathlib.Core.Bool.{true, false}
 use mathlib.Core.List.{List}
 use Prim.Native.Nat.{ℕ, suc, _+_, _*_, _%_, _≤_, _<_}
@@ -40,9 +40,15 @@ mod-odd a = omega arith
 
 -- ---- roots
 
+-- a root of node n is a root, and its node is n
 pub root-is : (p : Program) (n j : ℕ) → rootOf p n j ≡ true → (isRootAt p j ≡ true) × (referenceAt p j .node ≡ n)
 unfolding rootOf
 root-is p n j e = (and-left (isRootAt p j) _ e, eqb-true _ n (and-right (isRootAt p j) _ e))
+
+-- and the other way round
+pub its-root : (p : Program) (n j : ℕ) → isRootAt p j ≡ true → referenceAt p j .node ≡ n → rootOf p n j ≡ true
+unfolding rootOf
+its-root p n j r e = rw (r, eq-eqb (referenceAt p j .node) n e) refl
 
 -- the model's store once the root's word is stored
 abbrev pub rootStore : Program → Shape → Slots → ℕ → ℕ → Store

@@ -5,7 +5,7 @@ use mathlib.Core.List.{List, [], _∷_, map, _++_, append-nil}
 use Prim.Native.Nat.{ℕ, zero, suc, _+_, _<_}
 use native.Mathlib.Nat.{zero-add}
 use native.Mathlib.Omega.{arith}
-use lib.ListN.{length, getD, length-append, length-map, List·getD-map}
+use lib.ListN.{length, getD, length-map, List·getD-map}
 use Rattle.store.specs.Row.{row}
 use Rattle.model.specs.Lists.{numbersFrom}
 use Rattle.model.specs.Program.{PauliRef, Program}
@@ -15,11 +15,12 @@ use Rattle.model.specs.Results.{noOperation}
 use Rattle.theory.specs.Cases.{if-true, if-false}
 use Rattle.layout.specs.declared.Shape.{Shape}
 use Rattle.layout.specs.Rows.{rootAxis, rootSign}
-use Rattle.packing_states.specs.References.{references, referenceAt, total, isRootAt}
-use Rattle.packing_states.specs.ReferenceLaws.{operation-kept, row-at, row-kept}
+use Rattle.packing_states.specs.References.{referenceAt, total, isRootAt}
+use Rattle.packing_states.specs.ReferenceLaws.{total-sum, operation-kept, row-at, row-kept}
 use Rattle.packing_states.specs.States.{valueOf}
 use Rattle.packing_states.specs.Linked.{Linked}
-use Rattle.packing.specs.Holding.{SignedAt, Whole}
+use Rattle.packing_states.specs.InMemory.{Whole}
+use Rattle.packing.specs.Holding.{SignedAt}
 use Rattle.packing.specs.Packed.{signsIn, rowSign, signsOf}
 
 -- ---- numbers by f, a list's elements by g
@@ -62,16 +63,11 @@ module _ {p : Program} {z : Shape} {xs : List ℕ} (w : Whole p z) (linked : Lin
   unfolding signedAxis valueOf
   root-sign j b r = let s = signed j b r in rw (s .axis, s .sign) refl
 
-  counted : total p ≡ length (p .operations) + length (p .rows)
-  unfolding total references
-  counted =
-      omega (arith, length-append (map operationRoot (p .operations)) (p .rows), length-map (p .operations) operationRoot)
-
   operation-sign : (k : ℕ) → k < length (p .operations) → signAt (k + 0) ≡ signOf (operationRoot (getD (p .operations) k noOperation))
   unfolding operationRoot noOperation
   operation-sign k b =
       let o = operation-kept p k (omega (arith, length-map (p .operations) operationRoot)) in
-      root-sign (k + 0) (omega (arith, counted)) (o .0)
+      root-sign (k + 0) (omega (arith, total-sum p)) (o .0)
       ∙ ap signOf (o .1 ∙ List·getD-map operationRoot (p .operations) k noOperation)
 
   row-sign : (k : ℕ) → k < length (p .rows)
@@ -88,7 +84,7 @@ module _ {p : Program} {z : Shape} {xs : List ℕ} (w : Whole p z) (linked : Lin
       j = k + (length (map operationRoot (p .operations)) + 0)
 
       in-all : j < total p
-      in-all = omega (arith, counted, length-map (p .operations) operationRoot)
+      in-all = omega (arith, total-sum p, length-map (p .operations) operationRoot)
 
       go : (t : Bool) → isRoot p r ≡ t → signAt j ≡ rowSign p r
       go true e = root-sign j in-all (row-kept p k ∙ e) ∙ ap signOf (row-at p k) ∙ sym (if-true _ _ e)
@@ -99,6 +95,6 @@ module _ {p : Program} {z : Shape} {xs : List ℕ} (w : Whole p z) (linked : Lin
   unfolding signsIn signsOf
   signs-are =
       let ops = p .operations in
-      map-front signAt (λ o. signOf (operationRoot o)) noOperation ops 0 (length (p .rows)) _ (sym (w .references) ∙ counted) operation-sign
+      map-front signAt (λ o. signOf (operationRoot o)) noOperation ops 0 (length (p .rows)) _ (sym (w .references) ∙ total-sum p) operation-sign
       ∙ ap (λ (ys : List SignedAxis). map (λ o. signOf (operationRoot o)) ops ++ ys)
       (map-all signAt (rowSign p) (record { node = 0; phase = 0 }) (p .rows) (length ops + 0) row-sign)

@@ -1,4 +1,4 @@
--- How a turn ends, answer by answer, and what it leaves where nothing is written. Assumes nothing.
+-- How a turn ends, answer by answer; what no turn, and two turns, leave of both stores. Assumes nothing.
 use mathlib.Core.Path.{_≡_, sym, ap}
 use mathlib.Core.Bool.{true}
 use mathlib.Core.List.{List}
@@ -7,8 +7,9 @@ use native.Mathlib.Omega.{arith}
 use Rattle.model.specs.Program.{Program}
 use Rattle.model.specs.Packing.{Pack}
 use Rattle.layout.specs.declared.Shape.{Shape}
-use Rattle.layout.specs.Only.{only-none}
-use Rattle.layout.specs.Words.{kept-none}
+use Rattle.layout.specs.Only.{only-none, only-then}
+use Rattle.layout.specs.Words.{kept-none, kept-then}
+use Rattle.layout.specs.Shape.{Granted}
 use Rattle.packing.specs.declared.Slots.{Slots}
 use Rattle.packing.specs.declared.Step.{Step}
 use Rattle.packing.specs.declared.Step.the-variants.{Next, NonHermitianAxis, Full}
@@ -50,14 +51,28 @@ module _ {p : Program} {z : Shape} {b n i : ℕ} {k : Pack} {ws xs : List ℕ} w
     full = λ e. absurd (next-not-full e);
   }
 
-  -- 9
+  -- refusal 9
   pub turned-odd : k .refused ≡ true → k .store .peak ≤ z .limit → Turned p z b n i k NonHermitianAxis ws xs
   turned-odd r f = record { next = λ st e. absurd (next-not-odd (sym e)); odd = λ e. (r, f); full = λ e. absurd (odd-not-full e) }
 
-  -- 10
+  -- refusal 10
   pub turned-full : z .limit < k .store .peak → Turned p z b n i k Full ws xs
   turned-full f = record { next = λ st e. absurd (next-not-full (sym e)); odd = λ e. absurd (odd-not-full (sym e)); full = λ e. f }
+
+-- ---- what turns leave
 
 -- nothing is written
 pub left-none : (z : Shape) (ws xs : List ℕ) → Left z ws xs ws xs
 left-none z ws xs = record { words = kept-none _ ws; numbers = only-none _ (z .u) xs }
+
+-- one turn after the other
+pub left-then : {z : Shape} {ws xs ws′ xs′ ws″ xs″ : List ℕ} → Left z ws xs ws′ xs′ → Left z ws′ xs′ ws″ xs″ → Left z ws xs ws″ xs″
+left-then a b = record { words = kept-then (a .words) (b .words); numbers = only-then (a .numbers) (b .numbers) }
+
+-- the stores stay as long as refusal 3 asks
+pub granted-left : {z : Shape} {ws xs ws′ xs′ : List ℕ} → Granted z ws xs → Left z ws xs ws′ xs′ → Granted z ws′ xs′
+granted-left g l = record {
+  sized = g .sized;
+  words-long = omega (arith, g .words-long, l .words .long);
+  numbers-long = omega (arith, g .numbers-long, l .numbers .long);
+}

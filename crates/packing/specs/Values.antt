@@ -30,11 +30,13 @@ slotOf z xs n = getD (row xs (z .u) nodeSlot) n 0
 abbrev pub phaseOf : Shape → List ℕ → ℕ → ℕ
 phaseOf z xs n = getD (row xs (z .u) nodePhase) n 0
 
+-- node n has a slot within the limit
 pub record HeldPre (z : Shape) (xs : List ℕ) (n : ℕ) : Type 0 where
   pub long : 24 * z .u ≤ length xs
   pub node : n < z .u
   pub slot : slotOf z xs n * (2 * z .l) + 2 * z .l ≤ z .limit
 
+-- where its word is, and its phase
 unfoldable pub heldAt : Shape → List ℕ → ℕ → ValueHeld
 heldAt z xs n = record { at = slotPlace (z .limit) (z .l) (slotOf z xs n); phase = phaseOf z xs n }
 
@@ -63,6 +65,7 @@ pub record EvaluatePre (z : Shape) (x : NodeRecord) (ws xs : List ℕ) : Type 0 
 unfoldable pub valueOfRecord : Shape → List ℕ → List ℕ → NodeRecord → Value
 valueOfRecord z ws xs x = nodeValue (z .l) (heldValue z ws xs) (nodeSaid x)
 
+-- the value's word stands behind the limit, and its phase is the answer
 pub record Evaluated (z : Shape) (x : NodeRecord) (ws xs ws′ : List ℕ) (e : ℕ) : Type 0 where
   pub words : ws′ ≡ put ws (z .limit) (valueOfRecord z ws xs x .word)
   pub turns : e ≡ valueOfRecord z ws xs x .turns
@@ -72,6 +75,7 @@ pub record Evaluated (z : Shape) (x : NodeRecord) (ws xs ws′ : List ℕ) (e : 
 abbrev pub usesOf : List ℕ → ℕ → ℕ → ℕ
 usesOf s u n = getD (row s u usesRow) n 0
 
+-- node n is used, and its slot has room among the free ones
 pub record ReleasePre (s : List ℕ) (u free n : ℕ) : Type 0 where
   pub long : 24 * u ≤ length s
   pub node : n < u
@@ -96,7 +100,7 @@ pub record ChildrenPre (s : List ℕ) (u free : ℕ) (x : NodeRecord) : Type 0 w
   pub first-used : 2 ≤ x .kind → 0 < usesOf s u (x .a)
   pub second-used : 2 ≤ x .kind → 0 < getD (set (row s u usesRow) (x .a) (usesOf s u (x .a) - 1)) (x .b) 0
 
--- nothing for a leaf; for a product its first child is released, then its second, m and t being what stands in between
+-- nothing for a leaf; for a product its first child is released, then its second: `between` slots are free in between, in `store`
 pub record ChildrenReleased (s : List ℕ) (u free : ℕ) (x : NodeRecord) (r : ℕ) (t : List ℕ) : Type 0 where
   pub only : Only (usesRow ∷ freeRow ∷ []) u s t
   pub leaf : x .kind < 2 → (r ≡ free) × (t ≡ s)
@@ -107,6 +111,7 @@ pub record ChildrenReleased (s : List ℕ) (u free : ℕ) (x : NodeRecord) (r : 
 
 -- ---- taking a slot
 
+-- slots and axes are within the limit, and their numbers fit
 pub record TakePre (z : Shape) (xs : List ℕ) (st : Slots) : Type 0 where
   pub long : 24 * z .u ≤ length xs
   pub free : st .free ≤ z .u
@@ -126,6 +131,7 @@ taken z xs st =
 
 -- ---- keeping a value
 
+-- slot s is within the limit
 pub record KeepPre (z : Shape) (n s : ℕ) (ws xs : List ℕ) : Type 0 where
   pub scratch : z .limit + 2 * z .l ≤ length ws
   pub long : 24 * z .u ≤ length xs
@@ -134,6 +140,7 @@ pub record KeepPre (z : Shape) (n s : ℕ) (ws xs : List ℕ) : Type 0 where
   pub small : s < z .u
   pub u-small : z .u ≤ 1187839
 
+-- the word behind the limit is copied to slot s; node n has the slot, and the phase e
 pub record Kept (z : Shape) (n s e : ℕ) (ws xs ws′ xs′ : List ℕ) : Type 0 where
   pub words : ws′ ≡ put ws (slotPlace (z .limit) (z .l) s) (part ws (z .limit) (2 * z .l))
   pub only : Only (nodeSlot ∷ nodePhase ∷ []) (z .u) xs xs′

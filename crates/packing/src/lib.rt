@@ -1,7 +1,6 @@
 // Packing: used nodes by rising index, each value in a slot, each root stored at its node's turn.
 ghost use mathlib.Core.Path.{_≡_};
-ghost use Prim.Native.Nat.{ℕ, suc, _+_, _*_, _<_, _≤_};
-ghost use lib.ListN.{length};
+ghost use Prim.Native.Nat.{suc};
 ghost use Rattle.model.specs.Program.{Program};
 ghost use Rattle.packing_states.specs.References.{total};
 ghost use Rattle.packing_states.specs.States.{before, slotted, within};

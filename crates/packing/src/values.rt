@@ -1,7 +1,5 @@
 // Slots: where nodes' values are while they are still to be used. Freed after the last use; the one freed last is reused first.
 ghost use mathlib.Core.Path.{_≡_};
-ghost use Prim.Native.Nat.{_+_, _*_, _<_, _≤_};
-ghost use lib.ListN.{length};
 ghost use Rattle.packing.specs.Values.{HeldPre, heldAt, EvaluatePre, Evaluated, ReleasePre, Released, ChildrenPre, ChildrenReleased};
 ghost use Rattle.packing.specs.Values.{TakePre, taken, KeepPre, Kept};
 use super::Slots;

@@ -91,20 +91,19 @@ same-program : (limit : ℕ) (j : Job) → programIn (shapeOf (j .counts) limit)
 unfolding programIn shapeOf
 same-program limit j = refl
 
-pub call-packed : {limit : ℕ} {j : Job} {s : Lent} {r : ℕ} {z : Shape} {k : Packed} {ws xs : List ℕ} (axes : ℕ)
+pub call-packed : {limit : ℕ} {j : Job} {s : Lent} {r : ℕ} {z : Shape} {k : Packed} {ws xs : List ℕ} {axes a axes′ : ℕ}
     → r ≡ checkedNumber limit j s → r ≡ 0 → z ≡ shapeOf (j .counts) limit
     → PackedAs z (programIn z (j .nodes) (j .operations) (j .rows)) k (s .words) (s .numbers) ws xs
-    → (told : Packed) → k ≡ told → PackedCall limit j s axes (packedNumber told) ws xs (axesAfter axes told)
+    → a ≡ packedNumber k → axes′ ≡ axesAfter axes k → PackedCall limit j s axes a ws xs axes′
 unfolding packingOf shapeOf
-call-packed {limit} {j} {s} {k = k} {ws} {xs} axes e h f m told d =
+call-packed {limit} {j} {s} {k = k} {ws} {xs} {axes} e h f m d g =
     let z = shapeOf (j .counts) limit in
-    let a : PackedAs z (programIn z (j .nodes) (j .operations) (j .rows)) k (s .words) (s .numbers) ws xs = rw (sym f) m in
-    let p : PackedAs z (programOf j) k (s .words) (s .numbers) ws xs = rw (sym (same-program limit j)) a in
-    let q : told ≡ packingOf limit j = sym d ∙ p .answer in
+    let i : PackedAs z (programIn z (j .nodes) (j .operations) (j .rows)) k (s .words) (s .numbers) ws xs = rw (sym f) m in
+    let p : PackedAs z (programOf j) k (s .words) (s .numbers) ws xs = rw (sym (same-program limit j)) i in
     record {
       refused = λ n. absurd (n (sym e ∙ h));
       kept = λ n. absurd (n (sym e ∙ h));
-      answer = λ _. ap packedNumber q;
-      count = λ _. ap (axesAfter axes) q;
+      answer = λ _. d ∙ ap packedNumber (p .answer);
+      count = λ _. g ∙ ap (axesAfter axes) (p .answer);
       memory = λ _. rw (sym (p .answer)) p;
     }

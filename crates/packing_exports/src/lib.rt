@@ -1,7 +1,12 @@
 // Checking and packing for programs in other languages, as the benchmark of oracle/bench calls them.
 ghost use mathlib.Core.Path.{_≡_};
+ghost use mathlib.Core.Bool.{false};
+ghost use Prim.Native.Nat.{_≤_};
+ghost use Rattle.model.specs.Checking.{badCount};
 ghost use Rattle.checking.specs.Call.{jobOf, lentOf};
-ghost use Rattle.packing_exports.specs.Calls.{countsOf, checkedNumber, PackedCall};
+ghost use Rattle.packing_exports.specs.Calls.{countsOf, checkedNumber, packedNumber, axesAfter, PackedCall};
+ghost use Rattle.layout.specs.Shape.{shapeOf};
+use layout::Shape;
 use model::Counts;
 use packing::Packed;
 
@@ -80,13 +85,28 @@ pub extern "C" fn werdutxa_pack(
     if answer != 0 {
         return answer;
     }
+    let shape = shape(qubits, node_count, operation_count, limit);
+    let packed = packing::pack(nodes, operations, rows, words, numbers, shape);
+    packed_number(packed, axes)
+}
+
+// The sizes that follow from the counts and the limit.
+fn shape(qubits: usize, node_count: usize, operation_count: usize, limit: usize) -> Shape
+    requires { ⌜ (badCount (countsOf qubits «node_count» «operation_count») ≡ false) × (limit ≤ 1048576) ⌝ }
+    ensures { λ r. ⌜ r ≡ shapeOf (countsOf qubits «node_count» «operation_count») limit ⌝ }
+{
     let counts = Counts {
         qubits,
         nodes: node_count,
         operations: operation_count,
     };
-    let shape = layout::shape_of(counts, limit);
-    let packed = packing::pack(nodes, operations, rows, words, numbers, shape);
+    layout::shape_of(counts, limit)
+}
+
+// The number of packing's answer; how many axes there are is written where that is 0.
+fn packed_number(packed: Packed, axes: &mut usize) -> u32
+    ensures { λ r. ⌜ (r ≡ packedNumber packed) × (now (axes .exit) ≡ axesAfter (now (axes .entry)) packed) ⌝ }
+{
     match packed {
         Packed::Axes(n) => {
             *axes = n;

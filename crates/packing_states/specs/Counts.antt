@@ -13,7 +13,7 @@ use Rattle.model.specs.Program.{Node, identity, letter, product, PauliRef}
 use Rattle.model.specs.Packing.{rootsAt, oneUseMore, oneUseLess, countChildren, countUses, useCounts, Pack, useNode, useChildren}
 use Rattle.theory.specs.Cases.{by-if, on-if}
 use Rattle.theory.specs.PackedRoots.{map-range, ChildrenBefore}
-use Rattle.packing_states.specs.ReferenceLaws.{keep-count, count-le, numbers-length}
+use Rattle.packing_states.specs.ReferenceLaws.{numbers-length}
 
 -- ---- one entry more or less
 
@@ -133,10 +133,6 @@ pub countUses-bound : (node : Node) (uses : List ℕ) (n bound : ℕ) → ((m : 
 countUses-bound node uses n bound h m =
     by-if (λ (x : List ℕ). getD x m 0 ≤ bound + 2) _ uses (countChildren node uses) (omega (arith, h m))
     (omega (arith, h m, counted-most node uses m))
-
-roots-most : (rs : List PauliRef) (n : ℕ) → length (rootsAt n rs) ≤ length rs
-unfolding rootsAt
-roots-most rs n = omega (arith, keep-count (λ (r : PauliRef). eqb (r .node) n) rs, count-le (λ (r : PauliRef). eqb (r .node) n) rs)
 
 -- before the count: how many roots each node has
 abbrev pub rootCounts : List PauliRef → ℕ → List ℕ

@@ -1,20 +1,20 @@
--- A program's nodes and references as the records in the lent slices. Assumes nothing.
-use mathlib.Core.Path.{_≡_, ap, _∙_}
+-- A program in the lent slices: its counts, and its nodes and references as their records. Assumes nothing.
+use mathlib.Core.Path.{_≡_, refl, ap, _∙_}
 use mathlib.Core.List.{List, map, _++_}
 use Prim.Native.Nat.{ℕ, _+_, _*_, _≤_, _<_}
 use native.Mathlib.Omega.{arith}
-use lib.ListN.{length, length-append, length-map, List·getD-append, List·getD-map}
+use lib.ListN.{length, length-map, List·getD-append, List·getD-map}
 use lib.Seq.{getD-append-add}
-use Rattle.store.specs.Chunk.{chunks, chunks-length}
 use Rattle.model.specs.Program.{operationOf, rowOf, Program, programOf}
 use Rattle.model.specs.Roots.{operationRoot}
 use Rattle.model.specs.Results.{noOperation}
 use Rattle.theory.specs.Every.{every-append, every-map, every-at}
-use Rattle.theory.specs.Checked.{NodeIn, RowIn, nodes-length, Fine}
+use Rattle.theory.specs.Checked.{NodeIn, RowIn, nodes-length, Fine, records-length}
 use Rattle.layout.specs.declared.Shape.{Shape}
 use Rattle.records.specs.Records.{nodeRecord, operationRecord, rowRecord, nodeSaid, operationSaid, rowSaid, node-said, operation-said, row-said}
-use Rattle.records.specs.Given.{programIn}
+use Rattle.records.specs.Given.{programIn, Given}
 use Rattle.packing_states.specs.References.{references, referenceAt, total}
+use Rattle.packing_states.specs.ReferenceLaws.{total-sum}
 use Rattle.packing_states.specs.States.{nodeAt}
 
 module _ (z : Shape) (ns os rs : List ℕ) where
@@ -26,20 +26,17 @@ module _ (z : Shape) (ns os rs : List ℕ) where
 
   pub operations-count : length (programIn z ns os rs .operations) ≡ z .operations
   unfolding programIn programOf
-  operations-count = length-map (chunks 6 (z .operations) os) operationOf ∙ chunks-length 6 (z .operations) os
+  operations-count = records-length operationOf 6 (z .operations) os
 
   pub rows-count : length (programIn z ns os rs .rows) ≡ 2 * z .qubits
   unfolding programIn programOf
-  rows-count = length-map (chunks 4 (2 * z .qubits) rs) rowOf ∙ chunks-length 4 (2 * z .qubits) rs
+  rows-count = records-length rowOf 4 (2 * z .qubits) rs
 
   roots-count : length (map operationRoot (programIn z ns os rs .operations)) ≡ z .operations
   roots-count = length-map (programIn z ns os rs .operations) operationRoot ∙ operations-count
 
   pub total-is : total (programIn z ns os rs) ≡ z .operations + 2 * z .qubits
-  unfolding total references
-  total-is =
-      let p = programIn z ns os rs in
-      omega (arith, length-append (map operationRoot (p .operations)) (p .rows), roots-count, rows-count)
+  total-is = omega (arith, total-sum (programIn z ns os rs), operations-count, rows-count)
 
   -- ---- record by record
 
@@ -75,3 +72,24 @@ reference-node p f j h =
     let ops = map operationRoot (p .operations) in
     every-at (RowIn n) (ops ++ p .rows) (record { node = 0; phase = 0 }) j
     (every-append (RowIn n) ops (p .rows) (every-map (NodeIn n) (RowIn n) operationRoot (λ x k. k) (p .operations) (f .operations)) (f .rows)) h
+
+-- ---- what is known of a program without its records
+
+-- it is fine, and has as many qubits, nodes, operations and references as the shape says
+pub record Whole (p : Program) (z : Shape) : Type 0 where
+  pub fine : Fine p
+  pub qubits : p .qubits ≡ z .qubits
+  pub nodes : length (p .nodes) ≡ z .nodes
+  pub operations : length (p .operations) ≡ z .operations
+  pub references : total p ≡ z .operations + 2 * z .qubits
+
+-- so is the program in the slices
+pub given-whole : {z : Shape} {ns os rs : List ℕ} → Given z ns os rs → Whole (programIn z ns os rs) z
+unfolding programIn programOf
+given-whole {z} {ns} {os} {rs} g = record {
+  fine = g .fine;
+  qubits = refl;
+  nodes = nodes-count z ns os rs;
+  operations = operations-count z ns os rs;
+  references = total-is z ns os rs;
+}

@@ -121,6 +121,11 @@ module _ (p : Program) where
   operationRoots-length : length operationRoots ≡ length (p .operations)
   operationRoots-length = length-map (p .operations) operationRoot
 
+  -- operations, then frame rows
+  pub total-sum : total p ≡ length (p .operations) + length (p .rows)
+  unfolding total references
+  total-sum = omega (arith, length-append operationRoots (p .rows), operationRoots-length)
+
   -- operation k is reference k, and a root
   pub operation-kept : (k : ℕ) → k < length operationRoots → (isRootAt p (k + 0) ≡ true) × (referenceAt p (k + 0) ≡ getD operationRoots k none)
   unfolding isRootAt referenceAt references
@@ -157,8 +162,8 @@ module _ (p : Program) where
       ∙ ap (map (referenceAt p)) (keep-both (isRootAt p) (λ j. eqb (referenceAt p j .node) n) (numbersFrom 0 (total p)))
 
   -- how many they are
-  pub uses-start : (n : ℕ) → length (rootsAt n (roots p)) ≡ countOf (rootOf p n) (numbersFrom 0 (total p))
-  uses-start n = ap length (roots-of n) ∙ length-map (keep (rootOf p n) (numbersFrom 0 (total p))) (referenceAt p) ∙ keep-count (rootOf p n) _
+  roots-of-count : (n : ℕ) → length (rootsAt n (roots p)) ≡ countOf (rootOf p n) (numbersFrom 0 (total p))
+  roots-of-count n = ap length (roots-of n) ∙ length-map (keep (rootOf p n) (numbersFrom 0 (total p))) (referenceAt p) ∙ keep-count (rootOf p n) _
 
 -- ---- how many roots of node n stand from reference j on
 
@@ -195,7 +200,7 @@ module _ (p : Program) (n : ℕ) where
   -- all of the node's roots
   pub roots-from-all : rootsFrom p n 0 ≡ length (rootsAt n (roots p))
   unfolding rootsFrom
-  roots-from-all = let e : total p - 0 ≡ total p = omega arith in rw e (sym (uses-start p n))
+  roots-from-all = let e : total p - 0 ≡ total p = omega arith in rw e (sym (roots-of-count p n))
 
   -- at most all references from j on
   pub roots-from-le : (j : ℕ) → rootsFrom p n j ≤ total p - j

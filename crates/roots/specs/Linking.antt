@@ -4,7 +4,7 @@ use mathlib.Core.Bool.{Bool, true, false}
 use mathlib.Core.List.{List, [], _∷_}
 use Prim.Native.Nat.{ℕ, suc, _+_, _-_, _*_, _≤_, _<_}
 use native.Mathlib.Omega.{arith}
-use lib.ListN.{length, getD, replicate, length-replicate, getD-replicate}
+use lib.ListN.{length, getD, replicate}
 use lib.Seq.{ext-getD}
 use borrow.Author.Tests.{lt-ltb, le-ltb}
 use Rattle.store.specs.Part.{put}
@@ -14,12 +14,14 @@ use Rattle.model.specs.Program.{Program}
 use Rattle.model.specs.Roots.{roots}
 use Rattle.theory.specs.Cases.{if-true, if-false}
 use Rattle.layout.specs.declared.Shape.{Shape}
-use Rattle.layout.specs.Rows.{relevantRow, usesRow, firstRoot, nextRoot, entries, entries-length, entries-at, entries-cleared}
-use Rattle.layout.specs.Only.{Only, only-none, only-of, only-then, only-put}
+use Rattle.layout.specs.Rows.{relevantRow, usesRow, firstRoot, nextRoot, entries, entries-length, entries-at}
+use Rattle.layout.specs.Only.{Only, only-none, only-of, only-then}
 use Rattle.records.specs.Records.{operationRecord, rowRecord}
 use Rattle.packing_states.specs.References.{referenceAt, total, relevant, isRootAt}
 use Rattle.packing_states.specs.ReferenceLaws.{roots-from-le, roots-from-all}
 use Rattle.packing_states.specs.Counts.{rootCounts, rootCounts-at, rootCounts-length}
+use Rattle.packing_states.specs.InMemory.{reference-node}
+use Rattle.layout.specs.Cleared.{cleared-only, cleared-at}
 use Rattle.packing_states.specs.Some.{Some}
 use Rattle.roots.specs.Links.{FrontPre, InFront, OperationPre, RowPre, linkRows, RowLinked, LinkedFrom, Sizes, RowsIn}
 use Rattle.roots.specs.Links.{RowsPre, RowsLinked, OperationsPre, OperationsLinked, LinkPre, Links, RootsLinked}
@@ -31,10 +33,7 @@ pub sizes-kept : {p : Program} {z : Shape} {s t : List ℕ} → length t ≡ len
 sizes-kept {p} {z} {s} {t} e a = record {
   sized = a .sized;
   long = omega (arith, a .long);
-  nodes = a .nodes;
-  operations = a .operations;
-  references = a .references;
-  node = a .node;
+  whole = a .whole;
 }
 
 pub rows-kept : {p : Program} {z : Shape} {rs s t : List ℕ} → Only linkRows (z .u) s t → RowsIn p z rs s → RowsIn p z rs t
@@ -51,13 +50,14 @@ front-pre : (p : Program) (z : Shape) (j n : ℕ) (x : List ℕ) → Sizes p z x
     → FrontPre x (z .u) j n
 front-pre p z j n x a b e f =
     let d = a .sized in
-    let h : n < length (p .nodes) = rw e at (a .node j b) in
+    let w = a .whole in
+    let h : n < length (p .nodes) = rw e at (reference-node p (w .fine) j b) in
     record {
       long = a .long;
       u-small = d .u-small;
-      root = omega (arith, d .row, a .references);
-      node = omega (arith, d .row, a .nodes);
-      uses = omega (arith, f .uses n h, roots-from-le p n (suc j), a .references, d .operations, d .qubits);
+      root = omega (arith, d .row, w .references);
+      node = omega (arith, d .row, w .nodes);
+      uses = omega (arith, f .uses n h, roots-from-le p n (suc j), w .references, d .operations, d .qubits);
     }
 
 -- ---- frame rows
@@ -73,7 +73,7 @@ module _ (z : Shape) (rs s : List ℕ) where
   rows-start = record {
     most = omega arith;
     only = only-none linkRows (z .u) s;
-    linked = λ p a. rw (a .sizes .references) at (a .start);
+    linked = λ p a. rw (a .sizes .whole .references) at (a .start);
   }
 
   -- the same place
@@ -87,8 +87,9 @@ module _ (z : Shape) (rs s : List ℕ) where
       let p = some .p in
       record {
         record-long = omega (arith, a .records .long, i .most);
-        front = front-pre p z (z .operations + (r - 1)) _ x (sizes-kept (i .only .long) (a .sizes)) (omega (arith, a .sizes .references, i .most))
-            (a .records .node (r - 1) (omega (arith, i .most))) (rw (place r h) at (i .linked p a));
+        front = front-pre p z (z .operations + (r - 1)) _ x (sizes-kept (i .only .long) (a .sizes))
+            (omega (arith, a .sizes .whole .references, i .most)) (a .records .node (r - 1) (omega (arith, i .most)))
+            (rw (place r h) at (i .linked p a));
       }
 
   module _ (p : Program) (r n : ℕ) (x y : List ℕ) (a : RowsPre p z rs s) (h : r < 2 * z .qubits)
@@ -96,7 +97,7 @@ module _ (z : Shape) (rs s : List ℕ) where
     -- row r is a root if its node is relevant
     row-test : isRootAt p (z .operations + r) ≡ relevant p n
     unfolding isRootAt
-    row-test = rw (le-ltb (z .operations + r) (length (p .operations)) (omega (arith, a .sizes .operations)), d) refl
+    row-test = rw (le-ltb (z .operations + r) (length (p .operations)) (omega (arith, a .sizes .whole .operations)), d) refl
 
     row-turn : Only linkRows (z .u) s x → LinkedFrom p (z .u) (suc (z .operations + r)) x → RowLinked x (z .u) (z .operations + r) n y
         → LinkedFrom p (z .u) (z .operations + r) y
@@ -106,24 +107,24 @@ module _ (z : Shape) (rs s : List ℕ) where
         long = omega (arith, a .sizes .long, o .long)
 
         b : z .operations + r < total p
-        b = omega (arith, a .sizes .references)
+        b = omega (arith, a .sizes .whole .references)
 
         in-row : total p ≤ z .u
-        in-row = omega (arith, a .sizes .references, a .sizes .sized .row)
+        in-row = omega (arith, a .sizes .whole .references, a .sizes .sized .row)
 
         node-in : n < length (p .nodes)
-        node-in = rw d at (a .sizes .node (z .operations + r) b)
+        node-in = rw d at (reference-node p (a .sizes .whole .fine) (z .operations + r) b)
 
         kept : RowsIn p z rs x
         kept = rows-kept o (a .records)
 
         said : getD (row x (z .u) relevantRow) n 0 ≡ (if relevant p n then 1 else 0)
-        said = kept .tells n (omega (arith, a .sizes .nodes, node-in))
+        said = kept .tells n (omega (arith, a .sizes .whole .nodes, node-in))
 
         go : (t : Bool) → relevant p n ≡ t → LinkedFrom p (z .u) (z .operations + r) y
         go true e =
             link-root p (z .u) (z .operations + r) x y long b in-row f (row-test ∙ e) n d node-in
-            (omega (arith, a .sizes .nodes, a .sizes .sized .row)) (w .root (λ q. omega (arith, said, if-true {A = ℕ} 1 0 e)))
+            (omega (arith, a .sizes .whole .nodes, a .sizes .sized .row)) (w .root (λ q. omega (arith, said, if-true {A = ℕ} 1 0 e)))
         go false e = link-none p (z .u) (z .operations + r) x y long b in-row f (row-test ∙ e) (w .no-root (said ∙ if-false {A = ℕ} 1 0 e))
 
   pub rows-turn : {r : ℕ} {x y : List ℕ} → 0 < r → RowsAt r x → RowLinked x (z .u) (z .operations + (r - 1)) (rowRecord rs (r - 1) .node) y
@@ -164,22 +165,23 @@ module _ (z : Shape) (os s : List ℕ) where
       let p = some .p in
       record {
         record-long = omega (arith, a .records .long, f .most);
-        front = front-pre p z (i - 1) _ x (sizes-kept (f .only .long) (a .sizes)) (omega (arith, a .sizes .references, f .most))
+        front = front-pre p z (i - 1) _ x (sizes-kept (f .only .long) (a .sizes)) (omega (arith, a .sizes .whole .references, f .most))
             (a .records .node (i - 1) (omega (arith, f .most))) (rw (above i h) at (f .linked p a));
       }
 
   -- every operation is a root
   operation-test : (p : Program) (i : ℕ) → OperationsPre p z os s → i < z .operations → isRootAt p i ≡ true
   unfolding isRootAt
-  operation-test p i a h = rw (lt-ltb i (length (p .operations)) (omega (arith, a .sizes .operations))) refl
+  operation-test p i a h = rw (lt-ltb i (length (p .operations)) (omega (arith, a .sizes .whole .operations))) refl
 
   operation-turn : (p : Program) (i : ℕ) (x y : List ℕ) → OperationsPre p z os s → i < z .operations → length x ≡ length s
       → LinkedFrom p (z .u) (suc i) x → InFront x (z .u) i (operationRecord os i .node) y → LinkedFrom p (z .u) i y
   operation-turn p i x y a h o f w =
-      let b : i < total p = omega (arith, a .sizes .references) in
+      let b : i < total p = omega (arith, a .sizes .whole .references) in
       let d = a .records .node i h in
-      link-root p (z .u) i x y (omega (arith, a .sizes .long)) b (omega (arith, a .sizes .references, a .sizes .sized .row)) f
-      (operation-test p i a h) _ d (rw d at (a .sizes .node i b)) (omega (arith, a .sizes .nodes, a .sizes .sized .row)) w
+      link-root p (z .u) i x y (omega (arith, a .sizes .long)) b (omega (arith, a .sizes .whole .references, a .sizes .sized .row)) f
+      (operation-test p i a h) _ d (rw d at (reference-node p (a .sizes .whole .fine) i b))
+      (omega (arith, a .sizes .whole .nodes, a .sizes .sized .row)) w
 
   pub operations-turn : {i : ℕ} {x y : List ℕ} → 0 < i → OperationsAt i x → InFront x (z .u) (i - 1) (operationRecord os (i - 1) .node) y
       → OperationsAt (i - 1) y
@@ -197,7 +199,7 @@ module _ (z : Shape) (os s : List ℕ) where
 pub all-linked : (p : Program) (z : Shape) (t : List ℕ) → Sizes p z t → LinkedFrom p (z .u) 0 t → Links p z t
 all-linked p z t a f = record {
   linked = record {
-    first = λ n h. f .first n (omega (arith, a .nodes));
+    first = λ n h. f .first n (omega (arith, a .whole .nodes));
     next = λ j h e. f .next j (omega arith) h e;
     no-axis = λ j h e. f .no-axis j (omega arith) h e;
     no-sign = λ j h e. f .no-sign j (omega arith) h e;
@@ -214,7 +216,7 @@ all-linked p z t a f = record {
 
     one : (n : ℕ) → n < z .nodes → getD (entries t (z .u) usesRow (z .nodes)) n 0 ≡ getD (rootCounts (roots p) (z .nodes)) n 0
     one n h =
-        entries-at t (z .u) usesRow (z .nodes) (a .long) (omega arith) fits n h ∙ f .uses n (omega (arith, a .nodes)) ∙ roots-from-all p n
+        entries-at t (z .u) usesRow (z .nodes) (a .long) (omega arith) fits n h ∙ f .uses n (omega (arith, a .whole .nodes)) ∙ roots-from-all p n
         ∙ sym (rootCounts-at (roots p) (z .nodes) n h)
 
 -- ---- all of it
@@ -228,37 +230,31 @@ module _ (z : Shape) (os rs s s₁ s₂ : List ℕ) (some : Some (λ (p : Progra
   fits = omega (arith, some .it .sizes .sized .row)
 
   only₁ : Only (firstRoot ∷ []) (z .u) s s₁
-  only₁ = only-put (replicate (z .nodes) 0) long (omega arith) (omega (arith, fits, length-replicate {A = ℕ} (z .nodes) 0)) e
+  only₁ = cleared-only s (z .u) firstRoot (z .nodes) long (omega arith) fits e
 
   long₁ : 24 * z .u ≤ length s₁
   long₁ = omega (arith, long, only₁ .long)
 
   only₂ : Only (usesRow ∷ []) (z .u) s₁ s₂
-  only₂ = only-put (replicate (z .nodes) 0) long₁ (omega arith) (omega (arith, fits, length-replicate {A = ℕ} (z .nodes) 0)) d
+  only₂ = cleared-only s₁ (z .u) usesRow (z .nodes) long₁ (omega arith) fits d
 
-  -- a cleared entry
-  zero-at : (x y : List ℕ) (r n : ℕ) → 24 * z .u ≤ length x → r < 24 → n < z .nodes → 24 * z .u ≤ length y
-      → y ≡ put x (r * z .u) (replicate (z .nodes) 0) → getD (row y (z .u) r) n 0 ≡ 0
-  zero-at x y r n h l k g q =
-      sym (entries-at y (z .u) r (z .nodes) g l fits n k) ∙ ap (λ (w : List ℕ). getD w n 0) (entries-cleared x (z .u) r (z .nodes) h l fits q)
-      ∙ getD-replicate (z .nodes) n 0 0 k
-
-  cleared-only : Only linkRows (z .u) s s₂
+  only-both : Only linkRows (z .u) s s₂
   unfolding member anyOf allOf
-  cleared-only = only-then (only-of linkRows refl only₁) (only-of linkRows refl only₂)
+  only-both = only-then (only-of linkRows refl only₁) (only-of linkRows refl only₂)
 
   cleared-first : (n : ℕ) → n < z .nodes → getD (row s₂ (z .u) firstRoot) n 0 ≡ 0
   unfolding member anyOf
   cleared-first n h =
-      ap (λ (x : List ℕ). getD x n 0) (only₂ .rows firstRoot (omega arith) refl) ∙ zero-at s s₁ firstRoot n long (omega arith) h long₁ e
+      ap (λ (x : List ℕ). getD x n 0) (only₂ .rows firstRoot (omega arith) refl)
+      ∙ cleared-at s (z .u) firstRoot (z .nodes) long (omega arith) fits e n h
 
   -- the rows are cleared
   cleared-rows : (p : Program) → LinkPre p z os rs s → RowsPre p z rs s₂
   cleared-rows p a = record {
-    sizes = sizes-kept (cleared-only .long) (a .sizes);
-    records = rows-kept cleared-only (a .rows);
-    start = linked-none p (z .u) s₂ (λ n h. cleared-first n (omega (arith, a .sizes .nodes)))
-        (λ n h. zero-at s₁ s₂ usesRow n long₁ (omega arith) (omega (arith, a .sizes .nodes)) (omega (arith, long₁, only₂ .long)) d);
+    sizes = sizes-kept (only-both .long) (a .sizes);
+    records = rows-kept only-both (a .rows);
+    start = linked-none p (z .u) s₂ (λ n h. cleared-first n (omega (arith, a .sizes .whole .nodes)))
+        (λ n h. cleared-at s₁ (z .u) usesRow (z .nodes) long₁ (omega arith) fits d n (omega (arith, a .sizes .whole .nodes)));
   }
 
   pub first-rows : Some (λ (p : Program). RowsPre p z rs s₂)
@@ -277,7 +273,7 @@ module _ (z : Shape) (os rs s s₁ s₂ : List ℕ) (some : Some (λ (p : Progra
     pub roots-linked : {t : List ℕ} → OperationsLinked z os s₃ t → RootsLinked z os rs s t
     unfolding member anyOf allOf
     roots-linked {t} f = record {
-      only = only-then cleared-only (only-then (b .only) (only-of linkRows refl (f .only)));
+      only = only-then only-both (only-then (b .only) (only-of linkRows refl (f .only)));
       links = λ p a.
           let c = after-rows p a in
           all-linked p z t (sizes-kept (f .only .long) (c .sizes)) (f .linked p c);

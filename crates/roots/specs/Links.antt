@@ -18,6 +18,7 @@ use Rattle.packing_states.specs.References.{referenceAt, total, relevant, isRoo
 use Rattle.packing_states.specs.ReferenceLaws.{rootsFrom}
 use Rattle.packing_states.specs.Counts.{rootCounts}
 use Rattle.packing_states.specs.Linked.{Linked}
+use Rattle.packing_states.specs.InMemory.{Whole}
 
 -- ---- one use more
 
@@ -27,6 +28,7 @@ pub record AddPre (s : List ℕ) (u n : ℕ) : Type 0 where
   pub node : n < u
   pub uses : getD (row s u usesRow) n 0 < 4294967295
 
+-- the model's one use more
 pub record Added (s : List ℕ) (u n : ℕ) (t : List ℕ) : Type 0 where
   pub only : Only (usesRow ∷ []) u s t
   pub uses : row t u usesRow ≡ oneUseMore n (row s u usesRow)
@@ -83,14 +85,11 @@ pub record LinkedFrom (p : Program) (u j : ℕ) (t : List ℕ) : Type 0 where
   pub no-axis : (i : ℕ) → j ≤ i → i < total p → isRootAt p i ≡ false → getD (row t u rootAxis) i 0 ≡ none
   pub no-sign : (i : ℕ) → j ≤ i → i < total p → isRootAt p i ≡ false → getD (row t u rootSign) i 0 ≡ 0
 
--- the program has these sizes, its references are to its nodes, and the number store has its rows
+-- the program has these sizes, and the number store has its rows
 pub record Sizes (p : Program) (z : Shape) (s : List ℕ) : Type 0 where
   pub sized : Sized z
   pub long : 24 * z .u ≤ length s
-  pub nodes : length (p .nodes) ≡ z .nodes
-  pub operations : length (p .operations) ≡ z .operations
-  pub references : total p ≡ z .operations + 2 * z .qubits
-  pub node : (j : ℕ) → j < total p → referenceAt p j .node < length (p .nodes)
+  pub whole : Whole p z
 
 -- its operations are these records
 pub record OperationsIn (p : Program) (z : Shape) (os : List ℕ) : Type 0 where
@@ -105,20 +104,24 @@ pub record RowsIn (p : Program) (z : Shape) (rs s : List ℕ) : Type 0 where
 
 -- ---- the frame rows, then the operations
 
+-- nothing is linked yet
 pub record RowsPre (p : Program) (z : Shape) (rs s : List ℕ) : Type 0 where
   pub sizes : Sizes p z s
   pub records : RowsIn p z rs s
   pub start : LinkedFrom p (z .u) (total p) s
 
+-- then the frame rows are
 pub record RowsLinked (z : Shape) (rs s t : List ℕ) : Type 0 where
   pub only : Only linkRows (z .u) s t
   pub linked : (p : Program) → RowsPre p z rs s → LinkedFrom p (z .u) (z .operations) t
 
+-- the frame rows are linked
 pub record OperationsPre (p : Program) (z : Shape) (os s : List ℕ) : Type 0 where
   pub sizes : Sizes p z s
   pub records : OperationsIn p z os
   pub start : LinkedFrom p (z .u) (z .operations) s
 
+-- then all references are
 pub record OperationsLinked (z : Shape) (os s t : List ℕ) : Type 0 where
   pub only : Only (usesRow ∷ firstRoot ∷ nextRoot ∷ []) (z .u) s t
   pub linked : (p : Program) → OperationsPre p z os s → LinkedFrom p (z .u) 0 t
@@ -130,6 +133,7 @@ pub record LinkPre (p : Program) (z : Shape) (os rs s : List ℕ) : Type 0 where
   pub operations : OperationsIn p z os
   pub rows : RowsIn p z rs s
 
+-- the links, and for each node how many roots it has
 pub record Links (p : Program) (z : Shape) (t : List ℕ) : Type 0 where
   pub linked : Linked p z t
   pub uses : entries t (z .u) usesRow (z .nodes) ≡ rootCounts (roots p) (z .nodes)

@@ -1,16 +1,29 @@
--- What stands in the number store before packing's first node: links and use counts. Assumes nothing.
+-- What `prepare` demands, and what it leaves in the number store: links and use counts. Assumes nothing.
 use mathlib.Core.Path.{_≡_}
 use mathlib.Core.List.{List, [], _∷_}
-use Prim.Native.Nat.{ℕ}
+use Prim.Native.Nat.{ℕ, _*_, _≤_}
+use lib.ListN.{length}
 use Rattle.model.specs.Roots.{roots}
 use Rattle.model.specs.Packing.{useCounts}
 use Rattle.layout.specs.declared.Shape.{Shape}
 use Rattle.layout.specs.Rows.{mark, acted, relevantRow, usesRow, firstRoot, nextRoot, rootAxis, rootSign, entries}
 use Rattle.layout.specs.Only.{Only}
-use Rattle.records.specs.Given.{programIn}
+use Rattle.layout.specs.Shape.{Sized}
+use Rattle.records.specs.Given.{programIn, Given}
 use Rattle.packing_states.specs.Linked.{Linked}
 
+-- the program is one that Checking passed, and the number store has its rows
+pub record PreparePre (z : Shape) (ns os rs xs : List ℕ) : Type 0 where
+  pub sized : Sized z
+  pub given : Given z ns os rs
+  pub numbers-long : 24 * z .u ≤ length xs
+
+-- the rows that it writes
+abbrev pub preparedRows : List ℕ
+preparedRows = mark ∷ acted ∷ relevantRow ∷ usesRow ∷ firstRoot ∷ nextRoot ∷ rootAxis ∷ rootSign ∷ []
+
+-- each node's roots are linked and each node's uses counted, as the model counts them
 pub record Prepared (z : Shape) (ns os rs s t : List ℕ) : Type 0 where
-  pub only : Only (mark ∷ acted ∷ relevantRow ∷ usesRow ∷ firstRoot ∷ nextRoot ∷ rootAxis ∷ rootSign ∷ []) (z .u) s t
+  pub only : Only preparedRows (z .u) s t
   pub linked : Linked (programIn z ns os rs) z t
   pub uses : entries t (z .u) usesRow (z .nodes) ≡ useCounts (programIn z ns os rs .nodes) (roots (programIn z ns os rs))

@@ -14,7 +14,7 @@ use Rattle.model.specs.Roots.{roots}
 use Rattle.model.specs.Packing.{countUses, useCounts}
 use Rattle.theory.specs.PackedRoots.{ChildrenBefore}
 use Rattle.layout.specs.declared.Shape.{Shape}
-use Rattle.layout.specs.Rows.{mark, acted, relevantRow, usesRow, firstRoot, nextRoot, rootAxis, rootSign, entries}
+use Rattle.layout.specs.Rows.{relevantRow, usesRow, firstRoot, nextRoot, rootAxis, rootSign, entries}
 use Rattle.layout.specs.Only.{Only, only-of, only-then}
 use Rattle.layout.specs.Shape.{Sized}
 use Rattle.records.specs.Records.{nodeRecord, nodeSaid}
@@ -24,26 +24,20 @@ use Rattle.packing_states.specs.ReferenceLaws.{roots-from-le, roots-from-all}
 use Rattle.packing_states.specs.States.{nodeAt}
 use Rattle.packing_states.specs.Counts.{rootCounts, rootCounts-at, rootCounts-length}
 use Rattle.packing_states.specs.Owed.{children-before}
-use Rattle.packing_states.specs.Linked.{Linked}
-use Rattle.packing_states.specs.InMemory.{nodes-count, operations-count, total-is, node-is, operation-reference, row-reference, reference-node}
+use Rattle.packing_states.specs.Linked.{Linked, linked-same}
+use Rattle.packing_states.specs.InMemory.{nodes-count, total-is, node-is, operation-reference, row-reference, given-whole}
 use Rattle.mentions.specs.Relevance.{RelevancePre, Relevance}
 use Rattle.packing_states.specs.Some.{Some}
 use Rattle.roots.specs.Links.{Sizes, LinkPre, Links, RootsLinked}
 use Rattle.roots.specs.UseCounts.{CountPre, UsesCounted}
-use Rattle.roots.specs.Prepared.{Prepared}
+use Rattle.roots.specs.Prepared.{PreparePre, preparedRows, Prepared}
 
 -- counting uses keeps the links
-linked-kept : (p : Program) (z : Shape) (s t : List ℕ) → Only (usesRow ∷ []) (z .u) s t → Linked p z s → Linked p z t
+linked-kept : {p : Program} {z : Shape} {s t : List ℕ} → Only (usesRow ∷ []) (z .u) s t → Linked p z s → Linked p z t
 unfolding member anyOf
-linked-kept p z s t o f = record {
-  first = λ n h. same firstRoot n (o .rows firstRoot (omega arith) refl) ∙ f .first n h;
-  next = λ j h e. same nextRoot j (o .rows nextRoot (omega arith) refl) ∙ f .next j h e;
-  no-axis = λ j h e. same rootAxis j (o .rows rootAxis (omega arith) refl) ∙ f .no-axis j h e;
-  no-sign = λ j h e. same rootSign j (o .rows rootSign (omega arith) refl) ∙ f .no-sign j h e;
-}
-  where
-    same : (r i : ℕ) → row t (z .u) r ≡ row s (z .u) r → getD (row t (z .u) r) i 0 ≡ getD (row s (z .u) r) i 0
-    same r i e = ap (λ (x : List ℕ). getD x i 0) e
+linked-kept o f =
+    linked-same (o .rows firstRoot (omega arith) refl) (o .rows nextRoot (omega arith) refl)
+    (o .rows rootAxis (omega arith) refl) (o .rows rootSign (omega arith) refl) f
 
 -- a node has at most as many roots as there are references
 counts-small : (p : Program) (count m : ℕ) → getD (rootCounts (roots p) count) m 0 ≤ total p
@@ -64,14 +58,7 @@ module _ (z : Shape) (ns os rs s : List ℕ) (sized : Sized z) (given : Given z 
   p = programIn z ns os rs
 
   sizes : Sizes p z s
-  sizes = record {
-    sized = sized;
-    long = long;
-    nodes = nodes-count z ns os rs;
-    operations = operations-count z ns os rs;
-    references = total-is z ns os rs;
-    node = reference-node p (given .fine);
-  }
+  sizes = record { sized = sized; long = long; whole = given-whole given }
 
   pub link-pre : ((n : ℕ) → n < z .nodes → getD (row s (z .u) relevantRow) n 0 ≡ (if relevant p n then 1 else 0)) → LinkPre p z os rs s
   link-pre tells = record {
@@ -105,12 +92,16 @@ module _ (z : Shape) (ns os rs s : List ℕ) (sized : Sized z) (given : Given z 
 
 -- ---- together
 
-module _ (z : Shape) (ns os rs s s₁ : List ℕ) (pre : RelevancePre z ns os rs s) (r : Relevance z ns os rs s s₁) where
+-- relevance does not see the rows
+pub relevance-pre : {z : Shape} {ns os rs s : List ℕ} → PreparePre z ns os rs s → RelevancePre z ns os s
+relevance-pre {rs = rs} pre = record { sized = pre .sized; rows = rs; given = pre .given; numbers-long = pre .numbers-long }
+
+module _ (z : Shape) (ns os rs s s₁ : List ℕ) (pre : PreparePre z ns os rs s) (r : Relevance z ns os s s₁) where
   long₁ : 24 * z .u ≤ length s₁
   long₁ = omega (arith, pre .numbers-long, r .only .long)
 
   links-pre : LinkPre (programIn z ns os rs) z os rs s₁
-  links-pre = link-pre z ns os rs s₁ (pre .sized) (pre .given) long₁ (r .tells)
+  links-pre = link-pre z ns os rs s₁ (pre .sized) (pre .given) long₁ (r .tells rs)
 
   pub then-links : Some (λ (q : Program). LinkPre q z os rs s₁)
   then-links = record { p = programIn z ns os rs; it = links-pre }
@@ -135,9 +126,9 @@ module _ (z : Shape) (ns os rs s s₁ : List ℕ) (pre : RelevancePre z ns os rs
     pub prepared : {t : List ℕ} → UsesCounted ns s₂ (z .u) (z .nodes) t → Prepared z ns os rs s t
     unfolding member anyOf allOf
     prepared {t} c =
-        let rows = mark ∷ acted ∷ relevantRow ∷ usesRow ∷ firstRoot ∷ nextRoot ∷ rootAxis ∷ rootSign ∷ [] in
         record {
-          only = only-then (only-of rows refl (r .only)) (only-then (only-of rows refl (l .only)) (only-of rows refl (c .only)));
-          linked = linked-kept (programIn z ns os rs) z s₂ t (c .only) (links .linked);
+          only = only-then (only-of preparedRows refl (r .only))
+              (only-then (only-of preparedRows refl (l .only)) (only-of preparedRows refl (c .only)));
+          linked = linked-kept (c .only) (links .linked);
           uses = counted c;
         }

@@ -25,6 +25,7 @@ pub record UsePre (ns s : List ℕ) (u n : ℕ) : Type 0 where
   pub first-uses : 2 ≤ nodeRecord ns n .kind → getD (row s u usesRow) (nodeRecord ns n .a) 0 < 4294967294
   pub second-uses : 2 ≤ nodeRecord ns n .kind → getD (row s u usesRow) (nodeRecord ns n .b) 0 < 4294967294
 
+-- node n's turn in the model's count
 pub record ChildrenUsed (ns s : List ℕ) (u n : ℕ) (t : List ℕ) : Type 0 where
   pub only : Only (usesRow ∷ []) u s t
   pub uses : row t u usesRow ≡ countNode n (nodeSaid (nodeRecord ns n)) (row s u usesRow)
@@ -40,6 +41,7 @@ pub record CountPre (ns s : List ℕ) (u count : ℕ) : Type 0 where
   pub children : (n : ℕ) → n < count → ChildrenBefore n (nodeSaid (nodeRecord ns n))
   pub uses : (m : ℕ) → getD (entries s u usesRow count) m 0 ≤ 73727
 
+-- the model's count
 pub record UsesCounted (ns s : List ℕ) (u count : ℕ) (t : List ℕ) : Type 0 where
   pub only : Only (usesRow ∷ []) u s t
   pub uses : entries t u usesRow count ≡ countUses (map nodeOf (chunks 5 count ns)) count (entries s u usesRow count)

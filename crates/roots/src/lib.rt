@@ -2,12 +2,11 @@
 ghost use Prim.Native.Nat.{_*_, _<_, _≤_};
 ghost use lib.ListN.{length};
 ghost use Rattle.model.specs.Program.{Program};
-ghost use Rattle.mentions.specs.Relevance.{RelevancePre};
 ghost use Rattle.records.specs.Records.{operationRecord, rowRecord};
 ghost use Rattle.packing_states.specs.Some.{Some};
 ghost use Rattle.roots.specs.Links.{AddPre, Added, FrontPre, InFront, NoRoot, OperationPre, RowPre, RowLinked};
 ghost use Rattle.roots.specs.Links.{RowsPre, RowsLinked, OperationsPre, OperationsLinked, LinkPre, RootsLinked};
-ghost use Rattle.roots.specs.Prepared.{Prepared};
+ghost use Rattle.roots.specs.Prepared.{PreparePre, Prepared};
 ghost use Rattle.roots.specs.UseCounts.{UsePre, ChildrenUsed, CountPre, UsesCounted};
 use layout::FIRST_ROOT;
 use layout::NEXT_ROOT;
@@ -134,11 +133,11 @@ fn count_uses(nodes: &[u32], numbers: &mut [u32], u: usize, count: usize)
 
 // Everything that packing needs before its first node.
 pub fn prepare(nodes: &[u32], operations: &[u32], rows: &[u32], numbers: &mut [u32], shape: Shape)
-    requires { ⌜ RelevancePre shape (now nodes) (now operations) (now rows) (now numbers) ⌝ }
+    requires { ⌜ PreparePre shape (now nodes) (now operations) (now rows) (now numbers) ⌝ }
     ensures { λ _. ⌜ Prepared shape (now (nodes .entry)) (now (operations .entry)) (now (rows .entry)) (now (numbers .entry))
         (now (numbers .exit)) ⌝ }
 {
-    mentions::relevance(nodes, operations, rows, numbers, shape);
+    mentions::relevance(nodes, operations, numbers, shape);
     link_roots(operations, rows, numbers, shape);
     count_uses(nodes, numbers, shape.u, shape.nodes);
 }

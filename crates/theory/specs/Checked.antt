@@ -136,7 +136,8 @@ angles-small [] h o = omega arith
 angles-small (x ∷ ops) h zero = h .0
 angles-small (x ∷ ops) h (suc o) = angles-small ops (h .1) o
 
-records-length : {A : Type 0} (f : List ℕ → A) (w n : ℕ) (s : List ℕ) → length (map f (chunks w n s)) ≡ n
+-- as many as were counted
+pub records-length : {A : Type 0} (f : List ℕ → A) (w n : ℕ) (s : List ℕ) → length (map f (chunks w n s)) ≡ n
 records-length f w n s = length-map (chunks w n s) f ∙ chunks-length w n s
 
 -- a program has as many nodes as its counts say

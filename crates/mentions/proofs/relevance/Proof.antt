@@ -1,6 +1,6 @@
--- The five calls in turn; what they leave together is shown in Whole. Assumes nothing.
+-- The five calls in turn; what they leave together is shown in RelevanceLaws. Assumes nothing.
 use mathlib.Core.Path.{_∙_}
-use Rattle.mentions.specs.Whole.{nodes-pre, operations-pre, both-long, relevance-told}
+use Rattle.mentions.specs.RelevanceLaws.{nodes-pre, operations-pre, both-long, relevance-told}
 use borrow.Author.Needs.{needs}
 use Rattle.mentions.proofs.relevance.Statement.{statement}
 use Rattle.mentions.proofs.relevance.Tie as tie
@@ -15,7 +15,7 @@ mark-operations-requires : tie.Need-mark-operations-requires
 mark-operations-requires c κs =
     let b = c .before .before .before in
     let a = b .before .before .before .before in
-    let h = a .before .before .before .before .before .before .pre in
+    let h = a .before .before .before .before .before .pre in
     operations-pre h (both-long h (a .clear-row .ensures) (b .clear-row2 .ensures))
 
 mark-down-requires : tie.Need-mark-down-requires
@@ -23,7 +23,7 @@ mark-down-requires c κs =
     let o = c .before .before .before in
     let b = o .before .before .before .before in
     let a = b .before .before .before .before in
-    let h = a .before .before .before .before .before .before .pre in
+    let h = a .before .before .before .before .before .pre in
     nodes-pre h (o .mark-operations .ensures .only .long ∙ both-long h (a .clear-row .ensures) (b .clear-row2 .ensures))
 
 relevant-nodes-requires : tie.Need-relevant-nodes-requires
@@ -32,7 +32,7 @@ relevant-nodes-requires c κs =
     let o = d .before .before .before .before in
     let b = o .before .before .before .before in
     let a = b .before .before .before .before in
-    let h = a .before .before .before .before .before .before .pre in
+    let h = a .before .before .before .before .before .pre in
     nodes-pre h (d .mark-down .ensures .only .long ∙ o .mark-operations .ensures .only .long
     ∙ both-long h (a .clear-row .ensures) (b .clear-row2 .ensures))
 
@@ -46,7 +46,7 @@ returns c =
     let o = d .before .before .before .before in
     let b = o .before .before .before .before in
     let a = b .before .before .before .before in
-    relevance-told (a .before .before .before .before .before .before .pre) (a .clear-row .ensures) (b .clear-row2 .ensures)
+    relevance-told (a .before .before .before .before .before .pre) (a .clear-row .ensures) (b .clear-row2 .ensures)
     (o .mark-operations .ensures) (d .mark-down .ensures) (r .relevant-nodes .ensures)
 
 pub relevance-spec : {M : Type 1} → statement M

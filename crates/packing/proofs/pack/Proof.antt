@@ -2,7 +2,7 @@
 use mathlib.Core.Path.{_∙_}
 use Prim.Native.Nat.{_-_, _<_}
 use Rattle.packing.specs.Holding.{Left}
-use Rattle.packing.specs.Roots.{left-then}
+use Rattle.packing.specs.Turns.{left-then}
 use Rattle.packing.specs.Packing.{AtNode, first-node, node-turn, next-node, granted-prepared, pack-axes, pack-odd, pack-full}
 use native.Mathlib.Omega.{arith}
 use borrow.Author.Needs.{needs}

@@ -8,7 +8,7 @@ use denote.Enum.Declared.{tagOf}
 use Rattle.packing.specs.declared.Slots.{Slots}
 use Rattle.packing.specs.declared.Step.the-variants.{Next}
 use Rattle.packing.specs.Holding.{Left}
-use Rattle.packing.specs.Roots.{left-then}
+use Rattle.packing.specs.Turns.{left-then}
 use Rattle.packing.specs.NodeTurn.{uses-there, node-there, turn-unused, place-there, turn-full, roots-there, turn-roots}
 use Rattle.packing.proofs.Step.{the-type}
 use Rattle.packing.proofs.pack_node.Statement.{statement}

@@ -2,8 +2,9 @@
 use mathlib.Core.Path.{_≡_}
 use Prim.Native.Nat.{suc, _+_, _-_, _*_}
 use Rattle.packing.specs.Holding.{Left}
-use Rattle.packing.specs.Roots.{left-then, Along, referencesLeft, first-there, along-first, phase-there, root-there, next-there}
-use Rattle.packing.specs.Roots.{along-next, next-later, along-odd, along-full, along-end}
+use Rattle.packing.specs.Turns.{left-then}
+use Rattle.packing.specs.RootsLoop.{Along, referencesLeft, first-there, along-first, phase-there, root-there, next-there}
+use Rattle.packing.specs.RootsLoop.{along-next, next-later, along-odd, along-full, along-end}
 use native.Mathlib.Omega.{arith}
 use borrow.Author.Needs.{needs}
 use Rattle.packing.proofs.pack_roots.Statement.{statement}

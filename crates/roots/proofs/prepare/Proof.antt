@@ -1,11 +1,11 @@
 -- Relevance, then links, then uses. Assumes nothing.
-use Rattle.roots.specs.Preparing.{then-links, then-uses, prepared}
+use Rattle.roots.specs.Preparing.{relevance-pre, then-links, then-uses, prepared}
 use borrow.Author.Needs.{needs}
 use Rattle.roots.proofs.prepare.Statement.{statement}
 use Rattle.roots.proofs.prepare.Tie as tie
 
 relevance-requires : tie.Need-relevance-requires
-relevance-requires c κs = search needs
+relevance-requires c κs = relevance-pre (c .before .before .before .before .before .pre)
 
 link-roots-requires : tie.Need-link-roots-requires
 link-roots-requires c κs =

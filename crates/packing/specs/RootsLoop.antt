@@ -7,15 +7,11 @@ use Prim.Native.Nat.{ℕ, zero, suc, _+_, _-_, _*_, _≤_, _<_}
 use native.Mathlib.Omega.{arith}
 use native.Mathlib.Decide.{decLt}
 use lib.ListN.{length, getD}
-use borrow.Author.Tests.{eq-eqb}
 use Rattle.store.specs.Row.{row}
 use Rattle.model.specs.Program.{Program}
 use Rattle.model.specs.Packing.{Pack}
 use Rattle.layout.specs.declared.Shape.{Shape}
 use Rattle.layout.specs.Rows.{firstRoot, nextRoot}
-use Rattle.layout.specs.Only.{only-then}
-use Rattle.layout.specs.Words.{kept-then}
-use Rattle.layout.specs.Shape.{Granted}
 use Rattle.packing_states.specs.References.{referenceAt, total, isRootAt, rootOf, linkFrom}
 use Rattle.packing_states.specs.ReferenceLaws.{link-none, link-some}
 use Rattle.packing_states.specs.States.{within}
@@ -27,27 +23,8 @@ use Rattle.packing.specs.declared.Step.the-variants.{Next, NonHermitianA
 use Rattle.packing.specs.Phases.{PhasePre, phaseIn}
 use Rattle.packing_states.specs.Some.{Some}
 use Rattle.packing.specs.Holding.{Done, Holding, Turned, Left, RootAt, RootsAt}
-use Rattle.packing.specs.RootLaws.{root-is}
-use Rattle.packing.specs.Turns.{turned-next, turned-odd, turned-full, left-none}
-
--- ---- what turns leave, one after the other
-
-pub left-then : {z : Shape} {ws xs ws′ xs′ ws″ xs″ : List ℕ} → Left z ws xs ws′ xs′ → Left z ws′ xs′ ws″ xs″ → Left z ws xs ws″ xs″
-left-then a b = record { words = kept-then (a .words) (b .words); numbers = only-then (a .numbers) (b .numbers) }
-
--- the stores stay as long as refusal 3 asks
-pub granted-left : {z : Shape} {ws xs ws′ xs′ : List ℕ} → Granted z ws xs → Left z ws xs ws′ xs′ → Granted z ws′ xs′
-granted-left g l = record {
-  sized = g .sized;
-  words-long = omega (arith, g .words-long, l .words .long);
-  numbers-long = omega (arith, g .numbers-long, l .numbers .long);
-}
-
--- ---- a root of node n
-
-pub its-root : (p : Program) (n j : ℕ) → isRootAt p j ≡ true → referenceAt p j .node ≡ n → rootOf p n j ≡ true
-unfolding rootOf
-its-root p n j r e = rw (r, eq-eqb (referenceAt p j .node) n e) refl
+use Rattle.packing.specs.RootLaws.{root-is, its-root}
+use Rattle.packing.specs.Turns.{turned-next, turned-odd, turned-full, left-none, left-then, granted-left}
 
 -- ---- between two links
 

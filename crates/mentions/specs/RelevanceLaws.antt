@@ -1,49 +1,34 @@
 -- relevance: what its calls demand, and what they leave together. Assumes nothing.
 use mathlib.Core.Path.{_≡_, refl, sym, ap, ap₂, _∙_}
 use mathlib.Core.Bool.{Bool, false, _&&_, _||_}
-use mathlib.Core.List.{List, [], _∷_, map}
+use mathlib.Core.List.{List, [], _∷_}
 use Prim.Native.Nat.{ℕ, _*_, _≤_, _<_}
 use native.Mathlib.Omega.{arith}
-use lib.ListN.{length, getD, replicate, length-map, length-replicate, getD-replicate}
+use lib.ListN.{length, getD, replicate}
 use Rattle.store.specs.Part.{put}
 use Rattle.store.specs.Row.{row, row-length}
-use Rattle.store.specs.Chunk.{chunks, chunks-length}
 use Rattle.model.specs.Lists.{if_then_else_, allOf, anyOf, member}
-use Rattle.model.specs.Program.{Node, identity, letter, product, Operation, operationOf, programOf}
+use Rattle.model.specs.Program.{Node, identity, letter, product, PauliRef, Operation, programOf}
 use Rattle.model.specs.Results.{noOperation}
 use Rattle.model.specs.Value.{mentionsAt, mentions}
 use Rattle.model.specs.Roots.{actedOn}
-use Rattle.theory.specs.Every.{Every, every-at, every-weaken}
-use Rattle.theory.specs.Checked.{LeafIn, NodeIn}
+use Rattle.theory.specs.Every.{Every, every-weaken}
+use Rattle.theory.specs.Checked.{LeafIn}
 use Rattle.layout.specs.declared.Shape.{Shape}
-use Rattle.layout.specs.Rows.{mark, acted, relevantRow, entries-at, entries-cleared}
-use Rattle.layout.specs.Only.{Only, only-of, only-then, only-put}
+use Rattle.layout.specs.Rows.{mark, acted, relevantRow}
+use Rattle.layout.specs.Only.{Only, only-of, only-then}
 use Rattle.records.specs.Records.{operationSaid, operation-said}
 use Rattle.records.specs.Given.{programIn}
 use Rattle.packing_states.specs.References.{relevant}
+use Rattle.layout.specs.Cleared.{cleared-only, cleared-at}
+use Rattle.packing_states.specs.InMemory.{nodes-count, operations-count, total-is, operation-reference, reference-node}
 use Rattle.mentions.specs.Marks.{isSet, set-zero, someBelow, some-same, some-none, some-any, someMarked}
 use Rattle.mentions.specs.Mentioned.{any-same, any-flatten, mentions-below}
-use Rattle.mentions.specs.Nodes.{nodesIn, NodesPre, nodes-count}
+use Rattle.mentions.specs.Nodes.{nodesIn, NodesPre}
 use Rattle.mentions.specs.Operations.{nodeOfOperation, OperationsPre, MarkedOperations, marked-by}
 use Rattle.mentions.specs.Down.{reaches, MarkedDown}
 use Rattle.mentions.specs.Relevant.{mentionsActed, RelevantNodes}
 use Rattle.mentions.specs.Relevance.{RelevancePre, Relevance}
-
--- ---- clearing
-
-clear-only : {s t : List ℕ} (u r n : ℕ) → 24 * u ≤ length s → r < 24 → n ≤ u → t ≡ put s (r * u) (replicate n 0) → Only (r ∷ []) u s t
-clear-only u r n long l fit e =
-    let k : length {A = ℕ} (replicate n 0) ≡ n = length-replicate n 0 in
-    only-put (replicate n 0) long l (omega arith) e
-
--- the first n entries of a row are cleared
-cleared : (s : List ℕ) {t : List ℕ} (u r n : ℕ) → 24 * u ≤ length s → r < 24 → n ≤ u → t ≡ put s (r * u) (replicate n 0) → (i : ℕ) → i < n
-    → getD (row t u r) i 0 ≡ 0
-cleared s {t} u r n long l fit e i b =
-    let one : Only (r ∷ []) u s t = clear-only u r n long l fit e in
-    sym (entries-at t u r n (let o = one .long in omega arith) l fit i b)
-    ∙ ap (λ (xs : List ℕ). getD xs i 0) (entries-cleared s u r n long l fit e)
-    ∙ getD-replicate n i 0 0 b
 
 -- ---- what the calls demand
 
@@ -52,7 +37,7 @@ leaf-weaken q u h identity l = tt
 leaf-weaken q u h (letter x c) l = (omega (arith, l .0), l .1)
 leaf-weaken q u h (product a p b r) l = tt
 
-module _ {z : Shape} {ns os rs s : List ℕ} (h : RelevancePre z ns os rs s) where
+module _ {z : Shape} {ns os s : List ℕ} (h : RelevancePre z ns os s) where
   pub nodes-fit : z .nodes ≤ z .u
   nodes-fit = omega (arith, h .sized .row)
 
@@ -72,22 +57,16 @@ module _ {z : Shape} {ns os rs s : List ℕ} (h : RelevancePre z ns os rs s) whe
     leaves = every-weaken (LeafIn (z .qubits)) (LeafIn (z .u)) (leaf-weaken (z .qubits) (z .u) qubits-fit) (nodesIn (z .nodes) ns) leaves;
   }
 
-  abbrev operations : List Operation
-  operations = map operationOf (chunks 6 (z .operations) os)
-
-  operations-count : length operations ≡ z .operations
-  operations-count = length-map (chunks 6 (z .operations) os) operationOf ∙ chunks-length 6 (z .operations) os
-
-  operation-node : (i : ℕ) → i < z .operations → getD operations i noOperation .node ≡ nodeOfOperation os i
-  unfolding operationSaid
-  operation-node i b = ap (λ (o : Operation). o .node) (operation-said (z .operations) os i noOperation b (h .given .operations-long))
-
+  -- each operation's node is one of the nodes
   inside : (i : ℕ) → i < z .operations → nodeOfOperation os i < z .nodes
-  unfolding programIn programOf nodesIn
   inside i b =
-      let one : getD operations i noOperation .node < length (nodesIn (z .nodes) ns) =
-      every-at (NodeIn (length (nodesIn (z .nodes) ns))) operations noOperation i (h .given .fine .operations) (omega (arith, operations-count)) in
-      omega (arith, operation-node i b, nodes-count (z .nodes) ns)
+      let rs = h .rows in
+      omega (
+        arith,
+        reference-node (programIn z ns os rs) (h .given .fine) i (omega (arith, total-is z ns os rs)),
+        ap (λ (r : PauliRef). r .node) (operation-reference z ns os rs i b (h .given .operations-long)),
+        nodes-count z ns os rs,
+      )
 
   pub operations-pre : {t : List ℕ} → length t ≡ length s → OperationsPre os (z .u) (z .operations) t
   operations-pre e = record {
@@ -103,13 +82,16 @@ module _ {z : Shape} {ns os rs s : List ℕ} (h : RelevancePre z ns os rs s) whe
     mentioned m = member q (mentionsAt (mentions (nodesIn (z .nodes) ns)) m)
 
     -- some operation's node mentions q
-    operations-mention : member q (actedOn (programIn z ns os rs)) ≡ someBelow (z .operations) (λ j. mentioned (nodeOfOperation os j))
-    unfolding actedOn programIn programOf nodesIn
-    operations-mention =
+    operations-mention : (rs : List ℕ)
+        → member q (actedOn (programIn z ns os rs)) ≡ someBelow (z .operations) (λ j. mentioned (nodeOfOperation os j))
+    unfolding actedOn programIn programOf nodesIn operationSaid
+    operations-mention rs =
+        let operations = programIn z ns os rs .operations in
         any-flatten q (λ (o : Operation). mentionsAt (mentions (nodesIn (z .nodes) ns)) (o .node)) operations
         ∙ some-any (λ (o : Operation). mentioned (o .node)) operations noOperation
-        ∙ ap (λ (n : ℕ). someBelow n (λ j. mentioned (getD operations j noOperation .node))) operations-count
-        ∙ some-same (z .operations) _ _ (λ j b. ap mentioned (operation-node j b))
+        ∙ ap (λ (n : ℕ). someBelow n (λ j. mentioned (getD operations j noOperation .node))) (operations-count z ns os rs)
+        ∙ some-same (z .operations) _ _ (λ j b.
+        ap (λ (o : Operation). mentioned (o .node)) (operation-said (z .operations) os j noOperation b (h .given .operations-long)))
 
     module _ {t v w : List ℕ} (b : q < z .qubits) (long : length t ≡ length s) (unmarked : (m : ℕ) → m < z .nodes → getD (row t (z .u) mark) m 0 ≡ 0)
         (clear : (i : ℕ) → i < z .qubits → getD (row t (z .u) acted) i 0 ≡ 0) (ops : MarkedOperations os (z .u) (z .operations) t v)
@@ -129,31 +111,31 @@ module _ {z : Shape} {ns os rs s : List ℕ} (h : RelevancePre z ns os rs s) whe
       none-marked = some-none (z .nodes) _ (λ m l. ap (λ (x : Bool). x && mentioned m) (set-zero (row t (z .u) mark) m (unmarked m l)))
 
       -- row ACTED tells the qubits that an operation's nodes mention
-      acted-tells : isSet (row w (z .u) acted) q ≡ member q (actedOn (programIn z ns os rs))
+      acted-tells : (rs : List ℕ) → isSet (row w (z .u) acted) q ≡ member q (actedOn (programIn z ns os rs))
       unfolding reaches
-      acted-tells =
+      acted-tells rs =
           down .tells q
           ∙ ap₂ _||_ no-act
           (ap (λ (xs : List ℕ). someMarked (z .nodes) xs mentioned) (ops .marks)
           ∙ marked-by os (z .operations) (z .nodes) (row t (z .u) mark) mentioned wide inside
           ∙ ap (λ (x : Bool). x || someBelow (z .operations) (λ j. mentioned (nodeOfOperation os j))) none-marked)
-          ∙ sym operations-mention
+          ∙ sym (operations-mention rs)
 
 -- ---- together
 
 abbrev three : List ℕ
 three = mark ∷ acted ∷ relevantRow ∷ []
 
-module _ {z : Shape} {ns os rs s a t : List ℕ} (h : RelevancePre z ns os rs s) (marks : a ≡ put s (mark * z .u) (replicate (z .nodes) 0))
+module _ {z : Shape} {ns os s a t : List ℕ} (h : RelevancePre z ns os s) (marks : a ≡ put s (mark * z .u) (replicate (z .nodes) 0))
     (acts : t ≡ put a (acted * z .u) (replicate (z .qubits) 0)) where
   first : Only (mark ∷ []) (z .u) s a
-  first = clear-only (z .u) mark (z .nodes) (h .numbers-long) (omega arith) (nodes-fit h) marks
+  first = cleared-only s (z .u) mark (z .nodes) (h .numbers-long) (omega arith) (nodes-fit h) marks
 
   first-long : 24 * z .u ≤ length a
   first-long = let l = first .long in let k = h .numbers-long in omega arith
 
   second : Only (acted ∷ []) (z .u) a t
-  second = clear-only (z .u) acted (z .qubits) first-long (omega arith) (qubits-fit h) acts
+  second = cleared-only a (z .u) acted (z .qubits) first-long (omega arith) (qubits-fit h) acts
 
   pub both-long : length t ≡ length s
   both-long = second .long ∙ first .long
@@ -162,10 +144,10 @@ module _ {z : Shape} {ns os rs s a t : List ℕ} (h : RelevancePre z ns os rs s)
   unfolding member anyOf
   unmarked m b =
       ap (λ (xs : List ℕ). getD xs m 0) (second .rows mark (omega arith) refl)
-      ∙ cleared s (z .u) mark (z .nodes) (h .numbers-long) (omega arith) (nodes-fit h) marks m b
+      ∙ cleared-at s (z .u) mark (z .nodes) (h .numbers-long) (omega arith) (nodes-fit h) marks m b
 
   clear : (i : ℕ) → i < z .qubits → getD (row t (z .u) acted) i 0 ≡ 0
-  clear i b = cleared a (z .u) acted (z .qubits) first-long (omega arith) (qubits-fit h) acts i b
+  clear i b = cleared-at a (z .u) acted (z .qubits) first-long (omega arith) (qubits-fit h) acts i b
 
   module _ {v w x : List ℕ} (ops : MarkedOperations os (z .u) (z .operations) t v) (down : MarkedDown ns (z .u) (z .nodes) v w)
       (last : RelevantNodes ns (z .u) (z .nodes) (z .nodes) w x) where
@@ -175,15 +157,15 @@ module _ {z : Shape} {ns os rs s a t : List ℕ} (h : RelevancePre z ns os rs s)
         only-then (only-of three refl first) (only-then (only-of three refl second) (only-then (only-of three refl (ops .only))
         (only-then (only-of three refl (down .only)) (only-of three refl (last .only)))))
 
-    same : (n : ℕ) → mentionsActed (nodesIn (z .nodes) ns) (row w (z .u) acted) n ≡ relevant (programIn z ns os rs) n
+    same : (rs : List ℕ) (n : ℕ) → mentionsActed (nodesIn (z .nodes) ns) (row w (z .u) acted) n ≡ relevant (programIn z ns os rs) n
     unfolding mentionsActed relevant programIn programOf nodesIn
-    same n =
+    same rs n =
         any-same (λ q. q < z .qubits) (isSet (row w (z .u) acted)) (λ q. member q (actedOn (programIn z ns os rs)))
-        (λ q b. acted-tells h q b both-long unmarked clear ops down) (mentionsAt (mentions (nodesIn (z .nodes) ns)) n)
+        (λ q b. acted-tells h q b both-long unmarked clear ops down rs) (mentionsAt (mentions (nodesIn (z .nodes) ns)) n)
         (mentions-below (z .qubits) (nodesIn (z .nodes) ns) (leaves h) n)
 
-    pub relevance-told : Relevance z ns os rs s x
+    pub relevance-told : Relevance z ns os s x
     relevance-told = record {
       only = all-only;
-      tells = λ n b. last .tells n b ∙ ap (λ (y : Bool). if y then 1 else 0) (same n);
+      tells = λ rs n b. last .tells n b ∙ ap (λ (y : Bool). if y then 1 else 0) (same rs n);
     }
