@@ -54,8 +54,12 @@ module _ {M : Type 1} (𝓤 : URA M) (H : Heap 𝓤) (A : Atoms 𝓤) (W : Given
   abbrev v : Val
   v = sliceVal (s .ptr) (length (s .now))
 
+  -- the width that the view carries
+  abbrev width : ℕ
+  width = n
+
   abbrev made : Axes
-  made = record { words = s; l = n }
+  made = record { words = s; l = width }
 
   abbrev at : List Val × (List Val × Unit {0})
   at = (v ∷ [], (vint w64 n ∷ [], tt))
@@ -66,7 +70,7 @@ module _ {M : Type 1} (𝓤 : URA M) (H : Heap 𝓤) (A : Atoms 𝓤) (W : Given
   abbrev Own : Fml
   Own = ShrSlice (named 0) κ u64 .own s (v ∷ [])
 
-  exits : n < 2 ^ 64 → ent 𝓤 (onEntry 𝓤 H A f.signature (κ, tt) (q, tt) (s, (n, tt)) at) (Post (T′.lowered made))
+  exits : width < 2 ^ 64 → ent 𝓤 (onEntry 𝓤 H A f.signature (κ, tt) (q, tt) (s, (n, tt)) at) (Post (T′.lowered made))
   exits fits =
       qed W ((‵ (flft κ q) ⊛ ‵ ftrue) ∷ ‵ (owns (ShrSlice (named 0) κ u64 ∷ usize ∷ []) (s, (n, tt)) at) ∷ []) ∵
       suffices ! _ (ends-at 𝓤 H A f.ended stayed (f.clauses 𝓤 H A mem run) W (((κ, tt), (q, tt), tt, (s, (n, tt)), at), tt) (T′.lowered made) made
@@ -74,8 +78,8 @@ module _ {M : Type 1} (𝓤 : URA M) (H : Heap 𝓤) (A : Atoms 𝓤) (W : Given
       frame ! $ fsplit ! $ use1 W (‵ Own ⊛ ‵ Own) (shr-slice-copy 𝓤 H A W (named 0) κ u64 .twice s (v ∷ [])) $ split ! $ move ! (0 ∷ 2 ∷ []) $
       fjoin ! $ frame ! $
       -- [what src owns]: what the fields own together, of it and of at's facts, is what the struct owns
-      nothing ! $ owned ! usize (Is usize) (uint-makes 𝓤 H A W w64) n _ (refl, fits) $ fjoin ! $ move ! (1 ∷ 0 ∷ []) $ fjoin ! $
-      by ! (own-shut 𝓤 H A W (T.the-type α) (T′.the-laws α) (s, (n, tt)))
+      nothing ! $ owned ! usize (Is usize) (uint-makes 𝓤 H A W w64) width _ (refl, fits) $ fjoin ! $ move ! (1 ∷ 0 ∷ []) $ fjoin ! $
+      by ! (own-shut 𝓤 H A W (T.the-type α) (T′.the-laws α) (s, (width, tt)))
 
   module _ (C : Calls 𝓤 H) (Λ : Loops 𝓤 H) where
     walk : Is (ShrSlice (named 0) κ u64) s (v ∷ []) → n < 2 ^ 64
