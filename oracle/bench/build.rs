@@ -1,4 +1,4 @@
-//! Two copies of docs/src in which pack can be called, with its hash and with a scan; and where our library is.
+//! Two copies of docs/src in which pack can be called, with its hash and with a scan.
 
 use std::path::Path;
 
@@ -25,23 +25,4 @@ fn main() {
     layout.circuit();
     layout.pbc("hash", &[&insertions]);
     layout.pbc("scan", &[&insertions, &scan]);
-    link();
-}
-
-/// Our library, from the repository's target folder or from where STATICLIB says.
-fn link() {
-    println!("cargo::rerun-if-env-changed=STATICLIB");
-    let folder = std::env::var("STATICLIB").unwrap_or_else(|_| {
-        let bench = std::env::var("CARGO_MANIFEST_DIR").expect("cargo sets it");
-        format!("{bench}/../../target/staticlib")
-    });
-    let library = Path::new(&folder).join("libpacking_exports.a");
-    sources::rerun_if_changed(&library);
-    assert!(
-        library.exists(),
-        "{} is not there: run `rt staticlib packing_exports` in the repository's root",
-        library.display()
-    );
-    println!("cargo::rustc-link-search=native={folder}");
-    println!("cargo::rustc-link-lib=static=packing_exports");
 }

@@ -1,11 +1,10 @@
-//! The time of packing: ours through the static library, the original's `pack` with its hash, and with a scan in its
-//! place. All three in one run, in turn; what they give must be equal.
-
-mod ours;
+//! The time of packing: ours through the static library, the original's `pack` with a hash (the standard library's), and
+//! with a scan in its place. All three in one run, in turn; what they give must be equal.
 
 use std::time::Duration;
 
 use jobs::Job;
+use ours::{Call, Packing};
 
 include!(concat!(env!("OUT_DIR"), "/src/root.rs"));
 
@@ -13,15 +12,6 @@ const RUNS: usize = 5;
 
 /// How much longer than the original with a scan ours may take.
 const MOST: f64 = 2.0;
-
-/// What packing gives.
-#[derive(PartialEq, Eq)]
-pub struct Packing {
-    /// The stored words, in order of id.
-    words: Vec<u64>,
-    /// Id and sign of each operation, then of each frame row; none for a row that is no root.
-    references: Vec<Option<(u32, i8)>>,
-}
 
 unsafe extern "C" {
     /// C's: microseconds of processor time that this process has used.
@@ -51,14 +41,14 @@ fn main() {
 fn compare(job: &Job) -> f64 {
     let limit = job.options.limit;
     let (hash, scan) = (hash::pbc::to_pbc(job), scan::pbc::to_pbc(job));
-    let mut call = ours::Call::new(job);
+    let mut call = Call::new(job);
     let mut times: [Vec<Duration>; 3] = Default::default();
     let mut axes = 0;
     for _ in 0..RUNS {
         let runs = [
             hash.time_pack(limit),
             scan.time_pack(limit),
-            call.time_pack(),
+            time_ours(&mut call),
         ];
         let given = &runs[0].1;
         assert!(runs[1].1 == *given, "the scan gives something else");
@@ -72,6 +62,14 @@ fn compare(job: &Job) -> f64 {
     print(job, axes, &times)
 }
 
+/// Checking and packing, timed together.
+fn time_ours(call: &mut Call) -> (Duration, Packing) {
+    call.refill();
+    let (took, (answer, axes)) = timed(|| call.run());
+    assert!(answer == 0, "our packing answers {answer}");
+    (took, call.packing(axes))
+}
+
 fn print(job: &Job, axes: usize, times: &[Vec<Duration>; 3]) -> f64 {
     println!(
         "{} qubits, {} nodes, {} operations, {axes} axes; best and median of {RUNS}",
@@ -79,7 +77,7 @@ fn print(job: &Job, axes: usize, times: &[Vec<Duration>; 3]) -> f64 {
         job.nodes.len(),
         job.operations.len()
     );
-    for (name, times) in ["Rust with its hash", "Rust with a scan", "ours"]
+    for (name, times) in ["Rust with a hash", "Rust with a scan", "ours"]
         .iter()
         .zip(times)
     {

@@ -1,10 +1,15 @@
 //! Our packing, through the static library: lent memory, called as C calls it.
 
-use std::time::Duration;
+use jobs::{Job, NO_TARGET};
 
-use jobs::Job;
-
-use super::{Packing, timed};
+/// What packing gives.
+#[derive(PartialEq, Eq)]
+pub struct Packing {
+    /// The stored words, in order of id.
+    pub words: Vec<u64>,
+    /// Id and sign of each operation, then of each frame row; none for a row that is no root.
+    pub references: Vec<Option<(u32, i8)>>,
+}
 
 // A slice is a pointer and a length.
 unsafe extern "C" {
@@ -34,7 +39,7 @@ unsafe extern "C" {
 /// Rows of the number store (crates/layout).
 const ROOT_AXIS: usize = 15;
 const ROOT_SIGN: usize = 16;
-const NONE: u32 = u32::MAX;
+const NO_AXIS: u32 = u32::MAX;
 
 /// A job's records as numbers in a row, and the memory that a call is lent: just as much as refusal 3 asks.
 pub struct Call {
@@ -68,20 +73,28 @@ impl Call {
         }
     }
 
-    /// Checking and packing, timed together.
-    pub fn time_pack(&mut self) -> (Duration, Packing) {
-        // Nothing of an earlier run is left to be taken for this one's.
-        self.words.fill(u64::MAX);
-        self.numbers.fill(u32::MAX);
-        let mut axes = usize::MAX;
-        let (took, answer) = timed(|| self.pack(&mut axes));
-        assert!(answer == 0, "our packing answers {answer}");
-        (took, self.packing(axes))
+    /// What packing gives, or the number of the refusal.
+    pub fn pack(&mut self) -> Result<Packing, u32> {
+        self.refill();
+        let (answer, axes) = self.run();
+        if answer == 0 {
+            Ok(self.packing(axes))
+        } else {
+            Err(answer)
+        }
     }
 
-    fn pack(&mut self, axes: &mut usize) -> u32 {
-        // SAFETY: each pointer comes with the length of the vector it points into, and no two vectors overlap.
-        unsafe {
+    /// Fills the memory with ones: nothing of an earlier run is left to be taken for the next one's.
+    pub fn refill(&mut self) {
+        self.words.fill(u64::MAX);
+        self.numbers.fill(u32::MAX);
+    }
+
+    /// Checking and packing: the answer, and how many axes there are.
+    pub fn run(&mut self) -> (u32, usize) {
+        let mut axes = usize::MAX;
+        // SAFETY: each pointer comes with the length of the vector it points into; no vector that is written overlaps another.
+        let answer = unsafe {
             werdutxa_pack(
                 self.qubits,
                 self.nodes.len() / 5,
@@ -102,15 +115,17 @@ impl Call {
                 self.operations.len(),
                 self.rows.as_ptr(),
                 self.rows.len(),
-                axes,
+                &mut axes,
             )
-        }
+        };
+        (answer, axes)
     }
 
-    fn packing(&self, axes: usize) -> Packing {
+    /// What a run that was accepted with so many axes left.
+    pub fn packing(&self, axes: usize) -> Packing {
         let at = |row: usize, i: usize| self.numbers[row * self.row + i];
         let reference = |i: usize| match (at(ROOT_AXIS, i), at(ROOT_SIGN, i)) {
-            (NONE, _) => None,
+            (NO_AXIS, _) => None,
             (id, 0) => Some((id, 1)),
             (id, 2) => Some((id, -1)),
             (_, sign) => panic!("reference {i} has sign {sign}"),
@@ -126,7 +141,8 @@ impl Call {
 
 fn numbers<const N: usize>(records: &[[i64; N]]) -> Vec<u32> {
     let fields = records.iter().flatten();
+    let number = |&field: &i64| if field == -1 { NO_TARGET } else { field };
     fields
-        .map(|&field| u32::try_from(field).expect("a field is a number"))
+        .map(|field| u32::try_from(number(field)).expect("a field is a number"))
         .collect()
 }
