@@ -23,7 +23,7 @@ below = [
 def wrapped(start, words, between, end):
     lines, line = [], ""
     for word in words:
-        if line and len(start) + len(line) + len(between) + len(word) + len(end) > 150:
+        if line and len(start) + len(line) + len(between) + len(word) + len(end) > 147:
             lines.append(start + line + end)
             line = ""
         line += (between if line else "") + word
@@ -37,7 +37,8 @@ def of(module):
 
 groups = below + [(f"Rattle.model.specs.{module}", of(module)) for module in modules]
 groups = [(module, names) for module, names in groups if names]
-out = ["-- Written by everything.py: `unfolding everything` opens the whole model, so that closed runs compute. Assumes nothing.", "use Prim.Native.Nat.{ℕ}"]
+out = ["-- Written by everything.py: `unfolding everything` opens the whole model, so that closed runs compute. Assumes nothing."]
+out += ["use Prim.Native.Nat.{ℕ}"]
 for module, names in groups:
     out += wrapped(f"use {module}.{{", names, ", ", "}")
 out += ["", "unfoldable pub everything : ℕ"]

@@ -42,7 +42,9 @@ module _ (k : ℤ) (f : SFits w32 k) where
   r8 = toZ w32 (ofZ w32 (remZ (toZ w32 (ofZ w32 k)) (pos 8)))
 
   stored : r8 ≡ remZ k (pos 8)
-  stored = ap (λ (z : ℤ). toZ w32 (ofZ w32 (remZ z (pos 8)))) (toZ-ofZ f) ∙ toZ-ofZ (record { sfits = lt-of-le-of-lt (mag-rem k (pos 8)) (f .sfits) })
+  stored =
+      ap (λ (z : ℤ). toZ w32 (ofZ w32 (remZ z (pos 8)))) (toZ-ofZ f)
+      ∙ toZ-ofZ (record { sfits = lt-of-le-of-lt (mag-rem k (pos 8)) (f .sfits) })
 
   pub r8-below : ltZ r8 (pos 0) ≡ true → r8 +ℤ pos 8 ≡ pos (eighthsOf k)
   r8-below t = ap (λ (z : ℤ). z +ℤ pos 8) stored ∙ below k (sym (ap (λ (z : ℤ). ltZ z (pos 0)) stored) ∙ t)

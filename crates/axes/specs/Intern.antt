@@ -2,6 +2,7 @@
 use mathlib.Core.Path.{_≡_, refl, sym, ap, _∙_}
 use mathlib.Core.List.{List, [], _∷_, _++_}
 use Prim.Native.Nat.{ℕ, _+_, _*_, _≤_, _<_, max}
+use native.Mathlib.Nat.{zero-max}
 use native.Mathlib.Omega.{arith}
 use lib.Dec.{ltb, eqb}
 use lib.ListN.{length}
@@ -10,6 +11,7 @@ use Rattle.store.specs.Part.{put}
 use Rattle.model.specs.Lists.{if_then_else_}
 use Rattle.model.specs.Words.{idOf, Store, intern}
 use Rattle.theory.specs.Cases.{if-true, if-false}
+use Rattle.layout.specs.Words.{axisPlace}
 use Rattle.axes.specs.View.{axesOf, wordAt, axes-length}
 use Rattle.axes.specs.declared.Interned.{Interned}
 use Rattle.axes.specs.declared.Interned.the-variants.{Id, Full}
@@ -20,7 +22,7 @@ sumWith l others n = n * (2 * l) + 2 * l + others
 
 -- what storing demands: the word stands behind the limit, or among the other words that are counted, which end at the limit
 pub record InternPre (l others limit n : ℕ) (s : List ℕ) (at : ℕ) : Type 0 where
-  pub stored : n * (2 * l) ≤ limit
+  pub stored : axisPlace l n ≤ limit
   pub counted : others ≤ limit
   pub inside : limit ≤ length s
   pub word-in : at + 2 * l ≤ length s
@@ -31,16 +33,16 @@ abbrev pub untested : List (List ℕ) → Store
 untested axes = record { axes = axes; peak = 0 }
 
 -- refused where the sum that `intern` tests exceeds the limit
-unfoldable pub answerOf : ℕ → ℕ → ℕ → List (List ℕ) → List ℕ → Interned
-answerOf l others limit axes w = if ltb limit (intern l others (untested axes) w .peak) then Full else Id (idOf axes w)
+unfoldable pub internAnswer : ℕ → ℕ → ℕ → List (List ℕ) → List ℕ → Interned
+internAnswer l others limit axes w = if ltb limit (intern l others (untested axes) w .peak) then Full else Id (idOf axes w)
 
 -- the word store by the answer: a new word is laid behind the n axes
 unfoldable pub laidBy : Interned → ℕ → ℕ → List ℕ → List ℕ → List ℕ
-laidBy (Id id) l n s w = if ltb id n then s else put s (n * (2 * l)) w
+laidBy (Id id) l n s w = if ltb id n then s else put s (axisPlace l n) w
 laidBy Full l n s w = s
 
 pub record Stores (l others limit n : ℕ) (s : List ℕ) (at : ℕ) (r : Interned) (t : List ℕ) : Type 0 where
-  pub answer : r ≡ answerOf l others limit (axesOf l n s) (wordAt l s at)
+  pub answer : r ≡ internAnswer l others limit (axesOf l n s) (wordAt l s at)
   pub words : t ≡ laidBy r l n s (wordAt l s at)
 
 -- ---- the model's `intern`, case by case
@@ -53,9 +55,6 @@ pub intern-new : (l others : ℕ) (st : Store) (w : List ℕ) → length (st .ax
     → intern l others st w ≡ record { axes = st .axes ++ (w ∷ []); peak = max (st .peak) (sumWith l others (length (st .axes))) }
 unfolding intern
 intern-new l others st w h = if-false _ _ (le-ltb _ _ h)
-
-zero-max : (k : ℕ) → max 0 k ≡ k
-zero-max k = omega arith
 
 -- ---- the answer and the word store, case by case
 
@@ -70,19 +69,19 @@ module _ (l others limit n : ℕ) (s w : List ℕ) where
       e ∙ ap (λ (k : ℕ). max 0 (sumWith l others k)) (axes-length l n s) ∙ zero-max (sumWith l others n)
 
   answer-id : intern l others (untested (axesOf l n s)) w .peak ≤ limit
-      → Id (idOf (axesOf l n s) w) ≡ answerOf l others limit (axesOf l n s) w
-  unfolding answerOf
+      → Id (idOf (axesOf l n s) w) ≡ internAnswer l others limit (axesOf l n s) w
+  unfolding internAnswer
   answer-id h = sym (if-false _ _ (le-ltb limit (intern l others (untested (axesOf l n s)) w .peak) h))
 
-  answer-full : limit < intern l others (untested (axesOf l n s)) w .peak → Full ≡ answerOf l others limit (axesOf l n s) w
-  unfolding answerOf
+  answer-full : limit < intern l others (untested (axesOf l n s)) w .peak → Full ≡ internAnswer l others limit (axesOf l n s) w
+  unfolding internAnswer
   answer-full h = sym (if-true _ _ (lt-ltb limit (intern l others (untested (axesOf l n s)) w .peak) h))
 
   pub laid-old : (id : ℕ) → id < n → laidBy (Id id) l n s w ≡ s
   unfolding laidBy
   laid-old id h = if-true _ _ (lt-ltb _ _ h)
 
-  pub laid-new : (id : ℕ) → n ≤ id → laidBy (Id id) l n s w ≡ put s (n * (2 * l)) w
+  pub laid-new : (id : ℕ) → n ≤ id → laidBy (Id id) l n s w ≡ put s (axisPlace l n) w
   unfolding laidBy
   laid-new id h = if-false _ _ (le-ltb _ _ h)
 
@@ -100,21 +99,22 @@ module _ (l others limit n : ℕ) (s : List ℕ) (at id : ℕ) {p : List ℕ} (f
     words = sym (laid-old l others limit n s _ id h);
   }
 
-  pub stores-full : n ≤ id → limit < sumWith l others n → Stores l others limit n s at Full s
-  unfolding laidBy
-  stores-full h k = record {
-    answer = answer-full l others limit n s _ (omega (arith, tested-new l others limit n s (wordAt l s at) (omega (arith, id-of))));
-    words = refl;
-  }
+  -- a new word, behind the axes, which end at b
+  module _ {b : ℕ} (end : b ≡ axisPlace l n) (new : n ≤ id) where
+    pub stores-full : limit < b + 2 * l + others → Stores l others limit n s at Full s
+    unfolding laidBy
+    stores-full k = record {
+      answer = answer-full l others limit n s _ (omega (arith, end, tested-new l others limit n s (wordAt l s at) (omega (arith, id-of))));
+      words = refl;
+    }
 
-  pub stores-new : (t : List ℕ) → n ≤ id → sumWith l others n ≤ limit → t ≡ put s (n * (2 * l)) (wordAt l s at)
-      → Stores l others limit n s at (Id id) t
-  stores-new t h k e = record {
-    answer =
-        ap Id id-of
-        ∙ answer-id l others limit n s _ (omega (arith, tested-new l others limit n s (wordAt l s at) (omega (arith, id-of))));
-    words = e ∙ sym (laid-new l others limit n s _ id h);
-  }
+    pub stores-new : (t : List ℕ) → b + 2 * l + others ≤ limit → t ≡ put s b (wordAt l s at) → Stores l others limit n s at (Id id) t
+    stores-new t k e = record {
+      answer =
+          ap Id id-of
+          ∙ answer-id l others limit n s _ (omega (arith, end, tested-new l others limit n s (wordAt l s at) (omega (arith, id-of))));
+      words = e ∙ ap (λ (m : ℕ). put s m (wordAt l s at)) end ∙ sym (laid-new l others limit n s _ id new);
+    }
 
 -- there is one answer
 pub stores-one : {l others limit n : ℕ} {s : List ℕ} {at : ℕ} {r q : Interned} {t u : List ℕ} → Stores l others limit n s at r t

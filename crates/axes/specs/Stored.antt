@@ -12,6 +12,7 @@ use lib.ListN.{length}
 use Rattle.store.specs.Part.{part, put, part-length, put-length, part-put-apart}
 use Rattle.model.specs.Words.{idOf, Store, intern}
 use Rattle.theory.specs.Ids.{id-le}
+use Rattle.layout.specs.Words.{axisPlace}
 use Rattle.axes.specs.View.{axesOf, wordAt, axes-length, axes-put}
 use Rattle.axes.specs.Intern.{sumWith, InternPre, Stores, intern-old, intern-new, stores-old, stores-full, stores-new, stores-one}
 use Rattle.axes.specs.Intern.{countWith, count-new, count-old}
@@ -20,7 +21,7 @@ use Rattle.axes.specs.declared.Interned.the-variants.{Id, Full}
 
 -- what a word's id means to the caller: the axes in memory are the model's, no tested sum exceeds the limit,
 -- axes and the other words still fit in it, and the words that are counted, and those behind the limit, are as they were
-pub record Accepted (l others limit n : ℕ) (s : List ℕ) (st : Store) (w : List ℕ) (id : ℕ) (t : List ℕ) : Type 0 where
+pub record HasId (l others limit n : ℕ) (s : List ℕ) (st : Store) (w : List ℕ) (id : ℕ) (t : List ℕ) : Type 0 where
   pub id-is : id ≡ idOf (st .axes) w
   pub axes-are : axesOf l (countWith n id) t ≡ intern l others st w .axes
   pub fits : intern l others st w .peak ≤ limit
@@ -29,7 +30,7 @@ pub record Accepted (l others limit n : ℕ) (s : List ℕ) (st : Store) (w : Li
   pub rest : (b m : ℕ) → limit ≤ b + others → b + m ≤ length s → part t b m ≡ part s b m
 
 -- what a refusal means
-pub record Refused (l others limit : ℕ) (s : List ℕ) (st : Store) (w : List ℕ) (t : List ℕ) : Type 0 where
+pub record NoRoom (l others limit : ℕ) (s : List ℕ) (st : Store) (w : List ℕ) (t : List ℕ) : Type 0 where
   pub exceeds : limit < intern l others st w .peak
   pub kept : t ≡ s
 
@@ -62,7 +63,7 @@ module _ (l others limit n : ℕ) (s : List ℕ) (at : ℕ) (pre : InternPre l o
   found = ap (λ (axes : List (List ℕ)). idOf axes (wordAt l s at)) held
 
   old : st .peak ≤ limit → (id : ℕ) → id ≡ idOf (axesOf l n s) (wordAt l s at) → id < n
-      → Accepted l others limit n s st (wordAt l s at) id s
+      → HasId l others limit n s st (wordAt l s at) id s
   old p id e h =
       let k = intern-old l others st (wordAt l s at) (omega (arith, count, found)) in
       record {
@@ -75,7 +76,7 @@ module _ (l others limit n : ℕ) (s : List ℕ) (at : ℕ) (pre : InternPre l o
       }
 
   new : st .peak ≤ limit → (id : ℕ) → id ≡ idOf (axesOf l n s) (wordAt l s at) → id ≡ n → sumWith l others n ≤ limit
-      → Accepted l others limit n s st (wordAt l s at) id (put s (n * (2 * l)) (wordAt l s at))
+      → HasId l others limit n s st (wordAt l s at) id (put s (axisPlace l n) (wordAt l s at))
   new p id e f h =
       let k = intern-new l others st (wordAt l s at) (omega (arith, count, found)) in
       let g : length (wordAt l s at) ≡ 2 * l = part-length s at (2 * l) (pre .word-in) in
@@ -83,47 +84,47 @@ module _ (l others limit n : ℕ) (s : List ℕ) (at : ℕ) (pre : InternPre l o
       record {
         id-is = e ∙ sym found;
         axes-are =
-            ap (λ (c : ℕ). axesOf l c (put s (n * (2 * l)) (wordAt l s at))) (sym (count-new n id f))
+            ap (λ (c : ℕ). axesOf l c (put s (axisPlace l n) (wordAt l s at))) (sym (count-new n id f))
             ∙ axes-put l n s (wordAt l s at) (omega (arith, pre .inside)) g
             ∙ ap (λ (axes : List (List ℕ)). axes ++ (wordAt l s at ∷ [])) (sym held)
             ∙ sym (ap (λ (x : Store). x .axes) k);
         fits = omega (arith, ap (λ (x : Store). x .peak) k, sum);
         room = λ k. subst (λ (c : ℕ). c * (2 * l) + others ≤ limit) (count-new n id f) (omega (arith, one-more l n));
-        long = put-length s (n * (2 * l)) (wordAt l s at) (omega (arith, pre .inside));
-        rest = λ b m i j. part-put-apart s (n * (2 * l)) (wordAt l s at) b m (omega (arith, pre .inside)) j (inl (omega arith));
+        long = put-length s (axisPlace l n) (wordAt l s at) (omega (arith, pre .inside));
+        rest = λ b m i j. part-put-apart s (axisPlace l n) (wordAt l s at) b m (omega (arith, pre .inside)) j (inl (omega arith));
       }
 
-  full : idOf (axesOf l n s) (wordAt l s at) ≡ n → limit < sumWith l others n → Refused l others limit s st (wordAt l s at) s
+  full : idOf (axesOf l n s) (wordAt l s at) ≡ n → limit < sumWith l others n → NoRoom l others limit s st (wordAt l s at) s
   full e h =
       let k = intern-new l others st (wordAt l s at) (omega (arith, count, found)) in
       let sum : sumWith l others (length (st .axes)) ≡ sumWith l others n = ap (sumWith l others) count in
       record { exceeds = omega (arith, ap (λ (x : Store). x .peak) k, sum); kept = refl }
 
-  pub accepted : (r : Interned) (t : List ℕ) → Stores l others limit n s at r t → st .peak ≤ limit → (id : ℕ) → r ≡ Id id
-      → Accepted l others limit n s st (wordAt l s at) id t
-  accepted r t h p id e = go (decLt (idOf (axesOf l n s) (wordAt l s at)) n) (decLt limit (sumWith l others n))
+  pub has-id : (r : Interned) (t : List ℕ) → Stores l others limit n s at r t → st .peak ≤ limit → (id : ℕ) → r ≡ Id id
+      → HasId l others limit n s st (wordAt l s at) id t
+  has-id r t h p id e = go (decLt (idOf (axesOf l n s) (wordAt l s at)) n) (decLt limit (sumWith l others n))
     where
       go : Dec (idOf (axesOf l n s) (wordAt l s at) < n) → Dec (limit < sumWith l others n)
-          → Accepted l others limit n s st (wordAt l s at) id t
+          → HasId l others limit n s st (wordAt l s at) id t
       go (yes a) d =
           let u = stores-one h (stores-old l others limit n s at _ refl refl a) in
-          subst (Accepted l others limit n s st (wordAt l s at) id) (sym (u .1))
+          subst (HasId l others limit n s st (wordAt l s at) id) (sym (u .1))
           (let f : id ≡ idOf (axesOf l n s) (wordAt l s at) = same-id (sym e ∙ u .0) in old p id f (omega arith))
-      go (no a) (yes b) = absurd (no-id (sym (stores-one h (stores-full l others limit n s at _ refl refl (omega arith) b) .0) ∙ e))
+      go (no a) (yes b) = absurd (no-id (sym (stores-one h (stores-full l others limit n s at _ refl refl refl (omega arith) b) .0) ∙ e))
       go (no a) (no b) =
-          let u = stores-one h (stores-new l others limit n s at _ refl refl _ (omega arith) (omega arith) refl) in
+          let u = stores-one h (stores-new l others limit n s at _ refl refl refl (omega arith) _ (omega arith) refl) in
           let f : id ≡ idOf (axesOf l n s) (wordAt l s at) = same-id (sym e ∙ u .0) in
-          subst (Accepted l others limit n s st (wordAt l s at) id) (sym (u .1))
+          subst (HasId l others limit n s st (wordAt l s at) id) (sym (u .1))
           (new p id f (omega (arith, id-le (axesOf l n s) (wordAt l s at), axes-length l n s)) (omega arith))
 
-  pub refused : (r : Interned) (t : List ℕ) → Stores l others limit n s at r t → r ≡ Full → Refused l others limit s st (wordAt l s at) t
-  refused r t h e = go (decLt (idOf (axesOf l n s) (wordAt l s at)) n) (decLt limit (sumWith l others n))
+  pub no-room : (r : Interned) (t : List ℕ) → Stores l others limit n s at r t → r ≡ Full → NoRoom l others limit s st (wordAt l s at) t
+  no-room r t h e = go (decLt (idOf (axesOf l n s) (wordAt l s at)) n) (decLt limit (sumWith l others n))
     where
-      go : Dec (idOf (axesOf l n s) (wordAt l s at) < n) → Dec (limit < sumWith l others n) → Refused l others limit s st (wordAt l s at) t
+      go : Dec (idOf (axesOf l n s) (wordAt l s at) < n) → Dec (limit < sumWith l others n) → NoRoom l others limit s st (wordAt l s at) t
       go (yes a) d = absurd (no-id (sym e ∙ stores-one h (stores-old l others limit n s at _ refl refl a) .0))
       go (no a) (no b) =
-          absurd (no-id (sym e ∙ stores-one h (stores-new l others limit n s at _ refl refl _ (omega arith) (omega arith) refl) .0))
+          absurd (no-id (sym e ∙ stores-one h (stores-new l others limit n s at _ refl refl refl (omega arith) _ (omega arith) refl) .0))
       go (no a) (yes b) =
-          let u = stores-one h (stores-full l others limit n s at _ refl refl (omega arith) b) in
-          subst (Refused l others limit s st (wordAt l s at)) (sym (u .1))
+          let u = stores-one h (stores-full l others limit n s at _ refl refl refl (omega arith) b) in
+          subst (NoRoom l others limit s st (wordAt l s at)) (sym (u .1))
           (full (omega (arith, id-le (axesOf l n s) (wordAt l s at), axes-length l n s)) b)

@@ -1,14 +1,16 @@
--- The axes in the word store, id at id * 2l: `axesOf l n s` is the model's list of the first n. Assumes nothing.
+-- The axes in the word store, id at `axisPlace l id`: `axesOf l n s` is the model's list of the first n. Assumes nothing.
 use mathlib.Core.Path.{_≡_, ap, ap₂, _∙_}
 use mathlib.Core.Bool.{Bool}
 use mathlib.Core.List.{List, [], _∷_, _++_}
-use Prim.Native.Nat.{ℕ, _+_, _*_, _≤_, _<_}
+use Prim.Native.Nat.{ℕ, _+_, _*_, _/_, _≤_, _<_}
+use native.Mathlib.Nat.{mul-div-cancel}
 use native.Mathlib.Omega.{arith}
 use lib.ListN.{length}
 use Rattle.store.specs.Part.{part, put, part-length}
 use Rattle.store.specs.Chunk.{chunks, chunks-length, chunks-at, chunk-in, chunks-apart, chunks-put}
 use Rattle.pauli.specs.Word.{anticommutes}
 use Rattle.model.specs.Words.{wordOf, anticommute}
+use Rattle.layout.specs.Words.{axisPlace}
 
 unfoldable pub axesOf : ℕ → ℕ → List ℕ → List (List ℕ)
 axesOf l n s = chunks (2 * l) n s
@@ -22,19 +24,28 @@ unfolding axesOf
 axes-length l n s = chunks-length (2 * l) n s
 
 -- axis a ends within the axes
-pub axis-in : (l n a : ℕ) → a < n → a * (2 * l) + 2 * l ≤ n * (2 * l)
+pub axis-in : (l n a : ℕ) → a < n → axisPlace l a + 2 * l ≤ axisPlace l n
 axis-in l n a h = chunk-in (2 * l) n a h
 
-pub axis-word : (l n : ℕ) (s : List ℕ) (a : ℕ) → a < n → wordOf (axesOf l n s) a ≡ wordAt l s (a * (2 * l))
+pub axis-word : (l n : ℕ) (s : List ℕ) (a : ℕ) → a < n → wordOf (axesOf l n s) a ≡ wordAt l s (axisPlace l a)
 unfolding axesOf
 axis-word l n s a h = chunks-at (2 * l) n s a h
 
+-- how many words of width l lie in a slice
+unfoldable pub axesIn : ℕ → List ℕ → ℕ
+axesIn l s = length s / (2 * l)
+
+-- a slice that ends where n axes end has n
+pub axes-in : (l n : ℕ) (s : List ℕ) → 0 < l → length s ≡ axisPlace l n → axesIn l s ≡ n
+unfolding axesIn
+axes-in l n s h e = ap (λ (k : ℕ). k / (2 * l)) e ∙ mul-div-cancel n (omega arith)
+
 -- what the code reads as axis a is as long as a word
 pub read-long : (l : ℕ) (s : List ℕ) (a : ℕ) {p : List ℕ} → ((n : ℕ) → a < n → p ≡ wordOf (axesOf l n s) a)
-    → a * (2 * l) + 2 * l ≤ length s → length p ≡ 2 * l
+    → axisPlace l a + 2 * l ≤ length s → length p ≡ 2 * l
 read-long l s a f h =
     let b : a < a + 1 = omega arith in
-    ap length (f (a + 1) b ∙ axis-word l (a + 1) s a b) ∙ part-length s (a * (2 * l)) (2 * l) h
+    ap length (f (a + 1) b ∙ axis-word l (a + 1) s a b) ∙ part-length s (axisPlace l a) (2 * l) h
 
 -- what the code says of the words that it read as axes a and b
 pub read-anticommute : (l : ℕ) (axes : List (List ℕ)) (a b : ℕ) {r : Bool} {p q : List ℕ} → r ≡ anticommutes l p q
@@ -45,14 +56,14 @@ read-anticommute l axes a b e f g = e ∙ ap₂ (anticommutes l) f g
 -- ---- growth
 
 -- a word laid behind the last axis
-pub axes-put : (l n : ℕ) (s w : List ℕ) → n * (2 * l) + 2 * l ≤ length s → length w ≡ 2 * l
-    → axesOf l (n + 1) (put s (n * (2 * l)) w) ≡ axesOf l n s ++ (w ∷ [])
+pub axes-put : (l n : ℕ) (s w : List ℕ) → axisPlace l n + 2 * l ≤ length s → length w ≡ 2 * l
+    → axesOf l (n + 1) (put s (axisPlace l n) w) ≡ axesOf l n s ++ (w ∷ [])
 unfolding axesOf
 axes-put l n s w h e = chunks-put (2 * l) n s w h e
 
 -- ---- what is written behind the axes leaves them
 
-pub axes-apart : (l n : ℕ) (s : List ℕ) (b : ℕ) (w : List ℕ) → b + length w ≤ length s → n * (2 * l) ≤ b
+pub axes-apart : (l n : ℕ) (s : List ℕ) (b : ℕ) (w : List ℕ) → b + length w ≤ length s → axisPlace l n ≤ b
     → axesOf l n (put s b w) ≡ axesOf l n s
 unfolding axesOf
 axes-apart l n s b w h k = chunks-apart (2 * l) n s b w h k

@@ -1,10 +1,12 @@
-// Stored axes: words of 2 l numbers from the start of the word store, axis id at id * 2 l.
+// Stored axes: words of 2 l numbers from the start of the word store, axis id at `layout::axis_at`.
 ghost use mathlib.Core.Path.{_≡_};
 ghost use Prim.Native.Nat.{ℕ, _+_, _*_, _^_, _<_, _≤_};
 ghost use lib.ListN.{length};
 ghost use Rattle.store.specs.Equal.{sameList};
 ghost use Rattle.model.specs.Words.{anticommute, idOf, wordOf};
+ghost use Rattle.layout.specs.Words.{axisPlace};
 ghost use Rattle.axes.specs.View.{axesOf, wordAt};
+ghost use Rattle.axes.specs.Find.{firstNonzero};
 ghost use Rattle.axes.specs.Intern.{InternPre, Stores, countWith};
 use pauli::anticommutes;
 use pauli::same;
@@ -27,15 +29,15 @@ pub fn word_at(words: &[u64], at: usize, l: usize) -> &[u64]
 
 // The word of axis id, inside the store.
 pub fn axis(words: &[u64], id: usize, l: usize) -> &[u64]
-    requires { ⌜ id * (2 * l) + 2 * l ≤ length (now words) ⌝ }
+    requires { ⌜ axisPlace l id + 2 * l ≤ length (now words) ⌝ }
     ensures { λ r. ⌜ ((n : ℕ) → id < n → now r ≡ wordOf (axesOf l n (now (words .entry))) id) ⌝ }
 {
-    word_at(words, id * (2 * l), l)
+    word_at(words, layout::axis_at(l, id), l)
 }
 
 // Whether axes a and b anticommute.
 pub fn anticommute(words: &[u64], a: usize, b: usize, l: usize) -> bool
-    requires { ⌜ (a * (2 * l) + 2 * l ≤ length (now words)) × (b * (2 * l) + 2 * l ≤ length (now words)) ⌝ }
+    requires { ⌜ (axisPlace l a + 2 * l ≤ length (now words)) × (axisPlace l b + 2 * l ≤ length (now words)) ⌝ }
     ensures { λ r. ⌜ ((n : ℕ) → a < n → b < n → r ≡ anticommute l (axesOf l n (now (words .entry))) a b) ⌝ }
 {
     anticommutes(axis(words, a, l), axis(words, b, l), l)
@@ -43,7 +45,7 @@ pub fn anticommute(words: &[u64], a: usize, b: usize, l: usize) -> bool
 
 // The place of the first number of w that is not 0; its length if there is none. Only the time of `find` depends on it.
 fn first_nonzero(w: &[u64]) -> usize
-    ensures { λ r. ⌜ r ≤ length (now (w .entry)) ⌝ }
+    ensures { λ r. ⌜ r ≡ firstNonzero (now (w .entry)) ⌝ }
 {
     for k in 0..w.len() {
         if w[k] != 0 {
@@ -65,7 +67,7 @@ fn same_by(p: &[u64], w: &[u64], k: usize) -> bool
 
 // The id of w among the count axes; count if it is none of them.
 pub fn find(words: &[u64], w: &[u64], count: usize, l: usize) -> usize
-    requires { ⌜ count * (2 * l) ≤ length (now words) ⌝ }
+    requires { ⌜ axisPlace l count ≤ length (now words) ⌝ }
     ensures { λ r. ⌜ r ≡ idOf (axesOf l count (now (words .entry))) (now (w .entry)) ⌝ }
 {
     let k = first_nonzero(w);
@@ -94,7 +96,7 @@ pub fn intern(
         return Interned::Id(id);
     }
     let n = 2 * l;
-    let end = count * n;
+    let end = layout::axis_at(l, count);
     if limit < end + n + others {
         return Interned::Full;
     }
@@ -104,7 +106,7 @@ pub fn intern(
 
 // How many axes there are once id is among them.
 pub fn count_with(count: usize, id: usize) -> usize
-    requires { ⌜ count < 2 ^ 63 ⌝ }
+    requires { ⌜ count + 1 < 2 ^ 64 ⌝ }
     ensures { λ r. ⌜ r ≡ countWith count id ⌝ }
 {
     if id == count { count + 1 } else { count }

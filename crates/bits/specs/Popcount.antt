@@ -55,7 +55,8 @@ pub popcount-xor : (a b : ℕ) → popcount (bitXor a b) + 2 * popcount (bitAnd 
 popcount-xor =
     bin-ind (λ (a : ℕ). (b : ℕ) → popcount (bitXor a b) + 2 * popcount (bitAnd a b) ≡ popcount a + popcount b)
     (λ b. omega (arith, popcount-zero))
-    (λ a ih b. simp (popcount-step (bitXor a b), popcount-step (bitAnd a b), popcount-step a, popcount-step b, xor-half, xor-low, and-half, and-low)
+    (λ a ih b.
+    simp (popcount-step (bitXor a b), popcount-step (bitAnd a b), popcount-step a, popcount-step b, xor-half, xor-low, and-half, and-low)
     (omega (arith, ih (b / 2), differ-sum (low a) (low b))))
 
 -- |(a ^ b) & c| + 2 |a & b & c| = |a & c| + |b & c|

@@ -1,6 +1,5 @@
 -- The answer for one node, kind by kind. Assumes nothing.
 use mathlib.Core.Path.{_≡_, refl, ap, _∙_}
-use mathlib.Core.Bool.{Bool, _||_}
 use mathlib.Core.List.{List}
 use Prim.Native.Nat.{ℕ, zero, suc, _<_}
 use native.Mathlib.Omega.{arith}
@@ -8,7 +7,7 @@ use lib.Dec.{ltb, leb}
 use Rattle.model.specs.declared.Answer.the-variants.{Accepted, BadNode, BadQubit}
 use Rattle.model.specs.Lists.{if_then_else_}
 use Rattle.model.specs.Program.{fieldOf}
-use Rattle.model.specs.Checking.{checkNodeOfKind, checkNode}
+use Rattle.model.specs.Checking.{badProduct, checkNodeOfKind, checkNode}
 
 pub node-identity : (q i : ℕ) (r : List ℕ) → fieldOf r 0 ≡ 0 → checkNode q i r ≡ Accepted
 unfolding checkNode checkNodeOfKind
@@ -31,12 +30,8 @@ node-letter q i r l e = ap (λ (k : ℕ). checkNodeOfKind q i k r) e ∙ go i l
     go zero m = absurd (omega arith)
     go (suc j) m = refl
 
--- whether a product's node i has an unknown phase, or a child that is not below it
-unfoldable pub badProduct : ℕ → List ℕ → Bool
-badProduct i r = ltb 3 (fieldOf r 2) || ltb 3 (fieldOf r 4) || leb i (fieldOf r 1) || leb i (fieldOf r 3)
-
 pub node-product : (q i : ℕ) (r : List ℕ) → 0 < i → fieldOf r 0 ≡ 2 → checkNode q i r ≡ (if badProduct i r then BadNode else Accepted)
-unfolding checkNode checkNodeOfKind badProduct
+unfolding checkNode checkNodeOfKind
 node-product q i r l e = ap (λ (k : ℕ). checkNodeOfKind q i k r) e ∙ go i l
   where
     go : (j : ℕ) → 0 < j → checkNodeOfKind q j 2 r ≡ (if badProduct j r then BadNode else Accepted)

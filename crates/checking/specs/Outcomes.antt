@@ -10,13 +10,11 @@ use lib.Dec.{eqb}
 use lib.ListN.{take, drop}
 use Rattle.store.specs.Part.{part, part-cut}
 use Rattle.store.specs.Chunk.{chunks}
-use Rattle.model.specs.declared.Answer.{Answer}
-use Rattle.model.specs.declared.Answer.the-variants.{Accepted}
 use Rattle.model.specs.Lists.{if_then_else_, anyOf, member}
-use Rattle.model.specs.Interface.{numberOf}
 use Rattle.model.specs.Program.{fieldOf}
 use Rattle.model.specs.Checking.{checkOperation, checkOperations, measured}
-use Rattle.checking.specs.Walk.{recordsFrom, from-first, from-next, from-end, goes-on, stops}
+use Rattle.theory.specs.Cases.{or-right}
+use Rattle.checking.specs.Walk.{recordsFrom, from-first, Walks}
 
 -- the outcomes that the first i operations measure
 unfoldable pub seenBy : ℕ → List ℕ → List ℕ
@@ -43,15 +41,13 @@ pub none-seen : (o : ℕ) (s : List ℕ) → member o (seenBy 0 s) ≡ false
 unfolding seenBy member anyOf
 none-seen o s = refl
 
-or-true : (b c : Bool) → c ≡ true → b || c ≡ true
-or-true true c e = refl
-or-true false c e = e
-
 -- what was seen stays seen
 later : (o d i : ℕ) (s : List ℕ) → member o (seenBy i s) ≡ true → member o (seenBy (d + i) s) ≡ true
 later o zero i s h = ap (λ (j : ℕ). member o (seenBy j s)) (zero-add i) ∙ h
 later o (suc d) i s h =
-    ap (λ (j : ℕ). member o (seenBy j s)) (suc-add d i) ∙ member-suc o (d + i) s ∙ or-true (measuresIt o (part s ((d + i) * 6) 6)) _ (later o d i s h)
+    ap (λ (j : ℕ). member o (seenBy j s)) (suc-add d i)
+    ∙ member-suc o (d + i) s
+    ∙ or-right (measuresIt o (part s ((d + i) * 6) 6)) _ (later o d i s h)
 
 -- a turn of the scan: operation i measures the outcome, or not
 pub seen-here : (o i n : ℕ) (s : List ℕ) (m : Bool) → i < n → m ≡ measuresIt o (take (i * 6 + 6 - i * 6) (drop (i * 6) s)) → m ≡ true
@@ -70,29 +66,11 @@ not-here o i s m e h k =
 pub seen-end : (o i n : ℕ) (s : List ℕ) → i ≡ n → member o (seenBy i s) ≡ false → member o (seenBy n s) ≡ false
 seen-end o i n s e h = ap (λ (j : ℕ). member o (seenBy j s)) (sym e) ∙ h
 
--- ---- one more, the first refusal, the end
+-- ---- the operations, with the outcomes before each
 
-pub operations-next : (c n i : ℕ) (s : List ℕ) (a : Answer) → i < n → a ≡ checkOperation c (seenBy i s) (take (i * 6 + 6 - i * 6) (drop (i * 6) s))
-    → numberOf a ≡ 0
-    → checkOperations c (seenBy i s) (recordsFrom 6 n i s) ≡ checkOperations c (seenBy (i + 1) s) (recordsFrom 6 n (i + 1) s)
+pub operations-walk : (c : ℕ) (s : List ℕ) → Walks 6 s (λ i. checkOperation c (seenBy i s)) (λ i. checkOperations c (seenBy i s))
 unfolding checkOperations seenBy
-operations-next c n i s a l e z =
-    ap (checkOperations c (seenBy i s)) (from-next 6 n i s l)
-    ∙ goes-on _ _ (ap numberOf (sym (e ∙ ap (checkOperation c (seenBy i s)) (part-cut s (i * 6) 6))) ∙ z)
-    ∙ ap (λ (j : ℕ). checkOperations c (seenBy j s) (recordsFrom 6 n (i + 1) s)) (sym (add-one i))
-
-pub operations-stop : (c n i : ℕ) (s : List ℕ) (a : Answer) → i < n → a ≡ checkOperation c (seenBy i s) (take (i * 6 + 6 - i * 6) (drop (i * 6) s))
-    → (numberOf a ≡ 0 → ⊥)
-    → checkOperations c (seenBy i s) (recordsFrom 6 n i s) ≡ a
-unfolding checkOperations
-operations-stop c n i s a l e z =
-    let f = e ∙ ap (checkOperation c (seenBy i s)) (part-cut s (i * 6) 6) in
-    ap (checkOperations c (seenBy i s)) (from-next 6 n i s l) ∙ stops _ _ (λ h. z (ap numberOf f ∙ h)) ∙ sym f
-
-pub operations-end : (c n i : ℕ) (s : List ℕ) → i ≡ n → checkOperations c (seenBy i s) (recordsFrom 6 n i s) ≡ Accepted
-unfolding checkOperations
-operations-end c n i s e =
-    ap (λ (j : ℕ). checkOperations c (seenBy j s) (recordsFrom 6 n j s)) e ∙ ap (checkOperations c (seenBy n s)) (from-end 6 n s)
+operations-walk c s = record { none-left = λ i. refl; next-first = λ i rs. refl }
 
 pub operations-first : (c n : ℕ) (s : List ℕ) → checkOperations c [] (chunks 6 n s) ≡ checkOperations c (seenBy 0 s) (recordsFrom 6 n 0 s)
 unfolding seenBy

@@ -46,16 +46,17 @@ pub stops : (a b : Answer) → (numberOf a ≡ 0 → ⊥) → andThen a b ≡ a
 unfolding andThen if_then_else_
 stops a b n = rw (ne-eqb _ _ n) refl
 
--- ---- one more, the first refusal, the end: `rest` checks the records of w fields that are left, each by `check`
+-- ---- one more, the first refusal, the end: `rest` checks the records of w fields that are left of s, each by `check`
 
 -- `rest` checks the next record, then those behind it
-abbrev pub Walks : (ℕ → List ℕ → Answer) → (ℕ → List (List ℕ) → Answer) → Type 0
-Walks check rest =
-    ((i : ℕ) → rest i [] ≡ Accepted) × ((i : ℕ) (r : List ℕ) (rs : List (List ℕ)) → rest i (r ∷ rs) ≡ andThen (check i r) (rest (suc i) rs))
+pub record Walks (w : ℕ) (s : List ℕ) (check : ℕ → List ℕ → Answer) (rest : ℕ → List (List ℕ) → Answer) : Type 0 where
+  pub none-left : (i : ℕ) → rest i [] ≡ Accepted
+  pub next-first : (i : ℕ) (rs : List (List ℕ)) → rest i (part s (i * w) w ∷ rs) ≡ andThen (check i (part s (i * w) w)) (rest (suc i) rs)
 
-module _ (w : ℕ) (check : ℕ → List ℕ → Answer) (rest : ℕ → List (List ℕ) → Answer) (walks : Walks check rest) (n i : ℕ) (s : List ℕ) where
+module _ {w : ℕ} {s : List ℕ} {check : ℕ → List ℕ → Answer} {rest : ℕ → List (List ℕ) → Answer} (walks : Walks w s check rest)
+    (n i : ℕ) where
   one-more : i < n → rest i (recordsFrom w n i s) ≡ andThen (check i (part s (i * w) w)) (rest (suc i) (recordsFrom w n (i + 1) s))
-  one-more l = ap (rest i) (from-next w n i s l) ∙ walks .1 i (part s (i * w) w) (recordsFrom w n (i + 1) s)
+  one-more l = ap (rest i) (from-next w n i s l) ∙ walks .next-first i (recordsFrom w n (i + 1) s)
 
   pub walk-next : (a : Answer) → i < n → a ≡ check i (take (i * w + w - i * w) (drop (i * w) s)) → numberOf a ≡ 0
       → rest i (recordsFrom w n i s) ≡ rest (i + 1) (recordsFrom w n (i + 1) s)
@@ -71,13 +72,13 @@ module _ (w : ℕ) (check : ℕ → List ℕ → Answer) (rest : ℕ → List (L
       one-more l ∙ stops _ _ (λ h. z (ap numberOf f ∙ h)) ∙ sym f
 
   pub walk-end : i ≡ n → rest i (recordsFrom w n i s) ≡ Accepted
-  walk-end e = ap (λ (j : ℕ). rest j (recordsFrom w n j s)) e ∙ ap (rest n) (from-end w n s) ∙ walks .0 n
+  walk-end e = ap (λ (j : ℕ). rest j (recordsFrom w n j s)) e ∙ ap (rest n) (from-end w n s) ∙ walks .none-left n
 
 -- nodes, and frame rows
-pub nodes-walk : (q : ℕ) → Walks (checkNode q) (checkNodes q)
+pub nodes-walk : (q : ℕ) (s : List ℕ) → Walks 5 s (checkNode q) (checkNodes q)
 unfolding checkNodes
-nodes-walk q = (λ i. refl, λ i r rs. refl)
+nodes-walk q s = record { none-left = λ i. refl; next-first = λ i rs. refl }
 
-pub rows-walk : (c : ℕ) → Walks (checkRow c) (checkRows c)
+pub rows-walk : (c : ℕ) (s : List ℕ) → Walks 4 s (checkRow c) (checkRows c)
 unfolding checkRows
-rows-walk c = (λ i. refl, λ i r rs. refl)
+rows-walk c s = record { none-left = λ i. refl; next-first = λ i rs. refl }

@@ -64,8 +64,8 @@ fn lent_short(
         (lentOf (now (words .entry)) (now (numbers .entry)) (now (operations .entry)) (now (rows .entry))) (o .«max_packed_words») ⌝ }
 {
     let shape = layout::shape_of(c, o.max_packed_words);
-    (words.len() < shape.limit + 16 * shape.l)
-        | (numbers.len() < 24 * shape.u)
+    (words.len() < shape.limit + layout::SCRATCH * shape.l)
+        | (numbers.len() < layout::ROWS * shape.u)
         | (operations.len() < 6 * c.operations)
         | (rows.len() < 8 * c.qubits)
 }

@@ -19,7 +19,8 @@ use Rattle.model.specs.Words.{Value, asValue, scaled, multiply, support, Store}
 use Rattle.model.specs.Clifford.{Images, absorbImage, Touched, absorbWord, letterImage, multiplyImages, wordImage}
 use Rattle.model.specs.Items.{isClifford}
 use Rattle.theory.specs.Cases.{if-true, if-false}
-use Rattle.effect.specs.Phase.{Quarter, q0, q1, q2, q3, Quarterᵃ, odd, neg4, _⊞₄_, add4-zero, quarter, quarter-add, quarter-mod, quarter-count}
+use Rattle.effect.specs.Phase.{Quarter, q0, q1, q2, q3, Quarterᵃ, odd, neg4, _⊞₄_, add4-zero, quarter, quarter-add, quarter-mod}
+use Rattle.effect.specs.Phase.{quarter-count}
 use Rattle.effect.specs.Phase.{count}
 use Rattle.effect.specs.Phase.{count-quarter, odd-half}
 use Rattle.effect.specs.Effect.{pmul}
@@ -107,7 +108,8 @@ module _ (l : ℕ) where
   imageAt d e B a = valueOf l (a .0 ⊞₄ conjAt (packed l) d e B (a .1) .0, conjAt (packed l) d e B (a .1) .1)
 
   absorb-true : {k : ℕ} → Even k → (B : Packed l) (a : Quarter × Packed l)
-      → (if eqb k 4 then scaled 2 (valueOf l a) else scaled (k / 2) (multiply l (asValue (B .0)) (valueOf l a))) ≡ imageAt true (eighth (pos k)) B a
+      → (if eqb k 4 then scaled 2 (valueOf l a) else scaled (k / 2) (multiply l (asValue (B .0)) (valueOf l a)))
+      ≡ imageAt true (eighth (pos k)) B a
   unfolding if_then_else_ scaled multiply phase4 quarter
   absorb-true two B a = λ i. record { turns = count-scaled (a .0) (phase l (B .0) (a .1 .0)) 1 i; word = xorWords (B .0) (a .1 .0) }
   absorb-true four B a = λ i. record { turns = count-add (a .0) 2 i; word = a .1 .0 }
@@ -300,7 +302,8 @@ module _ (l : ℕ) where
 
   -- the model carries a word to its image under one absorbed rotation after the other, word and turns both
   pub bridge : (st : Store) (rs : List Rotation) (w : List ℕ) (h : IsWord l w)
-      → wordImage l (absorbWords (record { store = st; held = [] }) rs .held) w ≡ valueOf l (imageAll (packed l) (map turnOf rs) (q0, (w, h .long)))
+      → wordImage l (absorbWords (record { store = st; held = [] }) rs .held) w
+      ≡ valueOf l (imageAll (packed l) (map turnOf rs) (q0, (w, h .long)))
   unfolding nothing
   bridge st rs w h =
       let F = absorbAll (packed l) (nothing (packed l)) (map turnOf rs) in

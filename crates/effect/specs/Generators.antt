@@ -72,7 +72,8 @@ module _ (H : Setting) where
   bracketOf : (ψ : Quarter → Sgn) → zero4 (bracketTest ψ) ≡ true → Bracket ψ
   bracketOf ψ h P Q f R =
       ap₂ (λ s t. s ⊹ neg t) first (two-at ψ σ Q P f R)
-      ∙ act-diff K (σ (neg4 w) ·ˢ ψ (neg4 ((neg4 u ⊞₄ t) ⊞₄ neg4 w))) (ψ (neg4 v) ·ˢ σ (neg4 ((u ⊞₄ t) ⊞₄ neg4 v))) (σ u ·ˢ ψ (neg4 t)) tested x
+      ∙ act-diff K (σ (neg4 w) ·ˢ ψ (neg4 ((neg4 u ⊞₄ t) ⊞₄ neg4 w))) (ψ (neg4 v) ·ˢ σ (neg4 ((u ⊞₄ t) ⊞₄ neg4 v)))
+      (σ u ·ˢ ψ (neg4 t)) tested x
       ∙ sym (act-mul K (σ u) (ψ (neg4 t)) x) ∙ ap (act K (σ u)) (sym (times-at ψ (P ⊕ Q) f R))
     where
       u : Quarter

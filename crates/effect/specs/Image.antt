@@ -36,7 +36,8 @@ module _ (H : Setting) where
         e : (c ⊞₄ ph B (P ⊕ Q)) ⊞₄ ph P Q ≡ ((c ⊞₄ ph B P) ⊞₄ q0) ⊞₄ ph (B ⊕ P) Q
         e =
             ap (λ t. (c ⊞₄ t) ⊞₄ ph P Q) (ph-mul B P Q)
-            ∙ ab Quarterᵃ (c ∷ ph B P ∷ ph (B ⊕ P) Q ∷ ph P Q ∷ []) ((at 0 ⊞ ((at 1 ⊞ at 2) ⊞ ⊟ at 3)) ⊞ at 3) (((at 0 ⊞ at 1) ⊞ ∅) ⊞ at 2) refl
+            ∙ ab Quarterᵃ (c ∷ ph B P ∷ ph (B ⊕ P) Q ∷ ph P Q ∷ []) ((at 0 ⊞ ((at 1 ⊞ at 2) ⊞ ⊟ at 3)) ⊞ at 3)
+            (((at 0 ⊞ at 1) ⊞ ∅) ⊞ at 2) refl
 
     right : odd (ph B P) ≡ false → ((c ⊞₄ ph B (P ⊕ Q)) ⊞₄ ph P Q, B ⊕ (P ⊕ Q)) ≡ pmul H (q0, P) (c ⊞₄ ph B Q, B ⊕ Q)
     right h = λ i. (e i, left-comm B P Q i)

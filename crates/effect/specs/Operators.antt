@@ -10,7 +10,8 @@ use Rattle.groups.specs.Real.{cos2, sin2, cos2-add, IsReal, rot, rot-real, sum-
 use Rattle.effect.specs.Phase.{Quarter, q0, q1, q2, q3, odd, neg4, Sgn, nil, plus, minus, _·ˢ_, σ, τ}
 use Rattle.effect.specs.Words.{Words, Setting}
 use Rattle.effect.specs.Signs.{act, act-mul, act-add, act-map}
-use Rattle.effect.specs.Effect.{Op, plain, measured, conditional, sums, sumsRoot, times, J, A, rotateAt, rotate, keepAt, measure, signed, given}
+use Rattle.effect.specs.Effect.{Op, plain, measured, conditional, sums, sumsRoot, times, J, A, rotateAt, rotate, keepAt, measure, signed}
+use Rattle.effect.specs.Effect.{given}
 use Rattle.effect.specs.Effect.{step, effect}
 use Rattle.effect.specs.Generators.{times-at, twice-at, times-real}
 
@@ -52,7 +53,8 @@ module _ (H : Setting) where
   moved-at : (e : Eighth) (a c : C) → cos2 K Kr e a ⊹ sin2 K Kr e c ≡ exp2 e a (neg a) c
   moved-at e a c =
       sym (ap (λ t. (dbl K (a ⊹ neg a) ⊹ neg t) ⊹ sin2 K Kr e c) (map-neg K (cos2 K Kr e) (cos2-add K Kr e) a)
-      ∙ lin K Kr (a ∷ cos2 K Kr e a ∷ sin2 K Kr e c ∷ []) ((((at 0 ⊞ ⊟ at 0) ⊞ (at 0 ⊞ ⊟ at 0)) ⊞ ⊟ (⊟ at 1)) ⊞ at 2) (at 1 ⊞ at 2) refl)
+      ∙ lin K Kr (a ∷ cos2 K Kr e a ∷ sin2 K Kr e c ∷ []) ((((at 0 ⊞ ⊟ at 0) ⊞ (at 0 ⊞ ⊟ at 0)) ⊞ ⊟ (⊟ at 1)) ⊞ at 2)
+      (at 1 ⊞ at 2) refl)
 
   rotate-cases : (q : Quarter) (e : Eighth) (a c : C)
       → rotateAt H (odd q) e a (act K (σ (neg4 q)) c) ≡ exp2 e a (act K (σ (neg4 q) ·ˢ σ q) a) (act K (σ (neg4 q)) c)

@@ -48,5 +48,7 @@ module _ (K : Ab) where
     where
       e : toℤ a +ℤ negℤ (toℤ b) ≡ toℤ c
       e =
-          sym (+ℤ-assoc (toℤ a +ℤ negℤ (toℤ b)) (negℤ (toℤ c)) (toℤ c) ∙ ap (λ t. (toℤ a +ℤ negℤ (toℤ b)) +ℤ t) (+ℤ-invl (toℤ c)) ∙ +ℤ-idr
-          (toℤ a +ℤ negℤ (toℤ b))) ∙ ap (λ t. t +ℤ toℤ c) (zero-of ((toℤ a +ℤ negℤ (toℤ b)) +ℤ negℤ (toℤ c)) h) ∙ +ℤ-idl (toℤ c)
+          sym (+ℤ-assoc (toℤ a +ℤ negℤ (toℤ b)) (negℤ (toℤ c)) (toℤ c)
+          ∙ ap (λ t. (toℤ a +ℤ negℤ (toℤ b)) +ℤ t) (+ℤ-invl (toℤ c)) ∙ +ℤ-idr
+          (toℤ a +ℤ negℤ (toℤ b))) ∙ ap (λ t. t +ℤ toℤ c) (zero-of ((toℤ a +ℤ negℤ (toℤ b)) +ℤ negℤ (toℤ c)) h)
+          ∙ +ℤ-idl (toℤ c)

@@ -37,7 +37,8 @@ numbers-append a (suc m) n =
     ap (numbersFrom a) (suc-add m n) ∙ ap (λ xs. a ∷ xs) (numbers-append (suc a) m n ∙ ap (λ b. numbersFrom (suc a) m ++ numbersFrom b n) e)
 
 -- a walk whose steps do nothing
-walk-still : {B : Type 0} (g : B → ℕ → B) (a k : ℕ) → ((i : ℕ) → i < k → (v : B) → g v (a + i) ≡ v) → (v : B) → walk g v (numbersFrom a k) ≡ v
+walk-still : {B : Type 0} (g : B → ℕ → B) (a k : ℕ) → ((i : ℕ) → i < k → (v : B) → g v (a + i) ≡ v) → (v : B)
+    → walk g v (numbersFrom a k) ≡ v
 unfolding walk numbersFrom
 walk-still g a zero h v = refl
 walk-still g a (suc k) h v =

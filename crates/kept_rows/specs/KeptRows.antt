@@ -47,7 +47,8 @@ module _ (l : ℕ) where
 
   carryRows-grows : (p : Pass) (rows : List SignedAxis) → Grows (p .store .axes) (carryRows l p rows .pass .store .axes)
   unfolding carryRows
-  carryRows-grows p rows = by-if (λ (x : Rowed). Grows (p .store .axes) (x .pass .store .axes)) _ _ _ (grows-refl _) (carryRowsFrom-grows p [] rows)
+  carryRows-grows p rows =
+      by-if (λ (x : Rowed). Grows (p .store .axes) (x .pass .store .axes)) _ _ _ (grows-refl _) (carryRowsFrom-grows p [] rows)
 
 -- ---- the passes: items that commute with v become items that commute with v
 
@@ -158,7 +159,8 @@ module _ (p : Program) (fine : Fine p) (hermitian : packed p .refused ≡ false)
         → FreeWork (width (p .qubits)) (valueAt (valuesOf p) (f .node) .word) w
     point-free start = start-free
     point-free (streamed {v} merging h) =
-        streamPass-free l row (node-word p fine (f .node) inside) r merging v (point-well p fine hermitian r h .stored) (point-turns h) (point-free h)
+        streamPass-free l row (node-word p fine (f .node) inside) r merging v (point-well p fine hermitian r h .stored) (point-turns h)
+        (point-free h)
     point-free (exchanged {v} h) = exchangePass-free l row (node-word p fine (f .node) inside) r v (point-free h)
     point-free (layered {v} h) = layeringPass-free l row (node-word p fine (f .node) inside) r v (point-free h)
 
@@ -166,12 +168,14 @@ module _ (p : Program) (fine : Fine p) (hermitian : packed p .refused ≡ false)
     pub point-unmoved : {w : Work} → Reached (width (p .qubits)) r (startOf p) w → (merging : Bool)
         → Unmoved (width (p .qubits)) (valueAt (valuesOf p) (f .node) .word) (stream (width (p .qubits)) r merging (begin (w .store)) (w .items))
     point-unmoved {w} h merging =
-        stream-unmoved l row (node-word p fine (f .node) inside) r merging w (point-well p fine hermitian r h .stored) (point-turns h) (point-free h)
+        stream-unmoved l row (node-word p fine (f .node) inside) r merging w (point-well p fine hermitian r h .stored) (point-turns h)
+        (point-free h)
 
 -- a frame row that is no root is not moved by any stream of the run
 pub row-unmoved : (p : Program) → Fine p → packed p .refused ≡ false → (r : Rules) (f : PauliRef) → In f (p .rows) → isRoot p f ≡ false
     → {v : Work} → Reached (width (p .qubits)) r (startOf p) v → (merging : Bool)
-    → wordImage (width (p .qubits)) (stream (width (p .qubits)) r merging (begin (v .store)) (v .items) .held) (valueAt (valuesOf p) (f .node) .word)
+    → wordImage (width (p .qubits)) (stream (width (p .qubits)) r merging (begin (v .store)) (v .items) .held)
+    (valueAt (valuesOf p) (f .node) .word)
     ≡ asValue (valueAt (valuesOf p) (f .node) .word)
 row-unmoved p fine hermitian r f has kept h merging =
     point-unmoved p fine hermitian f (every-in (RowIn (length (p .nodes))) (p .rows) (fine .rows) f has) kept r h merging .same

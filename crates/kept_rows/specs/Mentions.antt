@@ -1,5 +1,5 @@
 -- A node's value acts only on qubits that the node mentions; so a frame row that is no root commutes with every operation. Assumes nothing.
-use mathlib.Core.Path.{_≡_, refl, ap₂, _∙_}
+use mathlib.Core.Path.{_≡_, refl, sym, ap₂, _∙_}
 use mathlib.Core.Logic.{_⊎_, inl, inr, ⊎-elim}
 use mathlib.Core.Bool.{Bool, true, false, _||_, false≢true}
 use mathlib.Core.List.{List, [], _∷_, _++_, map, flatten}
@@ -17,9 +17,10 @@ use Rattle.model.specs.Lists.{anyOf, member}
 use Rattle.model.specs.Program.{Node, identity, letter, product, Operation, PauliRef, Program}
 use Rattle.model.specs.Words.{Value, asValue, scaled, multiply}
 use Rattle.model.specs.Value.{nodeValue, valueAt, valuesFrom, values, nodeMentions, mentionsAt, mentionsFrom, mentions}
-use Rattle.model.specs.Roots.{actedOn, isRoot}
+use Rattle.model.specs.Roots.{actedOn, relevant, isRoot}
 use Rattle.model.specs.Packing.{valuesOf}
 use Rattle.theory.specs.Cases.{neither}
+use Rattle.theory.specs.Lists.{any-append}
 use Rattle.theory.specs.Every.{Every, every-at, every-unmap}
 use Rattle.theory.specs.Checked.{LeafIn, Fine}
 use Rattle.words_wellformed.specs.Commuting.{apart-commute}
@@ -27,22 +28,14 @@ use Rattle.words_wellformed.specs.PackedWords.{ValueWord, values-words, values-
 
 -- ---- members
 
-any-append : {A : Type 0} (f : A → Bool) (xs ys : List A) → anyOf f (xs ++ ys) ≡ false → (anyOf f xs ≡ false) × (anyOf f ys ≡ false)
-unfolding anyOf
-any-append f [] ys h = (refl, h)
-any-append f (x ∷ xs) ys h =
-    let e = neither (f x) (anyOf f (xs ++ ys)) h in
-    let g = any-append f xs ys (e .1) in
-    (none (f x) (anyOf f xs) (e .0) (g .0), g .1)
-  where
-    none : (a b : Bool) → a ≡ false → b ≡ false → a || b ≡ false
-    none true b h k = h
-    none false b h k = k
+-- a test that fails for all of two lists, one behind the other
+none-append : {A : Type 0} (f : A → Bool) (xs ys : List A) → anyOf f (xs ++ ys) ≡ false → (anyOf f xs ≡ false) × (anyOf f ys ≡ false)
+none-append f xs ys h = neither (anyOf f xs) (anyOf f ys) (sym (any-append f xs ys) ∙ h)
 
 -- neither of two lists has it
 member-append : (q : ℕ) (xs ys : List ℕ) → member q (xs ++ ys) ≡ false → (member q xs ≡ false) × (member q ys ≡ false)
 unfolding member
-member-append q xs ys h = any-append (eqb q) xs ys h
+member-append q xs ys h = none-append (eqb q) xs ys h
 
 member-flatten : (q : ℕ) (xss : List (List ℕ)) → member q (flatten xss) ≡ false → Every (λ xs. member q xs ≡ false) xss
 unfolding flatten
@@ -92,7 +85,8 @@ module _ (l : ℕ) where
   within-one (u ∷ vs) [] v m h k = absurd h
   within-one (u ∷ vs) (n ∷ ms) v m h k = (h .0, within-one vs ms v m (h .1) k)
 
-  node-within : (qubits : ℕ) (f : ℕ → Value) (g : ℕ → List ℕ) (node : Node) → qubits ≤ 64 * l → LeafIn qubits node → ((i : ℕ) → Within (f i) (g i))
+  node-within : (qubits : ℕ) (f : ℕ → Value) (g : ℕ → List ℕ) (node : Node) → qubits ≤ 64 * l → LeafIn qubits node
+      → ((i : ℕ) → Within (f i) (g i))
       → Within (nodeValue l f node) (nodeMentions g node)
   unfolding nodeValue nodeMentions multiply scaled
   node-within qubits f g identity wide leaf h q b m = identity-letter l q
@@ -145,7 +139,8 @@ module _ (p : Program) (fine : Fine p) where
         others [] h = tt
         others (o ∷ ops) h = (value-within p fine (o .node) q b (h .0), others ops (h .1))
 
-        free : member q (actedOn p) ≡ false → Every (λ (o : Operation). member q (mentionsAt (mentions (p .nodes)) (o .node)) ≡ false) (p .operations)
+        free : member q (actedOn p) ≡ false
+            → Every (λ (o : Operation). member q (mentionsAt (mentions (p .nodes)) (o .node)) ≡ false) (p .operations)
         free h =
             let of : Operation → List ℕ = λ o. mentionsAt (mentions (p .nodes)) (o .node) in
             every-unmap (λ xs. member q xs ≡ false) of (p .operations) (member-flatten q (map of (p .operations)) (unfold actedOn in h))
@@ -154,7 +149,7 @@ module _ (p : Program) (fine : Fine p) where
             → (letterAt l (wordAt (f .node)) q ≡ 0) ⊎ Every (λ (o : Operation). letterAt l (wordAt (o .node)) q ≡ 0) (p .operations)
         go true e =
             inr (others (p .operations)
-            (free (any-none (λ i. member i (actedOn p)) q (mentionsAt (mentions (p .nodes)) (f .node)) (unfold isRoot in kept) e)))
+            (free (any-none (λ i. member i (actedOn p)) q (mentionsAt (mentions (p .nodes)) (f .node)) (unfold isRoot relevant in kept) e)))
         go false e = inl (value-within p fine (f .node) q b e)
 
     apart : (ops : List Operation)

@@ -14,7 +14,8 @@ use Rattle.model.specs.Words.{Value, asValue, wordOf, Store}
 use Rattle.model.specs.Clifford.{absorbImage, wordImage}
 use Rattle.model.specs.Items.{rot, Item, rotation, barrier, isClifford}
 use Rattle.model.specs.Stream.{Place, nowhere, at, Pass, withLast, countMerge, setAngle, putOut, leaveZero, axisImage}
-use Rattle.model.specs.Stream.{imageId, carryAxis, absorb, absorbWaitingAt, absorbWaiting, absorbAllWaiting, absorbBlocking, carryRotation, mergeAt}
+use Rattle.model.specs.Stream.{imageId, carryAxis, absorb, absorbWaitingAt, absorbWaiting, absorbAllWaiting, absorbBlocking, carryRotation}
+use Rattle.model.specs.Stream.{mergeAt}
 use Rattle.model.specs.Stream.{putOutRotation, mergeOrPutOut, takeRotation, streamItem, stream, begin}
 use Rattle.theory.specs.Cases.{by-if, on-if, and-left, and-right}
 use Rattle.theory.specs.Every.{Every, every-one, every-set, every-weaken}
@@ -200,7 +201,8 @@ module _ (l : ℕ) (v : List ℕ) where
 
     -- ---- a rotation, carried
 
-    mergeAt-stays : (m : Absorption) (p : Pass) (j a k : ℕ) → Unmoved p → FreeAxis (p .store .axes) a → k ≤ 7 → StaysUnmoved p (mergeAt l m p j a k)
+    mergeAt-stays : (m : Absorption) (p : Pass) (j a k : ℕ) → Unmoved p → FreeAxis (p .store .axes) a → k ≤ 7
+        → StaysUnmoved p (mergeAt l m p j a k)
     unfolding mergeAt
     mergeAt-stays m p j a k u h small =
         on-if (StaysUnmoved p) (isAtOnce m && isClifford k) _ _

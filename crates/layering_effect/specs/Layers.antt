@@ -6,7 +6,8 @@ use Prim.Native.Nat.{ℕ, zero, suc, _+_, _<_}
 use lib.ListN.{length}
 use Rattle.model.specs.Lists.{if_then_else_, keep, isEmpty}
 use Rattle.model.specs.Items.{Rot, isNonzero, dropZeroRots}
-use Rattle.model.specs.Layering.{mergeInto, mergesIn, Layers, Shift, commutesWithAll, joinLayer, joinLayers, moveRotation, moveRotations, sweepFrom}
+use Rattle.model.specs.Layering.{mergeInto, mergesIn, Layers, Shift, commutesWithAll, joinLayer, joinLayers, moveRotation, moveRotations}
+use Rattle.model.specs.Layering.{sweepFrom}
 use Rattle.model.specs.Layering.{sweep}
 use Rattle.model.specs.Layering.{dropZeroLayers, sweepsFrom, height, layerSegment}
 use Rattle.theory.specs.Cases.{by-if, on-if}
@@ -157,7 +158,8 @@ module _ (H : Setting) (l : ℕ) (axes : List (List ℕ)) (A : AxisWords H l axe
       → Shifted (moveRotation l axes s r) next × (both (moveRotation l axes s r) ≋ both s ++ (r ∷ []))
   unfolding moveRotation
   moveRotation-effect s r next h =
-      on-if (λ (t : Shift). Shifted t next × (both t ≋ both s ++ (r ∷ []))) (commutesWithAll l axes (s .layer) r) enters keeps entering (λ e. staying)
+      on-if (λ (t : Shift). Shifted t next × (both t ≋ both s ++ (r ∷ []))) (commutesWithAll l axes (s .layer) r) enters keeps entering
+      (λ e. staying)
     where
       enters : Shift
       enters = record { layer = mergeInto (s .layer) r; stay = s .stay; merged = s .merged + mergesIn (s .layer) r; moved = true }

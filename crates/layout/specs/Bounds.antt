@@ -63,7 +63,8 @@ bounds c most w h k e =
 
 -- slices that are long enough
 pub program-long : (j : Job) → programShort j ≡ false
-    → (5 * j .counts .nodes ≤ length (j .nodes)) × (6 * j .counts .operations ≤ length (j .operations)) × (8 * j .counts .qubits ≤ length (j .rows))
+    → (5 * j .counts .nodes ≤ length (j .nodes)) × (6 * j .counts .operations ≤ length (j .operations))
+    × (8 * j .counts .qubits ≤ length (j .rows))
 unfolding programShort
 program-long j h =
     let a = neither _ _ h in

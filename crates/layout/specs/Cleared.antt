@@ -6,10 +6,10 @@ use native.Mathlib.Omega.{arith}
 use lib.ListN.{length, getD, replicate, length-replicate, getD-replicate}
 use Rattle.store.specs.Part.{put}
 use Rattle.store.specs.Row.{row}
-use Rattle.layout.specs.Rows.{entries-at, entries-cleared}
+use Rattle.layout.specs.Rows.{rowCount, entries-at, entries-cleared}
 use Rattle.layout.specs.Only.{Only, only-put}
 
-module _ (s : List ℕ) {t : List ℕ} (u r n : ℕ) (long : 24 * u ≤ length s) (l : r < 24) (fits : n ≤ u)
+module _ (s : List ℕ) {t : List ℕ} (u r n : ℕ) (long : rowCount * u ≤ length s) (l : r < rowCount) (fits : n ≤ u)
     (e : t ≡ put s (r * u) (replicate n 0)) where
   pub cleared-only : Only (r ∷ []) u s t
   cleared-only = only-put (replicate n 0) long l (omega (arith, length-replicate {A = ℕ} n 0)) e

@@ -13,12 +13,13 @@ use Rattle.store.specs.Part.{put, put-length, put-above}
 use Rattle.store.specs.Row.{row, setEntry, Written, row-in, row-set-other, row-put-other}
 use Rattle.model.specs.Lists.{anyOf, member, allOf}
 use Rattle.theory.specs.Cases.{and-left, and-right}
+use Rattle.layout.specs.Rows.{rowCount}
 
 -- t is s but for the rows rs, of u numbers each; what lies behind the 24 rows is unchanged too
 pub record Only (rs : List ℕ) (u : ℕ) (s t : List ℕ) : Type 0 where
   pub long : length t ≡ length s
-  pub rows : (r : ℕ) → r < 24 → member r rs ≡ false → row t u r ≡ row s u r
-  pub behind : (i : ℕ) → 24 * u ≤ i → getD t i 0 ≡ getD s i 0
+  pub rows : (r : ℕ) → r < rowCount → member r rs ≡ false → row t u r ≡ row s u r
+  pub behind : (i : ℕ) → rowCount * u ≤ i → getD t i 0 ≡ getD s i 0
 
 pub only-none : (rs : List ℕ) (u : ℕ) (s : List ℕ) → Only rs u s s
 only-none rs u s = record { long = refl; rows = λ r h n. refl; behind = λ i h. refl }
@@ -50,19 +51,22 @@ unfolding member anyOf
 other k r n e = true≢false (sym (ap (λ (b : Bool). b || false) (eq-eqb k r e)) ∙ n)
 
 -- an entry is written
-pub only-written : {u r i v : ℕ} {s t : List ℕ} → 24 * u ≤ length s → r < 24 → i < u → Written s u r i v t → Only (r ∷ []) u s t
+pub only-written : {u r i v : ℕ} {s t : List ℕ} → rowCount * u ≤ length s → r < rowCount → i < u → Written s u r i v t → Only (r ∷ []) u s t
 unfolding setEntry
 only-written {u} {r} {i} {v} {s} h l m w = record {
   long = w .long;
-  rows = λ k b n. ap (λ (x : List ℕ). row x u k) (w .store) ∙ row-set-other s u 24 r i v k h b m (other k r n);
+  rows = λ k b n. ap (λ (x : List ℕ). row x u k) (w .store) ∙ row-set-other s u rowCount r i v k h b m (other k r n);
   behind = λ j b.
-      ap (λ (x : List ℕ). getD x j 0) (w .store) ∙ getD-set-other s (r * u + i) j v 0 (omega (arith, row-in u 24 r l));
+      ap (λ (x : List ℕ). getD x j 0) (w .store) ∙ getD-set-other s (r * u + i) j v 0 (omega (arith, row-in u rowCount r l));
 }
 
 -- the front of a row is filled
-pub only-put : {u r : ℕ} {s t : List ℕ} (w : List ℕ) → 24 * u ≤ length s → r < 24 → length w ≤ u → t ≡ put s (r * u) w → Only (r ∷ []) u s t
+pub only-put : {u r : ℕ} {s t : List ℕ} (w : List ℕ) → rowCount * u ≤ length s → r < rowCount → length w ≤ u → t ≡ put s (r * u) w
+    → Only (r ∷ []) u s t
 only-put {u} {r} {s} {t} w h l m e = record {
-  long = ap length e ∙ put-length s (r * u) w (omega (arith, row-in u 24 r l));
-  rows = λ k b n. ap (λ (x : List ℕ). row x u k) e ∙ row-put-other s u 24 r w k h l b m (other k r n);
-  behind = λ j b. ap (λ (x : List ℕ). getD x j 0) e ∙ put-above s (r * u) w (omega (arith, row-in u 24 r l)) j (omega (arith, row-in u 24 r l));
+  long = ap length e ∙ put-length s (r * u) w (omega (arith, row-in u rowCount r l));
+  rows = λ k b n. ap (λ (x : List ℕ). row x u k) e ∙ row-put-other s u rowCount r w k h l b m (other k r n);
+  behind = λ j b.
+      ap (λ (x : List ℕ). getD x j 0) e
+      ∙ put-above s (r * u) w (omega (arith, row-in u rowCount r l)) j (omega (arith, row-in u rowCount r l));
 }

@@ -6,7 +6,12 @@ use native.Mathlib.Omega.{arith}
 use lib.ListN.{length, getD, set, take, drop, replicate, length-replicate}
 use lib.Seq.{length-take-le, getD-take, take-take}
 use Rattle.store.specs.Part.{part, put, part-put-same}
+use Rattle.model.specs.Program.{minusOne}
 use Rattle.store.specs.Row.{row, Written, row-length, row-set, row-in}
+
+-- 01: "numbers below 24 × .." are too few
+abbrev pub rowCount : ℕ
+rowCount = 24
 
 abbrev pub mark : ℕ
 mark = 0
@@ -42,18 +47,18 @@ abbrev pub rootSign : ℕ
 rootSign = 16
 
 -- what stands for the axis of a row that is no root
-abbrev pub none : ℕ
-none = 4294967295
+abbrev pub noAxis : ℕ
+noAxis = minusOne
 
 -- ---- the first n entries of a row
 
 unfoldable pub entries : List ℕ → ℕ → ℕ → ℕ → List ℕ
 entries s u r n = take n (row s u r)
 
-module _ (s : List ℕ) (u r n : ℕ) (long : 24 * u ≤ length s) (l : r < 24) (h : n ≤ u) where
+module _ (s : List ℕ) (u r n : ℕ) (long : rowCount * u ≤ length s) (l : r < rowCount) (h : n ≤ u) where
   pub entries-length : length (entries s u r n) ≡ n
   unfolding entries
-  entries-length = length-take-le n (row s u r) (omega (arith, row-length s u 24 r long l))
+  entries-length = length-take-le n (row s u r) (omega (arith, row-length s u rowCount r long l))
 
   pub entries-at : (i : ℕ) → i < n → getD (entries s u r n) i 0 ≡ getD (row s u r) i 0
   unfolding entries
@@ -63,12 +68,13 @@ module _ (s : List ℕ) (u r n : ℕ) (long : 24 * u ≤ length s) (l : r < 24) 
   pub entries-cleared : {t : List ℕ} → t ≡ put s (r * u) (replicate n 0) → entries t u r n ≡ replicate n 0
   unfolding entries row part
   entries-cleared e =
-      let fit = row-in u 24 r l in
+      let fit = row-in u rowCount r l in
       let k : length {A = ℕ} (replicate n 0) ≡ n = length-replicate n 0 in
       ap (λ (x : List ℕ). take n (take u (drop (r * u) x))) e
       ∙ take-take n u (drop (r * u) (put s (r * u) (replicate n 0))) h
       ∙ part-put-same s (r * u) n (replicate n 0) (omega arith) k
 
 -- an entry is written: the row
-pub written-row : {s t : List ℕ} {u r i v : ℕ} → 24 * u ≤ length s → r < 24 → i < u → Written s u r i v t → row t u r ≡ set (row s u r) i v
-written-row {s} {t} {u} {r} {i} {v} h l k w = ap (λ (x : List ℕ). row x u r) (w .store) ∙ row-set s u 24 r i v h l k
+pub written-row : {s t : List ℕ} {u r i v : ℕ} → rowCount * u ≤ length s → r < rowCount → i < u → Written s u r i v t
+    → row t u r ≡ set (row s u r) i v
+written-row {s} {t} {u} {r} {i} {v} h l k w = ap (λ (x : List ℕ). row x u r) (w .store) ∙ row-set s u rowCount r i v h l k

@@ -15,6 +15,8 @@ use Rattle.model.specs.Checking.{Lent, badCount, wordsAsked, numbersAsked, lent
 use Rattle.theory.specs.Cases.{neither}
 use borrow.Author.Tests.{ltb-false}
 use Rattle.layout.specs.Bounds.{limit-fits, bounds, passed}
+use Rattle.layout.specs.Rows.{rowCount}
+use Rattle.layout.specs.Words.{scratchWidths}
 use Rattle.layout.specs.declared.Shape.{Shape}
 
 -- u: refusal 3 asks for 24 such rows
@@ -46,15 +48,16 @@ pub record Sized (z : Shape) : Type 0 where
   pub row : z .nodes + z .operations + 2 * z .qubits < z .u
   -- so have as many words as the limit holds
   pub words-row : (n : ℕ) → n * (2 * z .l) ≤ z .limit → n < z .u
+  -- 65,535 + 65,535 + 2 × 4,096 + 1,048,576 + 1: the domain's largest counts and limit
   pub u-small : z .u ≤ 1187839
 
 -- the work stores as long as refusal 3 asks
 pub record Granted (z : Shape) (ws xs : List ℕ) : Type 0 where
   pub sized : Sized z
-  pub words-long : z .limit + 16 * z .l ≤ length ws
-  pub numbers-long : 24 * z .u ≤ length xs
+  pub words-long : z .limit + scratchWidths * z .l ≤ length ws
+  pub numbers-long : rowCount * z .u ≤ length xs
 
--- as many words as the limit holds, and one more, have their entries in a row
+-- n words that the limit holds are no more than its div by a word's length
 words-in : (most w n : ℕ) → 0 < w → n * (2 * w) ≤ most → n ≤ most / (2 * w)
 words-in most w n h k = le-div-iff-mul-le (let p : 0 < 2 * w = omega arith in p) .1 k
 

@@ -10,9 +10,26 @@ use lib.ListN.{length, getD}
 use Rattle.store.specs.Part.{Apart, put, put-length, put-above}
 use Rattle.store.specs.Chunk.{chunk-in}
 
+-- where axis id has its word
+abbrev pub axisPlace : ℕ → ℕ → ℕ
+axisPlace l id = id * (2 * l)
+
+-- where the scratch words begin
+abbrev pub scratchPlace : ℕ → ℕ
+scratchPlace limit = limit
+
+-- 01: "words below limit + 16 × l" are too few
+abbrev pub scratchWidths : ℕ
+scratchWidths = 16
+
 -- where slot s has its word
 unfoldable pub slotPlace : ℕ → ℕ → ℕ → ℕ
 slotPlace limit l s = limit - (s * (2 * l) + 2 * l)
+
+-- a slot that fits the limit ends within it
+pub slot-ends : (limit l s : ℕ) → s * (2 * l) + 2 * l ≤ limit → slotPlace limit l s + 2 * l ≤ limit
+unfolding slotPlace
+slot-ends limit l s h = omega arith
 
 -- slot s is among n
 pub slots-le : (l s n : ℕ) → s < n → s * (2 * l) + 2 * l ≤ n * (2 * l)
@@ -21,8 +38,7 @@ slots-le l s n h = chunk-in (2 * l) n s h
 module _ (limit l n : ℕ) (h : n * (2 * l) ≤ limit) where
   -- a slot of n ends within the limit
   pub slot-in : (s : ℕ) → s < n → slotPlace limit l s + 2 * l ≤ limit
-  unfolding slotPlace
-  slot-in s k = omega (arith, slots-le l s n k)
+  slot-in s k = slot-ends limit l s (omega (arith, slots-le l s n k))
 
   -- it is among the n * 2l words that end at the limit
   pub slot-counted : (s : ℕ) → s < n → limit ≤ slotPlace limit l s + n * (2 * l)

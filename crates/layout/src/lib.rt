@@ -1,13 +1,21 @@
 // Where a run keeps its arrays in the number store, and its words in the word store.
 ghost use mathlib.Core.Path.{_≡_};
 ghost use mathlib.Core.Bool.{false};
-ghost use Prim.Native.Nat.{_+_, _*_, _≤_};
+ghost use Prim.Native.Nat.{_+_, _*_, _^_, _≤_, _<_};
 ghost use Rattle.model.specs.Checking.{badCount};
 ghost use Rattle.layout.specs.Shape.{shapeOf};
-ghost use Rattle.layout.specs.Words.{slotPlace};
+ghost use Rattle.layout.specs.Words.{axisPlace, slotPlace, scratchPlace};
 use model::Counts;
 
-// Rows of the number store. Packing: which nodes an operation reaches, by node.
+// 01, refusal 3: the number store has "24 × .." numbers, in rows of u numbers.
+pub const ROWS: usize = 24;
+
+// 01, refusal 3: the word store has "limit + 16 × l" words; the 16 × l behind the limit are scratch.
+pub const SCRATCH: usize = 16;
+
+// Rows of the number store. 0 to 14 are free again after packing; what the passes still need of it stands from row 15 on.
+
+// Which nodes an operation reaches, by node.
 pub const MARK: usize = 0;
 
 // Which qubits an operation's nodes mention, by qubit.
@@ -34,13 +42,14 @@ pub const NODE_PHASE: usize = 7;
 // Slots that are free again; the one freed last is on top.
 pub const FREE: usize = 8;
 
-// A root's axis, by reference; NONE for a row that is no root.
+// A root's axis, by reference; NO_AXIS for a row that is no root.
 pub const ROOT_AXIS: usize = 15;
 
 // A root's sign, 0 or 2 quarter turns, by reference.
 pub const ROOT_SIGN: usize = 16;
 
-pub const NONE: u32 = 4294967295;
+// 01's "-1 there is .. 4,294,967,295".
+pub const NO_AXIS: u32 = 4294967295;
 
 // The sizes of a run: its counts, its word limit, l, and the length u of a row.
 pub struct Shape {
@@ -68,6 +77,15 @@ pub fn shape_of(c: Counts, limit: usize) -> Shape
     }
 }
 
+// Where axis id has its word: axes are counted up from the start.
+pub fn axis_at(l: usize, id: usize) -> usize
+    requires { ⌜ axisPlace l id + 2 * l < 2 ^ 64 ⌝ }
+    ensures { λ r. ⌜ r ≡ axisPlace l id ⌝ }
+{
+    let n = 2 * l;
+    id * n
+}
+
 // Where slot s has its word: slots are counted down from the limit.
 pub fn slot_at(limit: usize, l: usize, s: usize) -> usize
     requires { ⌜ s * (2 * l) + 2 * l ≤ limit ⌝ }
@@ -75,4 +93,11 @@ pub fn slot_at(limit: usize, l: usize, s: usize) -> usize
 {
     let n = 2 * l;
     limit - (s * n + n)
+}
+
+// Where the scratch words begin: behind the limit.
+pub fn scratch_at(limit: usize) -> usize
+    ensures { λ r. ⌜ r ≡ scratchPlace limit ⌝ }
+{
+    return limit;
 }

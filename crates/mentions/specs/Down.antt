@@ -1,4 +1,4 @@
--- mark_from and mark_down: what they demand and leave. Assumes nothing.
+-- mark_from and mark_down: what they leave. Assumes nothing.
 use mathlib.Core.Path.{_≡_, refl, sym, ap, ap₂, _∙_}
 use mathlib.Core.Bool.{Bool, true, false, _&&_, _||_, or-false, or-assoc}
 use mathlib.Core.List.{List, [], _∷_}
@@ -10,16 +10,18 @@ use Rattle.store.specs.Row.{row, row-length, Written}
 use Rattle.model.specs.Lists.{allOf, anyOf, member}
 use Rattle.model.specs.Program.{Node, identity, letter, product}
 use Rattle.model.specs.Value.{nodeMentions, mentionsAt, mentions}
+use Rattle.theory.specs.Lists.{any-append}
 use Rattle.theory.specs.PackedRoots.{ChildrenBefore, Ordered}
 use Rattle.theory.specs.Checked.{LeafIn}
 use Rattle.records.specs.declared.NodeRecord.{NodeRecord}
 use Rattle.records.specs.Records.{nodeRecord, said-identity, said-letter, said-product}
+use Rattle.records.specs.Nodes.{nodesIn, nodeHere, nodes-count, node-here}
 use Rattle.layout.specs.Rows.{mark, acted, written-row}
 use Rattle.layout.specs.Only.{Only, only-none, only-of, only-then, only-written}
+use Rattle.packing_states.specs.NodeRows.{children-here}
 use Rattle.mentions.specs.Marks.{isSet, set-zero, set-nonzero, marked-at, someMarked, someBelow, marked-more}
-use Rattle.mentions.specs.Mentioned.{any-append, mentions-own}
-use Rattle.mentions.specs.Nodes.{nodesIn, nodeHere, NodesPre, NodePre, node-here, nodes-count, children-here, leaf-here}
-use Rattle.mentions.specs.Nodes.{said-here, qubit-inside, first-inside, second-inside}
+use Rattle.mentions.specs.Mentioned.{mentions-own}
+use Rattle.mentions.specs.Nodes.{NodesPre, NodePre, leaf-here, said-here, qubit-inside, children-inside}
 
 -- a marked product marks its children
 unfoldable pub marksFrom : Bool → Node → List ℕ → List ℕ
@@ -92,26 +94,27 @@ module _ {ns : List ℕ} {u n : ℕ} {s : List ℕ} where
       from-letter {t} k w =
           let f = marked in
           let g = said-here ns n x here _ (said-letter x k) in
-          let one = only-written (h .numbers-long) (omega arith) (qubit-inside h x here k) w in
+          let one = only-written (h .node .long) (omega arith) (qubit-inside h x here k) w in
           record {
             only = only-of (mark ∷ acted ∷ []) refl one;
             marks = rw (f, g) (one .rows mark (omega arith) refl);
-            acts = rw (f, g) (written-row (h .numbers-long) (omega arith) (qubit-inside h x here k) w);
+            acts = rw (f, g) (written-row (h .node .long) (omega arith) (qubit-inside h x here k) w);
           }
 
-      pub from-product : {t v : List ℕ} → (x .kind ≡ 0 → ⊥) → (x .kind ≡ 1 → ⊥) → Written s u mark (x .a) 1 v → Written v u mark (x .b) 1 t
-          → MarkedFrom ns u n s t
+      pub from-product : {t v : List ℕ} → (x .kind ≡ 0 → ⊥) → (x .kind ≡ 1 → ⊥)
+          → Written s u mark (x .a) 1 v → Written v u mark (x .b) 1 t → MarkedFrom ns u n s t
       unfolding marksFrom actedFrom allOf member anyOf
       from-product {t} {v} i k w y =
           let f = marked in
           let g = said-here ns n x here _ (said-product x i k) in
-          let one = only-written (h .numbers-long) (omega arith) (first-inside h x here i k) w in
-          let long : 24 * u ≤ length v = (let l = h .numbers-long in let o = one .long in omega arith) in
-          let both = only-then one (only-written long (omega arith) (second-inside h x here i k) y) in
+          let inside = children-inside h x here i k in
+          let one = only-written (h .node .long) (omega arith) (inside .0) w in
+          let long : 24 * u ≤ length v = (let l = h .node .long in let o = one .long in omega arith) in
+          let both = only-then one (only-written long (omega arith) (inside .1) y) in
           record {
             only = only-of (mark ∷ acted ∷ []) refl both;
-            marks = rw (f, g) (written-row long (omega arith) (second-inside h x here i k) y
-                ∙ ap (λ (xs : List ℕ). set xs (x .b) 1) (written-row (h .numbers-long) (omega arith) (first-inside h x here i k) w));
+            marks = rw (f, g) (written-row long (omega arith) (inside .1) y
+                ∙ ap (λ (xs : List ℕ). set xs (x .b) 1) (written-row (h .node .long) (omega arith) (inside .0) w));
             acts = rw (f, g) (both .rows acted (omega arith) refl);
           }
 
@@ -165,14 +168,14 @@ down-step {ns} {u} {count} {n} {s} {t} {v} h z b m w =
     let i = n - 1 in
     let below : i < count = omega arith in
     let next : suc i ≡ n = omega arith in
-    let long : 24 * u ≤ length t = (let l = h .numbers-long in let e = m .only .long in omega arith) in
+    let long : 24 * u ≤ length t = (let l = h .nodes .long in let e = m .only .long in omega arith) in
     let wide : length (row t u acted) ≡ u = row-length t u 24 acted long (omega arith) in
     let wide-marks : length (row t u mark) ≡ u = row-length t u 24 mark long (omega arith) in
     let inside : i < length (nodesIn count ns) = omega (arith, nodes-count count ns) in
-    let fits : i ≤ length (row t u mark) = (let f = h .fits in omega arith) in
+    let fits : i ≤ length (row t u mark) = (let f = h .nodes .fits in omega arith) in
     record {
       only = only-then (m .only) (w .only);
-      same = λ q. rw (w .marks, w .acts) (reach-step (nodesIn count ns) (h .ordered) i inside (row t u mark) (row t u acted) q
-          (isSet (row t u mark) i) (nodeHere ns i) refl (node-here h i below) (rw wide (leaf-here h i below)) (children-here h i below) fits
-          ∙ rw next (m .same q));
+      same = λ q. rw (w .marks, w .acts) (reach-step (nodesIn count ns) (h .nodes .ordered) i inside (row t u mark) (row t u acted) q
+          (isSet (row t u mark) i) (nodeHere ns i) refl (node-here count ns i below) (rw wide (leaf-here h i below))
+          (children-here (h .nodes) i below) fits ∙ rw next (m .same q));
     }

@@ -1,6 +1,6 @@
 -- Marks: entries that are not 0; some number below n passes a test. Assumes nothing.
 use mathlib.Core.Path.{_≡_, refl, sym, ap, ap₂, _∙_}
-use mathlib.Core.Bool.{Bool, true, false, not, _&&_, _||_, or-false, or-assoc}
+use mathlib.Core.Bool.{Bool, true, false, not, _&&_, _||_, or-false, or-assoc, or-comm, and-or-distrib-right}
 use mathlib.Core.List.{List, [], _∷_}
 use Prim.Native.Nat.{ℕ, zero, suc, _<_}
 use native.Mathlib.Omega.{arith}
@@ -97,17 +97,12 @@ some-one (suc n) a f h = go (ℕ-discrete n a) (some-one n a f)
         ∙ ap f e
     go (no k) ih = ap₂ _||_ (ih (omega arith)) (ap (λ (t : Bool). t && f n) (ne-eqb n a k)) ∙ or-false (f a)
 
-or-and : (a b c : Bool) → (a || b) && c ≡ b && c || a && c
-or-and true true true = refl
-or-and true true false = refl
-or-and true false c = refl
-or-and false b c = sym (or-false (b && c))
-
 -- marking a below n adds what f says of a
 pub marked-more : (n a : ℕ) (xs : List ℕ) (f : ℕ → Bool) → a < n → a < length xs → someMarked n (set xs a 1) f ≡ someMarked n xs f || f a
 unfolding someMarked
 marked-more n a xs f h l =
-    some-same n _ (λ m. isSet xs m && f m || eqb m a && f m)
-    (λ m b. ap (λ (t : Bool). t && f m) (marked-at xs a m l) ∙ or-and (eqb m a) (isSet xs m) (f m))
-    ∙ some-or n (λ m. isSet xs m && f m) (λ m. eqb m a && f m)
-    ∙ ap (λ (b : Bool). someBelow n (λ m. isSet xs m && f m) || b) (some-one n a f h)
+    some-same n _ (λ m. eqb m a && f m || isSet xs m && f m)
+    (λ m b. ap (λ (t : Bool). t && f m) (marked-at xs a m l) ∙ and-or-distrib-right (eqb m a) (isSet xs m) (f m))
+    ∙ some-or n (λ m. eqb m a && f m) (λ m. isSet xs m && f m)
+    ∙ ap (λ (b : Bool). b || someBelow n (λ m. isSet xs m && f m)) (some-one n a f h)
+    ∙ or-comm (f a) (someBelow n (λ m. isSet xs m && f m))

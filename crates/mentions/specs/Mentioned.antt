@@ -1,28 +1,24 @@
 -- What each node mentions, from what its children mention; and tests of what is mentioned. Assumes nothing.
-use mathlib.Core.Path.{_≡_, refl, sym, ap, ap₂, _∙_}
-use mathlib.Core.Bool.{Bool, _||_, or-assoc}
+use mathlib.Core.Path.{_≡_, refl, ap, ap₂, _∙_}
+use mathlib.Core.Bool.{Bool, _||_}
 use mathlib.Core.List.{List, [], _∷_, _++_, map, flatten}
-use Prim.Native.Nat.{ℕ, zero, suc, _+_, _<_}
-use native.Mathlib.Nat.{zero-add, add-zero}
-use native.Mathlib.Omega.{arith}
+use Prim.Native.Nat.{ℕ, zero, suc, _<_}
 use lib.Dec.{eqb}
-use lib.ListN.{length, getD, length-append, List·getD-append}
+use lib.ListN.{length, getD}
 use Rattle.model.specs.Lists.{anyOf, member}
 use Rattle.model.specs.Program.{Node, identity, letter, product}
 use Rattle.model.specs.Value.{nodeMentions, mentionsAt, mentionsFrom, mentions}
+use Rattle.theory.specs.Lists.{any-append}
 use Rattle.theory.specs.Every.{Every, every-append, every-one}
 use Rattle.theory.specs.PackedRoots.{ChildrenBefore, Ordered}
+use Rattle.theory.specs.ByNode.{all-own}
 use Rattle.theory.specs.Checked.{LeafIn}
 
 -- ---- tests of lists
 
-pub any-append : {A : Type 0} (f : A → Bool) (xs ys : List A) → anyOf f (xs ++ ys) ≡ anyOf f xs || anyOf f ys
-unfolding anyOf
-any-append f [] ys = refl
-any-append f (x ∷ xs) ys = ap (λ (b : Bool). f x || b) (any-append f xs ys) ∙ sym (or-assoc (f x) (anyOf f xs) (anyOf f ys))
-
 -- tests that agree on the list's numbers
-pub any-same : (P : ℕ → Type 0) (f g : ℕ → Bool) → ((q : ℕ) → P q → f q ≡ g q) → (xs : List ℕ) → Every P xs → anyOf f xs ≡ anyOf g xs
+pub any-same : (P : ℕ → Type 0) (f g : ℕ → Bool) → ((q : ℕ) → P q → f q ≡ g q) → (xs : List ℕ) → Every P xs
+    → anyOf f xs ≡ anyOf g xs
 unfolding anyOf
 any-same P f g h [] e = refl
 any-same P f g h (x ∷ xs) e = ap₂ _||_ (h x (e .0)) (any-same P f g h xs (e .1))
@@ -36,15 +32,6 @@ any-flatten q f (x ∷ xs) =
 
 -- ---- mentions
 
--- what stands already stays
-from-prefix : (before : List (List ℕ)) (rest : List Node) (i : ℕ) → i < length before → mentionsAt (mentionsFrom before rest) i ≡ mentionsAt before i
-unfolding mentionsFrom
-from-prefix before [] i h = refl
-from-prefix before (node ∷ rest) i h =
-    let m = nodeMentions (mentionsAt before) node in
-    from-prefix (before ++ (m ∷ [])) rest i (omega (arith, length-append before (m ∷ [])))
-    ∙ List·getD-append before (m ∷ []) [] i h
-
 -- a node's mentions ask for its children's only
 node-same : (n : ℕ) (f g : ℕ → List ℕ) (node : Node) → ChildrenBefore n node → ((i : ℕ) → i < n → f i ≡ g i)
     → nodeMentions f node ≡ nodeMentions g node
@@ -53,34 +40,11 @@ node-same n f g identity b h = refl
 node-same n f g (letter q c) b h = refl
 node-same n f g (product a p c r) b h = ap₂ _++_ (h a (b .0)) (h c (b .1))
 
-last-at : (xs : List (List ℕ)) (m : List ℕ) → getD (xs ++ (m ∷ [])) (length xs) [] ≡ m
-last-at [] m = refl
-last-at (x ∷ xs) m = last-at xs m
-
-from-own : (before : List (List ℕ)) (rest : List Node) → Ordered (length before) rest → (k : ℕ) → k < length rest
-    → mentionsAt (mentionsFrom before rest) (k + length before) ≡ nodeMentions (mentionsAt (mentionsFrom before rest)) (getD rest k identity)
-unfolding mentionsFrom
-from-own before [] o k h = absurd (omega arith)
-from-own before (node ∷ rest) o zero h =
-    let m = nodeMentions (mentionsAt before) node in
-    let longer = before ++ (m ∷ []) in
-    let long : length longer ≡ length before + 1 = length-append before (m ∷ []) in
-    rw zero-add
-    (from-prefix longer rest (length before) (omega arith) ∙ last-at before m
-    ∙ node-same (length before) (mentionsAt before) (mentionsAt (mentionsFrom longer rest)) node (o .0)
-    (λ i b. sym (from-prefix longer rest i (omega arith) ∙ List·getD-append before (m ∷ []) [] i b)))
-from-own before (node ∷ rest) o (suc k) h =
-    let m = nodeMentions (mentionsAt before) node in
-    let longer = before ++ (m ∷ []) in
-    let long : length longer ≡ suc (length before) = omega (arith, length-append before (m ∷ [])) in
-    let place : k + length longer ≡ suc k + length before = omega arith in
-    rw place at (from-own longer rest (rw long (o .1)) k (omega arith))
-
 -- what a node mentions: its qubit, or what its children mention
 pub mentions-own : (nodes : List Node) → Ordered 0 nodes → (n : ℕ) → n < length nodes
     → mentionsAt (mentions nodes) n ≡ nodeMentions (mentionsAt (mentions nodes)) (getD nodes n identity)
-unfolding mentions
-mentions-own nodes o n h = let e : n + 0 ≡ n = add-zero n in rw e at (from-own [] nodes o n h)
+unfolding mentions mentionsFrom
+mentions-own = all-own [] nodeMentions mentionsFrom (λ before. refl) (λ before node rest. refl) node-same
 
 -- ---- only qubits are mentioned
 

@@ -1,16 +1,13 @@
 -- What `relevance` demands and leaves. Assumes nothing.
-use mathlib.Core.Path.{_≡_}
 use mathlib.Core.List.{List, [], _∷_}
-use Prim.Native.Nat.{ℕ, _*_, _≤_, _<_}
-use lib.ListN.{length, getD}
-use Rattle.store.specs.Row.{row}
-use Rattle.model.specs.Lists.{if_then_else_}
+use Prim.Native.Nat.{ℕ, _*_, _≤_}
+use lib.ListN.{length}
 use Rattle.layout.specs.declared.Shape.{Shape}
 use Rattle.layout.specs.Rows.{mark, acted, relevantRow}
 use Rattle.layout.specs.Only.{Only}
 use Rattle.layout.specs.Shape.{Sized}
 use Rattle.records.specs.Given.{programIn, Given}
-use Rattle.packing_states.specs.References.{relevant}
+use Rattle.packing_states.specs.NodeRows.{TellsRelevant}
 
 -- the nodes and operations are those of a program that Checking passed, whichever its frame rows are
 pub record RelevancePre (z : Shape) (ns os xs : List ℕ) : Type 0 where
@@ -19,8 +16,11 @@ pub record RelevancePre (z : Shape) (ns os xs : List ℕ) : Type 0 where
   pub given : Given z ns os rows
   pub numbers-long : 24 * z .u ≤ length xs
 
--- row RELEVANT tells the relevant nodes, which are the same for all frame rows; only rows MARK, ACTED and RELEVANT are written
+-- the rows that it writes
+abbrev pub relevanceRows : List ℕ
+relevanceRows = mark ∷ acted ∷ relevantRow ∷ []
+
+-- row RELEVANT tells the relevant nodes, which are the same for all frame rows
 pub record Relevance (z : Shape) (ns os s t : List ℕ) : Type 0 where
-  pub only : Only (mark ∷ acted ∷ relevantRow ∷ []) (z .u) s t
-  pub tells : (rs : List ℕ) (n : ℕ) → n < z .nodes
-      → getD (row t (z .u) relevantRow) n 0 ≡ (if relevant (programIn z ns os rs) n then 1 else 0)
+  pub only : Only relevanceRows (z .u) s t
+  pub tells : (rs : List ℕ) → TellsRelevant (programIn z ns os rs) z t

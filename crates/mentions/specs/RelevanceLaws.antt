@@ -11,24 +11,25 @@ use Rattle.model.specs.Lists.{if_then_else_, allOf, anyOf, member}
 use Rattle.model.specs.Program.{Node, identity, letter, product, PauliRef, Operation, programOf}
 use Rattle.model.specs.Results.{noOperation}
 use Rattle.model.specs.Value.{mentionsAt, mentions}
-use Rattle.model.specs.Roots.{actedOn}
+use Rattle.model.specs.Roots.{actedOn, relevant}
 use Rattle.theory.specs.Every.{Every, every-weaken}
 use Rattle.theory.specs.Checked.{LeafIn}
 use Rattle.layout.specs.declared.Shape.{Shape}
-use Rattle.layout.specs.Rows.{mark, acted, relevantRow}
+use Rattle.layout.specs.Rows.{mark, acted}
 use Rattle.layout.specs.Only.{Only, only-of, only-then}
+use Rattle.records.specs.Nodes.{nodesIn}
 use Rattle.records.specs.Records.{operationSaid, operation-said}
 use Rattle.records.specs.Given.{programIn}
-use Rattle.packing_states.specs.References.{relevant}
 use Rattle.layout.specs.Cleared.{cleared-only, cleared-at}
-use Rattle.packing_states.specs.InMemory.{nodes-count, operations-count, total-is, operation-reference, reference-node}
+use Rattle.packing_states.specs.InMemory.{operations-count, operation-reference, reference-node, given-whole}
+use Rattle.packing_states.specs.NodeRows.{given-rows}
 use Rattle.mentions.specs.Marks.{isSet, set-zero, someBelow, some-same, some-none, some-any, someMarked}
 use Rattle.mentions.specs.Mentioned.{any-same, any-flatten, mentions-below}
-use Rattle.mentions.specs.Nodes.{nodesIn, NodesPre}
+use Rattle.mentions.specs.Nodes.{NodesPre}
 use Rattle.mentions.specs.Operations.{nodeOfOperation, OperationsPre, MarkedOperations, marked-by}
 use Rattle.mentions.specs.Down.{reaches, MarkedDown}
 use Rattle.mentions.specs.Relevant.{mentionsActed, RelevantNodes}
-use Rattle.mentions.specs.Relevance.{RelevancePre, Relevance}
+use Rattle.mentions.specs.Relevance.{RelevancePre, relevanceRows, Relevance}
 
 -- ---- what the calls demand
 
@@ -50,10 +51,7 @@ module _ {z : Shape} {ns os s : List ℕ} (h : RelevancePre z ns os s) where
 
   pub nodes-pre : {t : List ℕ} → length t ≡ length s → NodesPre ns (z .u) (z .nodes) t
   nodes-pre e = record {
-    numbers-long = (let l = h .numbers-long in omega arith);
-    nodes-long = h .given .nodes-long;
-    fits = nodes-fit;
-    ordered = unfold programIn programOf nodesIn in (h .given .fine .ordered);
+    nodes = given-rows (h .sized) (h .given) (omega (arith, h .numbers-long));
     leaves = every-weaken (LeafIn (z .qubits)) (LeafIn (z .u)) (leaf-weaken (z .qubits) (z .u) qubits-fit) (nodesIn (z .nodes) ns) leaves;
   }
 
@@ -61,11 +59,12 @@ module _ {z : Shape} {ns os s : List ℕ} (h : RelevancePre z ns os s) where
   inside : (i : ℕ) → i < z .operations → nodeOfOperation os i < z .nodes
   inside i b =
       let rs = h .rows in
+      let w = given-whole (h .given) in
       omega (
         arith,
-        reference-node (programIn z ns os rs) (h .given .fine) i (omega (arith, total-is z ns os rs)),
-        ap (λ (r : PauliRef). r .node) (operation-reference z ns os rs i b (h .given .operations-long)),
-        nodes-count z ns os rs,
+        reference-node (programIn z ns os rs) (w .fine) i (omega (arith, w .references)),
+        ap (λ (r : PauliRef). r .node) (operation-reference z ns os rs i b),
+        w .nodes,
       )
 
   pub operations-pre : {t : List ℕ} → length t ≡ length s → OperationsPre os (z .u) (z .operations) t
@@ -90,12 +89,12 @@ module _ {z : Shape} {ns os s : List ℕ} (h : RelevancePre z ns os s) where
         any-flatten q (λ (o : Operation). mentionsAt (mentions (nodesIn (z .nodes) ns)) (o .node)) operations
         ∙ some-any (λ (o : Operation). mentioned (o .node)) operations noOperation
         ∙ ap (λ (n : ℕ). someBelow n (λ j. mentioned (getD operations j noOperation .node))) (operations-count z ns os rs)
-        ∙ some-same (z .operations) _ _ (λ j b.
-        ap (λ (o : Operation). mentioned (o .node)) (operation-said (z .operations) os j noOperation b (h .given .operations-long)))
+        ∙ some-same (z .operations) _ _ (λ j b. ap (λ (o : Operation). mentioned (o .node)) (operation-said (z .operations) os j b))
 
-    module _ {t v w : List ℕ} (b : q < z .qubits) (long : length t ≡ length s) (unmarked : (m : ℕ) → m < z .nodes → getD (row t (z .u) mark) m 0 ≡ 0)
-        (clear : (i : ℕ) → i < z .qubits → getD (row t (z .u) acted) i 0 ≡ 0) (ops : MarkedOperations os (z .u) (z .operations) t v)
-        (down : MarkedDown ns (z .u) (z .nodes) v w) where
+    module _ {t v w : List ℕ} (b : q < z .qubits) (long : length t ≡ length s)
+        (unmarked : (m : ℕ) → m < z .nodes → getD (row t (z .u) mark) m 0 ≡ 0)
+        (clear : (i : ℕ) → i < z .qubits → getD (row t (z .u) acted) i 0 ≡ 0)
+        (ops : MarkedOperations os (z .u) (z .operations) t v) (down : MarkedDown ns (z .u) (z .nodes) v w) where
       kept : row v (z .u) acted ≡ row t (z .u) acted
       unfolding member anyOf
       kept = ops .only .rows acted (omega arith) refl
@@ -123,9 +122,6 @@ module _ {z : Shape} {ns os s : List ℕ} (h : RelevancePre z ns os s) where
 
 -- ---- together
 
-abbrev three : List ℕ
-three = mark ∷ acted ∷ relevantRow ∷ []
-
 module _ {z : Shape} {ns os s a t : List ℕ} (h : RelevancePre z ns os s) (marks : a ≡ put s (mark * z .u) (replicate (z .nodes) 0))
     (acts : t ≡ put a (acted * z .u) (replicate (z .qubits) 0)) where
   first : Only (mark ∷ []) (z .u) s a
@@ -151,11 +147,12 @@ module _ {z : Shape} {ns os s a t : List ℕ} (h : RelevancePre z ns os s) (mark
 
   module _ {v w x : List ℕ} (ops : MarkedOperations os (z .u) (z .operations) t v) (down : MarkedDown ns (z .u) (z .nodes) v w)
       (last : RelevantNodes ns (z .u) (z .nodes) (z .nodes) w x) where
-    all-only : Only three (z .u) s x
+    all-only : Only relevanceRows (z .u) s x
     unfolding allOf member anyOf
     all-only =
-        only-then (only-of three refl first) (only-then (only-of three refl second) (only-then (only-of three refl (ops .only))
-        (only-then (only-of three refl (down .only)) (only-of three refl (last .only)))))
+        only-then (only-of relevanceRows refl first) (only-then (only-of relevanceRows refl second)
+        (only-then (only-of relevanceRows refl (ops .only)) (only-then (only-of relevanceRows refl (down .only))
+        (only-of relevanceRows refl (last .only)))))
 
     same : (rs : List ℕ) (n : ℕ) → mentionsActed (nodesIn (z .nodes) ns) (row w (z .u) acted) n ≡ relevant (programIn z ns os rs) n
     unfolding mentionsActed relevant programIn programOf nodesIn

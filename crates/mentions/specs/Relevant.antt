@@ -1,4 +1,4 @@
--- relevant and relevant_nodes: what they demand and leave. Assumes nothing.
+-- relevant and relevant_nodes: what they leave. Assumes nothing.
 use mathlib.Core.Path.{_≡_, refl, sym, ap, ap₂, _∙_}
 use mathlib.Core.Bool.{Bool, true, false, not, _||_, or-false}
 use mathlib.Core.List.{List, [], _∷_}
@@ -12,14 +12,17 @@ use Rattle.store.specs.Row.{row, row-length, Written}
 use Rattle.model.specs.Lists.{if_then_else_, anyOf, member}
 use Rattle.model.specs.Program.{Node, identity, letter, product}
 use Rattle.model.specs.Value.{nodeMentions, mentionsAt, mentions}
+use Rattle.theory.specs.Lists.{any-append}
 use Rattle.theory.specs.PackedRoots.{ChildrenBefore, Ordered}
 use Rattle.records.specs.declared.NodeRecord.{NodeRecord}
 use Rattle.records.specs.Records.{nodeRecord, said-identity, said-letter, said-product}
+use Rattle.records.specs.Nodes.{nodesIn, nodeHere, nodes-count, node-here}
 use Rattle.layout.specs.Rows.{acted, relevantRow, written-row}
 use Rattle.layout.specs.Only.{Only, only-none, only-then, only-written}
+use Rattle.packing_states.specs.NodeRows.{children-here}
 use Rattle.mentions.specs.Marks.{isSet, set-zero, set-nonzero}
-use Rattle.mentions.specs.Mentioned.{any-append, mentions-own}
-use Rattle.mentions.specs.Nodes.{nodesIn, nodeHere, NodesPre, node-here, nodes-count, children-here, said-here}
+use Rattle.mentions.specs.Mentioned.{mentions-own}
+use Rattle.mentions.specs.Nodes.{NodesPre, said-here}
 
 -- whether a node mentions a qubit acted on, given what is said of its children
 unfoldable pub relevantNode : List ℕ → List ℕ → Node → Bool
@@ -105,10 +108,10 @@ relevant-next {ns} {u} {count} {n} {s} {t} {w} h l r b e v bit y =
     record { only = only-then (r .only) (only-written long (omega arith) inside y); tells = λ m k. go m k (ℕ-discrete m n) }
   where
     long : 24 * u ≤ length t
-    long = let i = h .numbers-long in let j = r .only .long in omega arith
+    long = let i = h .nodes .long in let j = r .only .long in omega arith
 
     inside : n < u
-    inside = let f = h .fits in omega arith
+    inside = let f = h .nodes .fits in omega arith
 
     changed : row w u relevantRow ≡ set (row t u relevantRow) n v
     changed = written-row long (omega arith) inside y
@@ -119,8 +122,8 @@ relevant-next {ns} {u} {count} {n} {s} {t} {w} h l r b e v bit y =
     truth : b ≡ mentionsActed (nodesIn count ns) (row s u acted) n
     truth =
         e ∙ ap (λ (xs : List ℕ). relevantNode xs (row t u relevantRow) (nodeHere ns n)) kept
-        ∙ node-tells (nodesIn count ns) (h .ordered) n (omega (arith, nodes-count count ns)) (row s u acted) (row t u relevantRow) (r .tells)
-        (nodeHere ns n) (node-here h n l) (children-here h n l)
+        ∙ node-tells (nodesIn count ns) (h .nodes .ordered) n (omega (arith, nodes-count count ns)) (row s u acted) (row t u relevantRow)
+        (r .tells) (nodeHere ns n) (node-here count ns n l) (children-here (h .nodes) n l)
 
     go : (m : ℕ) → m < n + 1 → Dec (m ≡ n) → getD (row w u relevantRow) m 0 ≡ (if mentionsActed (nodesIn count ns) (row s u acted) m then 1 else 0)
     go m k (yes i) =

@@ -60,14 +60,17 @@ lentShort c s limit =
 
 -- ---- nodes
 
+-- a product's node i: its "phase is unknown, or a child is not below its product"
+unfoldable pub badProduct : ℕ → List ℕ → Bool
+badProduct i r = ltb 3 (fieldOf r 2) || ltb 3 (fieldOf r 4) || leb i (fieldOf r 1) || leb i (fieldOf r 3)
+
 -- "4 node 0 is not the identity, kind, letter or phase is unknown, or a child is not below its product; 5 the qubit is not below the count":
 -- node i, by its kind, of q qubits
 unfoldable pub checkNodeOfKind : ℕ → ℕ → ℕ → List ℕ → Answer
 checkNodeOfKind q i zero r = Accepted
 checkNodeOfKind q zero (suc k) r = BadNode
 checkNodeOfKind q (suc i) (suc zero) r = if ltb 3 (fieldOf r 2) then BadNode else if leb q (fieldOf r 1) then BadQubit else Accepted
-checkNodeOfKind q (suc i) (suc (suc zero)) r =
-    if ltb 3 (fieldOf r 2) || ltb 3 (fieldOf r 4) || leb (suc i) (fieldOf r 1) || leb (suc i) (fieldOf r 3) then BadNode else Accepted
+checkNodeOfKind q (suc i) (suc (suc zero)) r = if badProduct (suc i) r then BadNode else Accepted
 checkNodeOfKind q (suc i) (suc (suc (suc k))) r = BadNode
 
 unfoldable pub checkNode : ℕ → ℕ → List ℕ → Answer

@@ -73,7 +73,8 @@ rowResultsFrom p i (r ∷ rest) fs = rowRecord (isRoot p r) i fs ∷ rowResultsF
 unfoldable pub rowResults : Program → Work → List (List ℕ)
 rowResults p w = rowResultsFrom p 0 (p .rows) (if eqb (w .absorbed) 0 then [] else w .rows)
 
--- ---- counters: "T-count counts odd rotations, plain and conditional; rotation counts, plain ones; weights, the letters other than I of both kinds"
+-- ---- counters: "T-count counts odd rotations, plain and conditional; rotation counts, plain ones; weights, the letters other than I of both
+-- kinds"
 
 -- "The source's T-count is taken over the counted operation records handed in, before any drops out"
 unfoldable pub sourceTCount : List Operation → ℕ
@@ -88,7 +89,8 @@ sourceRotations = countOf (λ (o : Operation). isRotate (o .kind))
 
 unfoldable pub sourceWeight : Program → ℕ
 sourceWeight p =
-    sumOf (λ (o : Operation). (if isMeasure (o .kind) then 0 else weight (width (p .qubits)) (valueAt (valuesOf p) (o .node) .word))) (p .operations)
+    sumOf (λ (o : Operation). (if isMeasure (o .kind) then 0 else weight (width (p .qubits)) (valueAt (valuesOf p) (o .node) .word)))
+    (p .operations)
 
 unfoldable pub itemWeight : Program → Work → Item → ℕ
 itemWeight p w (rotation r) = weight (width (p .qubits)) (wordOf (w .store .axes) (r .axis))

@@ -10,9 +10,13 @@ use Rattle.model.specs.Value.{mentionsAt, mentions}
 unfoldable pub actedOn : Program → List ℕ
 actedOn p = flatten (map (λ (o : Operation). mentionsAt (mentions (p .nodes)) (o .node)) (p .operations))
 
+-- whether a node mentions "a qubit mentioned by any operation's nodes"
+unfoldable pub relevant : Program → ℕ → Bool
+relevant p n = anyOf (λ q. member q (actedOn p)) (mentionsAt (mentions (p .nodes)) n)
+
 -- "the frame rows that mention a qubit mentioned by any operation's nodes"
 unfoldable pub isRoot : Program → PauliRef → Bool
-isRoot p r = anyOf (λ q. member q (actedOn p)) (mentionsAt (mentions (p .nodes)) (r .node))
+isRoot p r = relevant p (r .node)
 
 unfoldable pub rootRows : Program → List PauliRef
 rootRows p = keep (isRoot p) (p .rows)

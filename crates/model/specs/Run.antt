@@ -17,7 +17,8 @@ use Rattle.model.specs.Rounds.{Work, passes}
 
 -- ---- from the packed program to the work
 
--- operation o, with its axis and angle. "Rotations with angle 0 or an identity axis drop out. Measurements and conditional rotations are barriers."
+-- operation o, with its axis and angle. "Rotations with angle 0 or an identity axis drop out. Measurements and conditional rotations are
+-- barriers."
 unfoldable pub itemOf : List (List ℕ) → ℕ → Kind → SignedAxis → ℕ → List Item
 itemOf axes o rotate f k =
     if eqb (withSign (f .sign) k) 0 || isIdentity (wordOf axes (f .axis)) then [] else rotation (rot (f .axis) (withSign (f .sign) k)) ∷ []

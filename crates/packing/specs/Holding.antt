@@ -26,8 +26,10 @@ use Rattle.packing_states.specs.Linked.{Linked}
 use Rattle.packing_states.specs.InMemory.{Whole}
 use Rattle.packing.specs.Phases.{phaseIn}
 use Rattle.packing.specs.declared.Slots.{Slots}
+use Rattle.packing.specs.declared.Placed.{Placed}
+use Rattle.packing.specs.declared.Placed.the-variants.{Slots as SlotsThen, ExpansionLimit as NoSlot}
 use Rattle.packing.specs.declared.Step.{Step}
-use Rattle.packing.specs.declared.Step.the-variants.{Next, NonHermitianAxis, Full}
+use Rattle.packing.specs.declared.Step.the-variants.{Next, NonHermitianAxis, ExpansionLimit}
 
 -- each node below b that is still to be used has a slot of its own, with its word there and its phase beside it;
 -- a free slot is no such node's, and is free once
@@ -65,16 +67,43 @@ pub record Holding (p : Program) (z : Shape) (b n i : ℕ) (k : Pack) (st : Slot
   pub signed : (j : ℕ) → j < total p → isRootAt p j ≡ true → Done p n i j → SignedAt p (z .u) (k .store .axes) xs j
   pub linked : Linked p z xs
 
+-- it holds k at another point, if no more roots are done there
+pub holding-done : {p : Program} {z : Shape} {b n i m t : ℕ} {k : Pack} {st : Slots} {ws xs : List ℕ}
+    → ((j : ℕ) → j < total p → isRootAt p j ≡ true → Done p m t j → Done p n i j)
+    → Holding p z b n i k st ws xs → Holding p z b m t k st ws xs
+holding-done f h = record {
+  going = h .going;
+  fits = h .fits;
+  axes = h .axes;
+  room = h .room;
+  slots = h .slots;
+  free = h .free;
+  live = h .live;
+  uses = h .uses;
+  held = h .held;
+  signed = λ j a r d. h .signed j a r (f j a r d);
+  linked = h .linked;
+}
+
+-- node n has its slot, or its sum exceeds the limit
+abbrev pub PlacedAs : Program → Shape → ℕ → Placed → List ℕ → List ℕ → Type 0
+PlacedAs p z n (SlotsThen st) ws xs = Holding p z (suc n) n 0 (slotted p n) st ws xs
+PlacedAs p z n NoSlot ws xs = z .limit < slotted p n .store .peak
+
 -- how a turn ends that leads to k
-pub record Turned (p : Program) (z : Shape) (b n i : ℕ) (k : Pack) (r : Step) (ws xs : List ℕ) : Type 0 where
-  pub next : (st : Slots) → r ≡ Next st → Holding p z b n i k st ws xs
-  pub odd : r ≡ NonHermitianAxis → (k .refused ≡ true) × (k .store .peak ≤ z .limit)
-  pub full : r ≡ Full → z .limit < k .store .peak
+abbrev pub Turned : Program → Shape → ℕ → ℕ → ℕ → Pack → Step → List ℕ → List ℕ → Type 0
+Turned p z b n i k (Next st) ws xs = Holding p z b n i k st ws xs
+Turned p z b n i k NonHermitianAxis ws xs = (k .refused ≡ true) × (k .store .peak ≤ z .limit)
+Turned p z b n i k ExpansionLimit ws xs = z .limit < k .store .peak
+
+-- the rows that a turn writes
+abbrev pub turnRows : List ℕ
+turnRows = usesRow ∷ nodeSlot ∷ nodePhase ∷ freeRow ∷ rootAxis ∷ rootSign ∷ []
 
 -- what a turn leaves of both stores
 pub record Left (z : Shape) (ws xs ws′ xs′ : List ℕ) : Type 0 where
   pub words : KeptFrom (z .limit + 2 * z .l) ws ws′
-  pub numbers : Only (usesRow ∷ nodeSlot ∷ nodePhase ∷ freeRow ∷ rootAxis ∷ rootSign ∷ []) (z .u) xs xs′
+  pub numbers : Only turnRows (z .u) xs xs′
 
 -- ---- what the turns demand
 

@@ -12,21 +12,28 @@ use Rattle.model.specs.Words.{Value}
 use Rattle.layout.specs.Words.{slotPlace, slot-in, slots-apart}
 use Rattle.packing.specs.Holding.{SlotsHold}
 
--- a word laid behind the slots
-pub slots-scratch : {l limit b slots free : ℕ} {value : ℕ → Value} {uses slotRow phaseRow stack ws : List ℕ} (w : List ℕ)
-    → slots * (2 * l) ≤ limit → limit + length w ≤ length ws → SlotsHold l limit b slots free value uses slotRow phaseRow stack ws
-    → SlotsHold l limit b slots free value uses slotRow phaseRow stack (put ws limit w)
-slots-scratch {l} {limit} {b} {slots} {free} {value} {uses} {slotRow} {phaseRow} {stack} {ws} w h k s = record {
+-- words that stay where the slots are
+pub slots-words : {l limit b slots free : ℕ} {value : ℕ → Value} {uses slotRow phaseRow stack ws ws′ : List ℕ}
+    → ((s : ℕ) → s < slots → part ws′ (slotPlace limit l s) (2 * l) ≡ part ws (slotPlace limit l s) (2 * l))
+    → SlotsHold l limit b slots free value uses slotRow phaseRow stack ws → SlotsHold l limit b slots free value uses slotRow phaseRow stack ws′
+slots-words {slotRow = slotRow} f s = record {
   slot = s .slot;
-  word = λ m a u.
-      let i = slot-in limit l slots h (getD slotRow m 0) (s .slot m a u) in
-      part-put-apart ws limit w (slotPlace limit l (getD slotRow m 0)) (2 * l) k (omega arith) (inr i) ∙ s .word m a u;
+  word = λ m a u. f (getD slotRow m 0) (s .slot m a u) ∙ s .word m a u;
   turns = s .turns;
   one = s .one;
   free-slot = s .free-slot;
   free-one = s .free-one;
   free-other = s .free-other;
 }
+
+-- a word laid behind the slots
+pub slots-scratch : {l limit b slots free : ℕ} {value : ℕ → Value} {uses slotRow phaseRow stack ws : List ℕ} (w : List ℕ)
+    → slots * (2 * l) ≤ limit → limit + length w ≤ length ws → SlotsHold l limit b slots free value uses slotRow phaseRow stack ws
+    → SlotsHold l limit b slots free value uses slotRow phaseRow stack (put ws limit w)
+slots-scratch {l} {limit} {slots = slots} {ws = ws} w h k =
+    slots-words (λ s a.
+    let i = slot-in limit l slots h s a in
+    part-put-apart ws limit w (slotPlace limit l s) (2 * l) k (omega arith) (inr i))
 
 -- slot s is no used node's and no more among the free ones: a node may take it
 pub record Takes (b slots free : ℕ) (uses slotRow stack : List ℕ) (s slots′ free′ : ℕ) : Type 0 where

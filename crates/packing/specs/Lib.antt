@@ -2,7 +2,9 @@ pub mod Values
 pub mod ValueLaws
 pub mod Phases
 pub mod Holding
+pub mod Held
 pub mod Packed
+pub mod Checked
 pub mod Turns
 pub mod Release
 pub mod NodeValues

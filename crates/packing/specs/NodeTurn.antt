@@ -10,29 +10,30 @@ use lib.ListN.{length, getD}
 use Rattle.store.specs.Row.{row}
 use Rattle.model.specs.Program.{PauliRef, Program}
 use Rattle.model.specs.Words.{Value}
-use Rattle.model.specs.Packing.{Pack, useChildren, takeSlot}
-use Rattle.theory.specs.Cases.{by-if}
+use Rattle.model.specs.Packing.{Pack}
 use Rattle.layout.specs.declared.Shape.{Shape}
-use Rattle.layout.specs.Rows.{usesRow, entries-at}
-use Rattle.layout.specs.Shape.{Granted}
+use Rattle.layout.specs.Rows.{usesRow}
 use Rattle.records.specs.declared.NodeRecord.{NodeRecord}
 use Rattle.records.specs.Records.{nodeRecord, operationRecord, rowRecord, nodeSaid}
 use Rattle.records.specs.Given.{programIn, Given}
 use Rattle.packing_states.specs.References.{referenceAt, total, isRootAt}
-use Rattle.packing_states.specs.States.{nodeAt, before, slotted, within}
+use Rattle.packing_states.specs.States.{before, slotted, within}
 use Rattle.packing_states.specs.StateLaws.{before-unused, before-used, peak-within}
 use Rattle.packing_states.specs.Uses.{unused-no-roots}
 use Rattle.packing_states.specs.Live.{used-below-same}
 use Rattle.packing_states.specs.InMemory.{total-is, node-is, operation-reference, row-reference, Whole, given-whole}
 use Rattle.packing.specs.declared.Slots.{Slots}
+use Rattle.packing.specs.declared.Placed.{Placed}
+use Rattle.packing.specs.declared.Placed.the-variants.{Slots as SlotsThen, ExpansionLimit as NoSlot}
 use Rattle.packing.specs.declared.Step.{Step}
-use Rattle.packing.specs.declared.Step.the-variants.{Next, NonHermitianAxis, Full}
+use Rattle.packing.specs.declared.Step.the-variants.{Next, NonHermitianAxis, ExpansionLimit}
 use Rattle.packing.specs.Phases.{phaseIn, phase-operation, phase-row}
-use Rattle.packing_states.specs.Some.{Some}
-use Rattle.packing.specs.Holding.{SlotsHold, Done, Holding, Turned, Left, PlaceAt, RootsAt, NodeAt}
-use Rattle.packing.specs.Place.{children-keep}
-use Rattle.packing.specs.Turns.{turned-next, turned-full, left-none, left-then, granted-left}
-use Rattle.packing.specs.RootLaws.{its-root}
+use Rattle.packing_states.specs.SomeProgram.{SomeProgram}
+use Rattle.packing.specs.Holding.{SlotsHold, Done, Holding, holding-done, PlacedAs, Turned, Left, PlaceAt, RootsAt, NodeAt}
+use Rattle.packing.specs.Held.{nodes-in}
+use Rattle.packing.specs.Release.{holding-slots, count-is}
+use Rattle.packing.specs.Turns.{left-none, left-then, granted-left}
+use Rattle.packing_states.specs.ReferenceLaws.{its-root}
 
 -- ---- the program in the lent slices
 
@@ -44,26 +45,19 @@ module _ {z : Shape} {ns os rs : List ℕ} (g : Given z ns os rs) where
       go : Dec (j < z .operations) → phaseIn (z .operations) os rs j ≡ referenceAt (programIn z ns os rs) j .phase
       go (yes h) =
           sym (phase-operation (z .operations) os rs j (operationRecord os j) h refl)
-          ∙ sym (ap (λ (r : PauliRef). r .phase) (operation-reference z ns os rs j h (g .operations-long)))
+          ∙ sym (ap (λ (r : PauliRef). r .phase) (operation-reference z ns os rs j h))
       go (no h) =
           let r = j - z .operations in
           let e : z .operations + r ≡ j = omega arith in
-          let f = row-reference z ns os rs r (omega (arith, total-is z ns os rs)) (g .rows-long) in
+          let f = row-reference z ns os rs r (omega (arith, total-is z ns os rs)) in
           sym (phase-row (z .operations) os rs j (rowRecord rs r) (omega arith) refl) ∙ sym (ap (λ (x : PauliRef). x .phase) (rw e at f))
-
--- ---- how often a node is still to be used
-
-uses-read : {p : Program} {z : Shape} {b m i : ℕ} {k : Pack} {st : Slots} {ws xs : List ℕ} (n : ℕ) → Granted z ws xs → n < z .nodes
-    → Holding p z b m i k st ws xs → getD (row xs (z .u) usesRow) n 0 ≡ getD (k .uses) n 0
-uses-read {z = z} {xs = xs} n g h k =
-    sym (entries-at xs (z .u) usesRow (z .nodes) (g .numbers-long) (omega arith) (omega (arith, g .sized .row)) n h)
-    ∙ ap (λ (ys : List ℕ). getD ys n 0) (k .uses)
 
 -- ---- a node that is not used
 
 -- it needs no slot
 held-unused : {l limit n slots free : ℕ} {value : ℕ → Value} {uses slotRow phaseRow stack ws : List ℕ} → getD uses n 0 ≡ 0
-    → SlotsHold l limit n slots free value uses slotRow phaseRow stack ws → SlotsHold l limit (suc n) slots free value uses slotRow phaseRow stack ws
+    → SlotsHold l limit n slots free value uses slotRow phaseRow stack ws
+    → SlotsHold l limit (suc n) slots free value uses slotRow phaseRow stack ws
 held-unused {n = n} {uses = uses} e h = record {
   slot = λ m a u. h .slot m (below m a u) u;
   word = λ m a u. h .word m (below m a u) u;
@@ -111,63 +105,31 @@ module _ {p : Program} {z : Shape} {n : ℕ} {st : Slots} {ws xs : List ℕ} (w 
 
 -- ---- a used node
 
--- taking a slot refuses nothing
-takeSlot-going : (l : ℕ) (k : Pack) → takeSlot l k .refused ≡ k .refused
-unfolding takeSlot
-takeSlot-going l k = by-if (λ (q : Pack). q .refused ≡ k .refused) _ _ _ refl refl
+-- after its last root comes the next node
+past-roots : {p : Program} {z : Shape} {b n : ℕ} {k : Pack} {st : Slots} {ws xs : List ℕ} → Holding p z b n (total p) k st ws xs
+    → Holding p z b (suc n) 0 k st ws xs
+past-roots {p} {n = n} = holding-done earlier
+  where
+    at-n : (j : ℕ) → j < total p → Dec (referenceAt p j .node ≡ n) → referenceAt p j .node < suc n → Done p n (total p) j
+    at-n j a (yes e) d = inr (e, a)
+    at-n j a (no e) d = inl (omega arith)
 
-slotted-going : (p : Program) (n : ℕ) → slotted p n .refused ≡ before p n .refused
-unfolding slotted
-slotted-going p n = takeSlot-going _ (useChildren (nodeAt p n) (before p n)) ∙ children-keep (nodeAt p n) (before p n) .1 .1
+    earlier : (j : ℕ) → j < total p → isRootAt p j ≡ true → Done p (suc n) 0 j → Done p n (total p) j
+    earlier j a r (inl d) = at-n j a (ℕ-discrete (referenceAt p j .node) n) d
+    earlier j a r (inr (e, d)) = absurd (omega arith)
 
-module _ {p : Program} {z : Shape} {n : ℕ} {ws xs : List ℕ} (f : before p n .refused ≡ false) (u : 0 < getD (before p n .uses) n 0) where
-  -- a node that gets no slot ends packing by 10
-  place-full : {r : Step} → Turned p z (suc n) n 0 (slotted p n) r ws xs → ((s : Slots) → r ≡ Next s → ⊥)
-      → Turned p z (suc n) (suc n) 0 (before p (suc n)) Full ws xs
+module _ (p : Program) (n : ℕ) (f : before p n .refused ≡ false) (u : 0 < getD (before p n .uses) n 0) where
+  -- a sum above the limit stays above it
+  above : (limit : ℕ) → limit < slotted p n .store .peak → limit < before p (suc n) .store .peak
   unfolding within
-  place-full {r} t h = turned-full (go r refl)
-    where
-      above : z .limit < slotted p n .store .peak → z .limit < before p (suc n) .store .peak
-      above a = rw (before-used p n f u) (omega (arith, peak-within p n 0 (total p) (omega arith)))
+  above limit h = rw (before-used p n f u) (omega (arith, peak-within p n 0 (total p) (omega arith)))
 
-      go : (s : Step) → r ≡ s → z .limit < before p (suc n) .store .peak
-      go (Next s) e = absurd (h s e)
-      go NonHermitianAxis e = absurd (true≢false (sym (t .odd e .0) ∙ slotted-going p n ∙ f))
-      go Full e = above (t .full e)
-
-  later : {st : Slots} → Holding p z (suc n) n (total p) (before p (suc n)) st ws xs → Holding p z (suc n) (suc n) 0 (before p (suc n)) st ws xs
-  later h = record {
-    going = h .going;
-    fits = h .fits;
-    axes = h .axes;
-    room = h .room;
-    slots = h .slots;
-    free = h .free;
-    live = h .live;
-    uses = h .uses;
-    held = h .held;
-    signed = λ j a r d. h .signed j a r (earlier j a d);
-    linked = h .linked;
-  }
-    where
-      at-n : (j : ℕ) → j < total p → Dec (referenceAt p j .node ≡ n) → referenceAt p j .node < suc n → Done p n (total p) j
-      at-n j a (yes e) d = inr (e, a)
-      at-n j a (no e) d = inl (omega arith)
-
-      earlier : (j : ℕ) → j < total p → Done p (suc n) 0 j → Done p n (total p) j
-      earlier j a (inl d) = at-n j a (ℕ-discrete (referenceAt p j .node) n) d
-      earlier j a (inr (e, d)) = absurd (omega arith)
-
-  -- after its last root comes the next node
-  after-roots : {r : Step} → Turned p z (suc n) n (total p) (within p n (total p)) r ws xs
+  -- its roots end its turn
+  after-roots : (z : Shape) (r : Step) (ws xs : List ℕ) → Turned p z (suc n) n (total p) (within p n (total p)) r ws xs
       → Turned p z (suc n) (suc n) 0 (before p (suc n)) r ws xs
-  after-roots t =
-      let e = before-used p n f u in
-      record {
-        next = λ st g. later (rw e (t .next st g));
-        odd = λ g. rw e (t .odd g);
-        full = λ g. rw e (t .full g);
-      }
+  after-roots z (Next st) ws xs t = past-roots (rw (before-used p n f u) t)
+  after-roots z NonHermitianAxis ws xs t = rw (before-used p n f u) t
+  after-roots z ExpansionLimit ws xs t = rw (before-used p n f u) t
 
 -- ---- node n's turn, from what it demands
 
@@ -181,12 +143,12 @@ module _ {z : Shape} {st : Slots} {n : ℕ} {ns os rs ws xs : List ℕ} (a : Nod
   node-there = omega (arith, a .node, a .given .nodes-long)
 
   uses-is : (v : ℕ) → v ≡ getD (row xs (z .u) usesRow) n 0 → v ≡ getD (before (programIn z ns os rs) n .uses) n 0
-  uses-is v e = e ∙ uses-read n (a .granted) (a .node) (a .holding)
+  uses-is v e = e ∙ count-is n (a .granted .numbers-long) (nodes-in (a .granted)) (a .node) (holding-slots (a .holding))
 
   pub turn-unused : {v : ℕ} → v ≡ getD (row xs (z .u) usesRow) n 0 → v ≡ 0
       → Left z ws xs ws xs × Turned (programIn z ns os rs) z (suc n) (suc n) 0 (before (programIn z ns os rs) (suc n)) (Next st) ws xs
   turn-unused {v} e f =
-      (left-none z ws xs, turned-next (after-unused (given-whole (a .given)) (a .node) (a .holding) (sym (uses-is v e) ∙ f)))
+      (left-none z ws xs, after-unused (given-whole (a .given)) (a .node) (a .holding) (sym (uses-is v e) ∙ f))
 
   module _ {v : ℕ} (e : v ≡ getD (row xs (z .u) usesRow) n 0) (f : v ≡ 0 → ⊥) where
     used : 0 < getD (before (programIn z ns os rs) n .uses) n 0
@@ -197,24 +159,24 @@ module _ {z : Shape} {st : Slots} {n : ℕ} {ns os rs ws xs : List ℕ} (a : Nod
       granted = a .granted;
       whole = given-whole (a .given);
       node = a .node;
-      said = ap nodeSaid i ∙ sym (node-is z ns os rs n (a .node) (a .given .nodes-long));
+      said = ap nodeSaid i ∙ sym (node-is z ns os rs n (a .node));
       used = used;
       holding = a .holding;
     }
 
     -- it can be placed
-    pub place-there : {x : NodeRecord} → x ≡ nodeRecord ns n → Some (λ p. PlaceAt p z st n x ws xs)
+    pub place-there : {x : NodeRecord} → x ≡ nodeRecord ns n → SomeProgram (λ p. PlaceAt p z st n x ws xs)
     place-there i = record { p = programIn z ns os rs; it = place-at i }
 
     -- and has been
-    module _ {x : NodeRecord} {r : Step} {ws′ xs′ : List ℕ} (i : x ≡ nodeRecord ns n) (k : Left z ws xs ws′ xs′)
-        (t : (p : Program) → PlaceAt p z st n x ws xs → Turned p z (suc n) n 0 (slotted p n) r ws′ xs′) where
+    module _ {x : NodeRecord} {r : Placed} {ws′ xs′ : List ℕ} (i : x ≡ nodeRecord ns n) (k : Left z ws xs ws′ xs′)
+        (t : (p : Program) → PlaceAt p z st n x ws xs → PlacedAs p z n r ws′ xs′) where
       -- without a slot
-      pub turn-full : ((s : Slots) → r ≡ Next s → ⊥)
-          → Left z ws xs ws′ xs′ × Turned (programIn z ns os rs) z (suc n) (suc n) 0 (before (programIn z ns os rs) (suc n)) Full ws′ xs′
-      turn-full h = (k, place-full (a .holding .going) used (t (programIn z ns os rs) (place-at i)) h)
+      pub turn-limit : r ≡ NoSlot
+          → Left z ws xs ws′ xs′ × Turned (programIn z ns os rs) z (suc n) (suc n) 0 (before (programIn z ns os rs) (suc n)) ExpansionLimit ws′ xs′
+      turn-limit c = (k, above (programIn z ns os rs) n (a .holding .going) used (z .limit) (rw c at (t (programIn z ns os rs) (place-at i))))
 
-      module _ {s : Slots} (c : r ≡ Next s) where
+      module _ {s : Slots} (c : r ≡ SlotsThen s) where
         roots-at : RootsAt (programIn z ns os rs) z s n os rs ws′ xs′
         roots-at = record {
           granted = granted-left (a .granted) k;
@@ -225,15 +187,16 @@ module _ {z : Shape} {st : Slots} {n : ℕ} {ns os rs ws xs : List ℕ} (a : Nod
           node = a .node;
           going = a .holding .going;
           used = used;
-          holding = t (programIn z ns os rs) (place-at i) .next s c;
+          holding = rw c at (t (programIn z ns os rs) (place-at i));
         }
 
         -- its roots can be packed
-        pub roots-there : Some (λ p. RootsAt p z s n os rs ws′ xs′)
+        pub roots-there : SomeProgram (λ p. RootsAt p z s n os rs ws′ xs′)
         roots-there = record { p = programIn z ns os rs; it = roots-at }
 
         -- and have been
-        pub turn-roots : {q : Step} {ws″ xs″ : List ℕ} → Left z ws′ xs′ ws″ xs″
+        pub turn-roots : (q : Step) {ws″ xs″ : List ℕ} → Left z ws′ xs′ ws″ xs″
             → ((p : Program) → RootsAt p z s n os rs ws′ xs′ → Turned p z (suc n) n (total p) (within p n (total p)) q ws″ xs″)
             → Left z ws xs ws″ xs″ × Turned (programIn z ns os rs) z (suc n) (suc n) 0 (before (programIn z ns os rs) (suc n)) q ws″ xs″
-        turn-roots l m = (left-then k l, after-roots (a .holding .going) used (m (programIn z ns os rs) roots-at))
+        turn-roots q l m =
+            (left-then k l, after-roots (programIn z ns os rs) n (a .holding .going) used z q _ _ (m (programIn z ns os rs) roots-at))

@@ -5,19 +5,21 @@ use Prim.Native.Nat.{ℕ, _+_, _*_}
 use lib.Dec.{ltb}
 use lib.ListN.{length, getD}
 use Rattle.store.specs.Row.{row}
+use Rattle.model.specs.declared.Answer.{Answer}
+use Rattle.model.specs.declared.Answer.the-variants as answers
 use Rattle.model.specs.Lists.{if_then_else_, numbersFrom}
 use Rattle.model.specs.Program.{PauliRef, Program}
 use Rattle.model.specs.Roots.{isRoot, operationRoot}
 use Rattle.model.specs.Packing.{Pack, packed, valuesOf, SignedAxis, signedAxis}
 use Rattle.axes.specs.View.{axesOf}
 use Rattle.layout.specs.declared.Shape.{Shape}
-use Rattle.layout.specs.Rows.{mark, acted, relevantRow, usesRow, firstRoot, nextRoot, nodeSlot, nodePhase, freeRow, rootAxis, rootSign, none}
+use Rattle.layout.specs.Rows.{mark, acted, relevantRow, usesRow, firstRoot, nextRoot, nodeSlot, nodePhase, freeRow, rootAxis, rootSign, noAxis}
 use Rattle.layout.specs.Only.{Only}
 use Rattle.layout.specs.Words.{KeptFrom}
 use Rattle.layout.specs.Shape.{Granted}
 use Rattle.records.specs.Given.{Given}
 use Rattle.packing.specs.declared.Packed.{Packed}
-use Rattle.packing.specs.declared.Packed.the-variants.{Axes, NonHermitianAxis, Full}
+use Rattle.packing.specs.declared.Packed.the-variants.{Axes, NonHermitianAxis, ExpansionLimit}
 
 -- the work stores are long enough, and the program is one that Checking passed
 pub record PackPre (z : Shape) (ns os rs ws xs : List ℕ) : Type 0 where
@@ -26,7 +28,15 @@ pub record PackPre (z : Shape) (ns os rs ws xs : List ℕ) : Type 0 where
 
 -- "9 a root's total phase is odd; 10 a tested word sum exceeds the limit": the first sum above the limit ends the work
 unfoldable pub packedAnswer : ℕ → Pack → Packed
-packedAnswer limit k = if ltb limit (k .store .peak) then Full else if k .refused then NonHermitianAxis else Axes (length (k .store .axes))
+packedAnswer limit k =
+    if ltb limit (k .store .peak) then ExpansionLimit
+    else if k .refused then NonHermitianAxis else Axes (length (k .store .axes))
+
+-- 01's answer
+abbrev pub packingAnswer : Packed → Answer
+packingAnswer (Axes n) = answers.Accepted
+packingAnswer NonHermitianAxis = answers.NonHermitianAxis
+packingAnswer ExpansionLimit = answers.ExpansionLimit
 
 -- ---- the roots' axes and signs
 
@@ -38,7 +48,7 @@ signsIn z xs =
 
 -- a frame row that is no root has none
 unfoldable pub rowSign : Program → PauliRef → SignedAxis
-rowSign p r = if isRoot p r then signedAxis (packed p .store .axes) (valuesOf p) r else record { axis = none; sign = 0 }
+rowSign p r = if isRoot p r then signedAxis (packed p .store .axes) (valuesOf p) r else record { axis = noAxis; sign = 0 }
 
 -- in the model: operations, then frame rows
 unfoldable pub signsOf : Program → List SignedAxis
@@ -50,7 +60,8 @@ packRows =
     mark ∷ acted ∷ relevantRow ∷ usesRow ∷ firstRoot ∷ nextRoot ∷ nodeSlot ∷ nodePhase ∷ freeRow ∷ rootAxis ∷ rootSign ∷ []
 
 -- the answer is the model's; where packing is accepted, so are the axes and each root's axis and sign;
--- only packing's rows, and words up to the scratch word's end, are written
+-- only packing's rows, and words below limit + 2l, are written. Left free are, after acceptance, the words from axes × 2l to
+-- limit + 2l, and packRows but for the references' axis and sign; after a refusal, all words below limit + 2l and all of packRows
 pub record PackedAs (z : Shape) (p : Program) (r : Packed) (ws xs ws′ xs′ : List ℕ) : Type 0 where
   pub answer : r ≡ packedAnswer (z .limit) (packed p)
   pub axes : (n : ℕ) → r ≡ Axes n → axesOf (z .l) n ws′ ≡ packed p .store .axes

@@ -2,7 +2,7 @@
 use mathlib.Core.Path.{_≡_, refl, sym, ap, _∙_}
 use mathlib.Core.Bool.{true, false}
 use mathlib.Core.Logic.{inl, inr}
-use mathlib.Core.List.{List}
+use mathlib.Core.List.{List, _∷_}
 use Prim.Native.Nat.{ℕ, suc, _+_, _*_, _≤_, _<_}
 use native.Mathlib.Numerals.{add-one}
 use native.Mathlib.Omega.{arith}
@@ -10,18 +10,20 @@ use lib.ListN.{length}
 use borrow.Author.Tests.{lt-ltb, le-ltb}
 use Rattle.store.specs.Chunk.{chunks}
 use Rattle.model.specs.Lists.{anyOf, member, allOf}
+use Rattle.model.specs.Interface.{numberOf}
 use Rattle.model.specs.Program.{Program}
 use Rattle.model.specs.Roots.{roots}
 use Rattle.model.specs.Packing.{Pack, useCounts, emptyPack, packed}
 use Rattle.theory.specs.Cases.{if-true, if-false}
 use Rattle.axes.specs.View.{axesOf, axes-length}
 use Rattle.layout.specs.declared.Shape.{Shape}
-use Rattle.layout.specs.Rows.{usesRow, entries}
+use Rattle.layout.specs.Rows.{mark, acted, relevantRow, usesRow, entries}
 use Rattle.layout.specs.Only.{Only, only-then, only-of}
 use Rattle.layout.specs.Words.{KeptFrom}
 use Rattle.layout.specs.Shape.{Granted}
 use Rattle.records.specs.Given.{programIn, Given}
-use Rattle.roots.specs.Prepared.{preparedRows}
+use Rattle.mentions.specs.Relevance.{relevanceRows}
+use Rattle.roots.specs.Links.{linkRows}
 use Rattle.packing_states.specs.States.{before}
 use Rattle.packing_states.specs.StateLaws.{before-all, peak-before, refused-before}
 use Rattle.packing_states.specs.Live.{usedBelow}
@@ -29,9 +31,9 @@ use Rattle.packing_states.specs.Linked.{Linked}
 use Rattle.packing_states.specs.InMemory.{reference-node, Whole, given-whole}
 use Rattle.packing.specs.declared.Slots.{Slots}
 use Rattle.packing.specs.declared.Packed.{Packed}
-use Rattle.packing.specs.declared.Packed.the-variants.{Axes, NonHermitianAxis, Full}
+use Rattle.packing.specs.declared.Packed.the-variants.{Axes, NonHermitianAxis, ExpansionLimit}
 use Rattle.packing.specs.Holding.{Done, Holding, Left, NodeAt}
-use Rattle.packing.specs.Packed.{PackPre, packedAnswer, packRows, PackedAs}
+use Rattle.packing.specs.Packed.{PackPre, packedAnswer, packingAnswer, packRows, PackedAs}
 use Rattle.packing.specs.Turns.{left-none, left-then, granted-left}
 use Rattle.packing.specs.Signs.{signs-are}
 
@@ -71,34 +73,27 @@ start {p} linked uses = record {
 
 -- ---- the ends
 
--- an answer's number and its axes
-unfoldable numberOf : Packed → ℕ
-numberOf (Axes n) = 0
-numberOf NonHermitianAxis = 1
-numberOf Full = 2
-
+-- an answer's axes
 unfoldable axesIn : Packed → ℕ
 axesIn (Axes n) = n
 axesIn NonHermitianAxis = 0
-axesIn Full = 0
+axesIn ExpansionLimit = 0
 
 same-axes : {m n : ℕ} → Axes m ≡ Axes n → m ≡ n
 unfolding axesIn
 same-axes e = ap axesIn e
 
 odd-no-axes : {n : ℕ} → NonHermitianAxis ≡ Axes n → ⊥
-unfolding numberOf
-odd-no-axes e = let z : _≡_ {A = ℕ} 1 0 = ap numberOf e in omega arith
+odd-no-axes e = let z : _≡_ {A = ℕ} 9 0 = ap (λ (r : Packed). numberOf (packingAnswer r)) e in omega arith
 
-full-no-axes : {n : ℕ} → Full ≡ Axes n → ⊥
-unfolding numberOf
-full-no-axes e = let z : _≡_ {A = ℕ} 2 0 = ap numberOf e in omega arith
+limit-no-axes : {n : ℕ} → ExpansionLimit ≡ Axes n → ⊥
+limit-no-axes e = let z : _≡_ {A = ℕ} 10 0 = ap (λ (r : Packed). numberOf (packingAnswer r)) e in omega arith
 
 -- the answer, by what the packed program is
 module _ (limit : ℕ) (k : Pack) where
-  answer-full : limit < k .store .peak → Full ≡ packedAnswer limit k
+  answer-limit : limit < k .store .peak → ExpansionLimit ≡ packedAnswer limit k
   unfolding packedAnswer
-  answer-full h = sym (if-true _ _ (lt-ltb limit (k .store .peak) h))
+  answer-limit h = sym (if-true _ _ (lt-ltb limit (k .store .peak) h))
 
   answer-odd : k .store .peak ≤ limit → k .refused ≡ true → NonHermitianAxis ≡ packedAnswer limit k
   unfolding packedAnswer
@@ -111,15 +106,15 @@ module _ (limit : ℕ) (k : Pack) where
 module _ {p : Program} {z : Shape} {ws₀ xs₀ ws xs : List ℕ} (w : Whole p z) (words : KeptFrom (z .limit + 2 * z .l) ws₀ ws)
     (numbers : Only packRows (z .u) xs₀ xs) where
   -- refusal 10
-  packed-full : (n : ℕ) → n ≤ z .nodes → z .limit < before p n .store .peak → PackedAs z p Full ws₀ xs₀ ws xs
-  packed-full n b h = record {
-    answer = answer-full (z .limit) (packed p) (omega (
+  packed-limit : (n : ℕ) → n ≤ z .nodes → z .limit < before p n .store .peak → PackedAs z p ExpansionLimit ws₀ xs₀ ws xs
+  packed-limit n b h = record {
+    answer = answer-limit (z .limit) (packed p) (omega (
       arith,
       peak-before p n (length (p .nodes)) (omega (arith, w .nodes)),
       ap (λ (k : Pack). k .store .peak) (before-all p),
     ));
-    axes = λ m e. absurd (full-no-axes e);
-    signs = λ m e. absurd (full-no-axes e);
+    axes = λ m e. absurd (limit-no-axes e);
+    signs = λ m e. absurd (limit-no-axes e);
     words = words;
     numbers = numbers;
   }
@@ -143,7 +138,8 @@ module _ {p : Program} {z : Shape} {ws₀ xs₀ ws xs : List ℕ} (w : Whole p z
     answer = answer-axes (z .limit) (packed p) (rw (sym all) (h .fits)) (rw (sym all) (h .going)) (st .axes)
         (ap length (sym axes-are) ∙ axes-length (z .l) (st .axes) ws);
     axes = λ m f. rw (sym (same-axes f)) axes-are;
-    signs = λ m f. signs-are w (h .linked) (λ j a r. rw (sym all) (h .signed j a r (inl (omega (arith, reference-node p (w .fine) j a, w .nodes)))));
+    signs = λ m f.
+        signs-are w (h .linked) (λ j a r. rw (sym all) (h .signed j a r (inl (omega (arith, reference-node p (w .fine) j a, w .nodes)))));
     words = words;
     numbers = numbers;
   }
@@ -181,6 +177,14 @@ module _ {z : Shape} {ns os rs : List ℕ} where
 
 -- ---- packing, from what it demands
 
+-- before the first node the relevant nodes, and then the links and uses, have been written
+abbrev pub preparedRows : List ℕ
+preparedRows = mark ∷ acted ∷ relevantRow ∷ linkRows
+
+pub prepared-rows : {u : ℕ} {xs x xs₀ : List ℕ} → Only relevanceRows u xs x → Only linkRows u x xs₀ → Only preparedRows u xs xs₀
+unfolding member anyOf allOf
+prepared-rows a b = only-then (only-of preparedRows refl a) (only-of preparedRows refl b)
+
 -- xs is the number store before packing, xs₀ before the first node
 module _ {z : Shape} {ns os rs ws xs xs₀ : List ℕ} (pre : PackPre z ns os rs ws xs) (prepared : Only preparedRows (z .u) xs xs₀) where
   -- the stores are still long enough
@@ -209,7 +213,8 @@ module _ {z : Shape} {ns os rs ws xs xs₀ : List ℕ} (pre : PackPre z ns os rs
           packed-odd (given-whole (pre .given)) (l .words) (numbers-left l) (suc n) b h
 
       -- or by 10
-      pub pack-full : z .limit < before (programIn z ns os rs) (suc n) .store .peak → PackedAs z (programIn z ns os rs) Full ws xs ws″ xs″
-      pack-full h =
+      pub pack-limit : z .limit < before (programIn z ns os rs) (suc n) .store .peak
+          → PackedAs z (programIn z ns os rs) ExpansionLimit ws xs ws″ xs″
+      pack-limit h =
           let l = left-then (a .left) k in
-          packed-full (given-whole (pre .given)) (l .words) (numbers-left l) (suc n) b h
+          packed-limit (given-whole (pre .given)) (l .words) (numbers-left l) (suc n) b h

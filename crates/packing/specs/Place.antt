@@ -2,14 +2,13 @@
 use mathlib.Core.Path.{_≡_, refl, sym, ap, ap₂, _∙_}
 use mathlib.Core.Bool.{false}
 use mathlib.Core.List.{List, [], _∷_}
-use Prim.Native.Nat.{ℕ, zero, suc, _+_, _-_, _*_, _≤_, _<_}
+use Prim.Native.Nat.{ℕ, suc, _+_, _-_, _*_, _≤_, _<_}
 use native.Mathlib.Omega.{arith}
 use native.Mathlib.Decide.{decLt}
 use lib.ListN.{length, getD, set, take}
 use lib.Seq.{getD-take, take-set-lt}
 use Rattle.store.specs.Part.{part, put, part-length, put-length, part-put-same}
 use Rattle.store.specs.Row.{row, row-length}
-use Rattle.pauli.specs.Word.{width}
 use Rattle.model.specs.Lists.{anyOf, member, allOf}
 use Rattle.model.specs.Program.{Node, identity, letter, product, Program}
 use Rattle.model.specs.Words.{Value, Store}
@@ -23,7 +22,7 @@ use Rattle.layout.specs.Only.{Only, only-then, only-of}
 use Rattle.layout.specs.Words.{slotPlace, slots-le, slot-in, slot-behind, KeptFrom, kept-then, kept-put}
 use Rattle.layout.specs.Shape.{Sized}
 use Rattle.records.specs.declared.NodeRecord.{NodeRecord}
-use Rattle.records.specs.Records.{nodeSaidOfKind, nodeSaid, said-letter, said-product}
+use Rattle.records.specs.Records.{nodeSaid, said-letter, said-by, leaf-of, product-of}
 use Rattle.packing_states.specs.States.{nodeAt, valueOf, before, slotted}
 use Rattle.packing_states.specs.Counts.{less-at, edges-later, used-at}
 use Rattle.packing_states.specs.Owed.{children-before}
@@ -31,40 +30,27 @@ use Rattle.packing_states.specs.Uses.{children-below, children-used}
 use Rattle.packing_states.specs.Live.{used-below-more}
 use Rattle.packing_states.specs.Linked.{linked-same}
 use Rattle.packing.specs.declared.Slots.{Slots}
-use Rattle.packing.specs.declared.Step.the-variants.{Next, Full}
-use Rattle.packing.specs.declared.Taken.the-variants.{Slot, Full as None}
+use Rattle.packing.specs.declared.Placed.the-variants.{Slots as SlotsThen, ExpansionLimit}
+use Rattle.packing.specs.declared.Taken.the-variants.{Slot, ExpansionLimit as NoSlot}
 use Rattle.packing.specs.Values.{slotOf, phaseOf, usesOf, HeldPre, heldValue, EvaluatePre, valueOfRecord, Evaluated, ChildrenPre}
 use Rattle.packing.specs.Values.{ChildrenReleased, TakePre, taken, KeepPre, Kept}
-use Rattle.packing.specs.Holding.{SlotsHold, SignedAt, Holding, Turned, Left, PlaceAt}
+use Rattle.packing.specs.Holding.{SlotsHold, SignedAt, Holding, PlacedAs, turnRows, Left, PlaceAt}
+use Rattle.packing.specs.Held.{slots-fit, nodes-in, width-is, slots-in, held-pre}
 use Rattle.packing.specs.NodeValues.{OfChildren, nodeValue-same, nodeValue-length, value-own, value-turns, leaf-in}
 use Rattle.packing.specs.Release.{SlotsAre, holding-slots, count-is, free-room, slots-release}
 use Rattle.packing.specs.Keeping.{slots-scratch, slots-kept}
-use Rattle.packing.specs.Turns.{turned-next, turned-full}
 use Rattle.packing.specs.Taking.{Took, took-none, took-slot}
 
 -- ---- a record's node
 
-said-of : (P : ℕ → Type 0) (k : ℕ) (r : NodeRecord) → (2 ≤ k → P (r .a) × P (r .b)) → OfChildren P (nodeSaidOfKind k r)
-unfolding nodeSaidOfKind
-said-of P zero r h = tt
-said-of P (suc zero) r h = tt
-said-of P (suc (suc k)) r h = h (omega arith)
-
 -- its children
 said-children : (P : ℕ → Type 0) (r : NodeRecord) → (2 ≤ r .kind → P (r .a) × P (r .b)) → OfChildren P (nodeSaid r)
-unfolding nodeSaid
-said-children P r h = said-of P (r .kind) r h
-
-leaf-of : (i : ℕ) (r : NodeRecord) (k : Pack) → i < 2 → useChildren (nodeSaidOfKind i r) k ≡ k
-unfolding nodeSaidOfKind useChildren
-leaf-of zero r k h = refl
-leaf-of (suc zero) r k h = refl
-leaf-of (suc (suc i)) r k h = absurd (omega arith)
+said-children P r h = said-by (OfChildren P) r tt tt h
 
 -- a leaf has none
 leaf-uses : (r : NodeRecord) (k : Pack) → r .kind < 2 → useChildren (nodeSaid r) k ≡ k
-unfolding nodeSaid
-leaf-uses r k h = leaf-of (r .kind) r k h
+unfolding useChildren
+leaf-uses r k h = leaf-of (λ node. useChildren node k) k r h refl (λ q c. refl)
 
 -- giving up the children's uses leaves the rest of k
 pub children-keep : (node : Node) (k : Pack) → (useChildren node k .store ≡ k .store) × ((useChildren node k .slots ≡ k .slots)
@@ -93,20 +79,11 @@ module _ {p : Program} {z : Shape} {st : Slots} {n : ℕ} {x : NodeRecord} {ws x
   below : n < length (p .nodes)
   below = omega (arith, h .node, h .whole .nodes)
 
-  l-is : z .l ≡ width (p .qubits)
-  l-is = size .l-is ∙ ap width (sym (h .whole .qubits))
-
-  slots-fit : st .slots * (2 * z .l) ≤ z .limit
-  slots-fit = omega (arith, h .holding .room)
-
-  slots-in : st .slots < z .u
-  slots-in = size .words-row (st .slots) slots-fit
-
-  nodes-in : z .nodes ≤ z .u
-  nodes-in = omega (arith, size .row)
+  slots-below : st .slots < z .u
+  slots-below = slots-in (h .granted) (h .holding)
 
   is-product : 2 ≤ x .kind → nodeAt p n ≡ product (x .a) (x .p) (x .b) (x .q)
-  is-product k = sym (h .said) ∙ said-product x (λ e. omega arith) (λ e. omega arith)
+  is-product k = sym (h .said) ∙ product-of x k
 
   children-in : 2 ≤ x .kind → (x .a < n) × (x .b < n)
   children-in k = children-below p fine n below (is-product k)
@@ -119,12 +96,8 @@ module _ {p : Program} {z : Shape} {st : Slots} {n : ℕ} {x : NodeRecord} {ws x
 
   -- what is held of a node that is still to be used
   module _ (m : ℕ) (a : m < n) (u : 0 < getD (before p n .uses) m 0) where
-    held-pre : HeldPre z xs m
-    held-pre = record {
-      long = h .granted .numbers-long;
-      node = omega (arith, h .node, nodes-in);
-      slot = omega (arith, slots-le (z .l) (slotOf z xs m) (st .slots) (h .holding .held .slot m a u), slots-fit);
-    }
+    node-held : HeldPre z xs m
+    node-held = held-pre (h .granted) (h .holding) m a (omega (arith, h .node)) u
 
     held-phase : phaseOf z xs m < 4
     held-phase = omega (arith, h .holding .held .turns m a u, value-turns p fine m (omega (arith, below)))
@@ -136,7 +109,7 @@ module _ {p : Program} {z : Shape} {st : Slots} {n : ℕ} {x : NodeRecord} {ws x
 
     held-length : length (valueOf p m .word) ≡ 2 * z .l
     held-length =
-        let i = slot-in (z .limit) (z .l) (st .slots) slots-fit (slotOf z xs m) (h .holding .held .slot m a u) in
+        let i = slot-in (z .limit) (z .l) (st .slots) (slots-fit (h .holding)) (slotOf z xs m) (h .holding .held .slot m a u) in
         ap length (sym (h .holding .held .word m a u))
         ∙ part-length ws (slotPlace (z .limit) (z .l) (slotOf z xs m)) (2 * z .l) (omega (arith, h .granted .words-long))
 
@@ -154,28 +127,31 @@ module _ {p : Program} {z : Shape} {st : Slots} {n : ℕ} {x : NodeRecord} {ws x
     few = size .few;
     limit = size .limit;
     qubit = leaf-qubit;
-    first = λ k. held-pre (x .a) (children-in k .0) (children-live k .0);
-    second = λ k. held-pre (x .b) (children-in k .1) (second-live k);
+    first = λ k. node-held (x .a) (children-in k .0) (children-live k .0);
+    second = λ k. node-held (x .b) (children-in k .1) (second-live k);
     first-phase = λ k. held-phase (x .a) (children-in k .0) (children-live k .0);
     second-phase = λ k. held-phase (x .b) (children-in k .1) (second-live k);
   }
 
-  -- it works out the model's value
+  -- the model's value, by what the record says
+  value-said : nodeValue (z .l) (valueOf p) (nodeSaid x) ≡ valueOf p n
+  value-said =
+      ap₂ (λ (l : ℕ) (node : Node). nodeValue l (valueOf p) node) (sym (width-is (h .granted) (h .whole))) (h .said)
+      ∙ sym (value-own p fine n below)
+
+  -- `evaluate` works it out
   value-is : valueOfRecord z ws xs x ≡ valueOf p n
   unfolding valueOfRecord
   value-is =
       nodeValue-same (z .l) (heldValue z ws xs) (valueOf p) (nodeSaid x)
       (said-children (λ i. heldValue z ws xs i ≡ valueOf p i) x
       (λ k. (held-value (x .a) (children-in k .0) (children-live k .0), held-value (x .b) (children-in k .1) (second-live k))))
-      ∙ ap₂ (λ (l : ℕ) (node : Node). nodeValue l (valueOf p) node) l-is (h .said)
-      ∙ sym (value-own p fine n below)
+      ∙ value-said
 
   -- which has 2l numbers
   value-long : length (valueOf p n .word) ≡ 2 * z .l
   value-long =
-      let e : nodeValue (z .l) (valueOf p) (nodeSaid x) ≡ valueOf p n
-      = ap₂ (λ (l : ℕ) (node : Node). nodeValue l (valueOf p) node) l-is (h .said) ∙ sym (value-own p fine n below) in
-      ap (λ (v : Value). length (v .word)) (sym e)
+      ap (λ (v : Value). length (v .word)) (sym value-said)
       ∙ nodeValue-length (z .l) (p .qubits) (valueOf p) (nodeSaid x) (omega (arith, h .whole .qubits, size .bits))
       (rw (h .said) (leaf-in p fine n below))
       (said-children (λ i. length (valueOf p i .word) ≡ 2 * z .l) x
@@ -186,8 +162,8 @@ module _ {p : Program} {z : Shape} {st : Slots} {n : ℕ} {x : NodeRecord} {ws x
   slots-are : SlotsAre (z .l) (z .limit) (z .u) (z .nodes) n (st .slots) (st .free) (valueOf p) (before p n) ws xs
   slots-are = holding-slots (h .holding)
 
-  used-count : (m : ℕ) → m < n → 0 < getD (before p n .uses) m 0 → usesOf xs (z .u) m ≡ getD (before p n .uses) m 0
-  used-count m a u = count-is m (h .granted .numbers-long) nodes-in (omega (arith, h .node)) (omega (arith, slots-in)) a u slots-are
+  used-count : (m : ℕ) → m < n → usesOf xs (z .u) m ≡ getD (before p n .uses) m 0
+  used-count m a = count-is m (h .granted .numbers-long) (nodes-in (h .granted)) (omega (arith, h .node)) slots-are
 
   second-count : 2 ≤ x .kind → getD (set (row xs (z .u) usesRow) (x .a) (usesOf xs (z .u) (x .a) - 1)) (x .b) 0
       ≡ getD (oneUseLess (x .a) (before p n .uses)) (x .b) 0
@@ -198,20 +174,17 @@ module _ {p : Program} {z : Shape} {st : Slots} {n : ℕ} {x : NodeRecord} {ws x
       let v = usesOf xs (z .u) (x .a) - 1 in
       sym (getD-take (z .nodes) (set uses (x .a) v) (x .b) 0 (omega (arith, h .node)))
       ∙ ap (λ (y : List ℕ). getD y (x .b) 0) (take-set-lt (z .nodes) uses (x .a) v (omega (arith, h .node)))
-      ∙ ap₂ (λ (y : List ℕ) (w : ℕ). getD (set y (x .a) (w - 1)) (x .b) 0) (h .holding .uses) (used-count (x .a) (c .0) (children-live k .0))
+      ∙ ap₂ (λ (y : List ℕ) (w : ℕ). getD (set y (x .a) (w - 1)) (x .b) 0) (h .holding .uses) (used-count (x .a) (c .0))
 
   -- `release_children` can be called
   pub children-pre : ChildrenPre xs (z .u) (st .free) x
   children-pre = record {
     long = h .granted .numbers-long;
     u-small = size .u-small;
-    room = λ k.
-        let r = free-room (x .a) (h .granted .numbers-long) nodes-in (omega (arith, h .node)) (omega (arith, slots-in))
-        (children-in k .0) (children-live k .0) slots-are in
-        omega (arith, slots-in);
-    first = λ k. omega (arith, children-in k .0, h .node, nodes-in);
-    second = λ k. omega (arith, children-in k .1, h .node, nodes-in);
-    first-used = λ k. omega (arith, children-live k .0, used-count (x .a) (children-in k .0) (children-live k .0));
+    room = λ k. omega (arith, slots-below, free-room (x .a) (children-in k .0) (children-live k .0) slots-are);
+    first = λ k. omega (arith, children-in k .0, h .node, nodes-in (h .granted));
+    second = λ k. omega (arith, children-in k .1, h .node, nodes-in (h .granted));
+    first-used = λ k. omega (arith, children-live k .0, used-count (x .a) (children-in k .0));
     second-used = λ k. omega (arith, children-live k .1, second-count k);
   }
 
@@ -228,17 +201,14 @@ module _ {p : Program} {z : Shape} {st : Slots} {n : ℕ} {x : NodeRecord} {ws x
             rw (sym (h .said), leaf-uses x (before p n) k, e .0, e .1) slots-are
         go (no ne) =
             let k : 2 ≤ x .kind = omega arith in
-            let one = slots-release (x .a) (h .granted .numbers-long) nodes-in (omega (arith, h .node)) (omega (arith, slots-in))
-            (children-in k .0) (children-live k .0) slots-are (c .first k) in
+            let one = slots-release (x .a) (children-in k .0) (children-live k .0) slots-are (h .granted .numbers-long)
+            (nodes-in (h .granted)) (omega (arith, h .node)) slots-below (c .first k) in
             rw (is-product k)
-            (slots-release (x .b) (omega (arith, h .granted .numbers-long, c .first k .only .long)) nodes-in (omega (arith, h .node))
-            (omega (arith, slots-in)) (children-in k .1) (children-live k .1) one (c .second k))
+            (slots-release (x .b) (children-in k .1) (children-live k .1) one
+            (omega (arith, h .granted .numbers-long, c .first k .only .long)) (nodes-in (h .granted)) (omega (arith, h .node)) slots-below
+            (c .second k))
 
--- the rows that a turn writes
-abbrev written : List ℕ
-written = usesRow ∷ nodeSlot ∷ nodePhase ∷ freeRow ∷ rootAxis ∷ rootSign ∷ []
-
--- ---- after the children are released: r slots are free, t is the number store, ws′ has the value behind the limit
+-- ---- after the children are released: r slots are free, t is the number store, ws′ has the value's word as scratch word
 
 module _ {p : Program} {z : Shape} {st : Slots} {n : ℕ} {x : NodeRecord} {ws xs ws′ t : List ℕ} {e r : ℕ} (h : PlaceAt p z st n x ws xs)
     (v : Evaluated z x ws xs ws′ e) (c : ChildrenReleased xs (z .u) (st .free) x r t) where
@@ -274,7 +244,7 @@ module _ {p : Program} {z : Shape} {st : Slots} {n : ℕ} {x : NodeRecord} {ws x
         all = f .all;
         live = f .live;
         uses = f .uses;
-        held = rw words-are (slots-scratch word (slots-fit h) scratch-in (f .held));
+        held = rw words-are (slots-scratch word (slots-fit (h .holding)) scratch-in (f .held));
       }
 
   -- the axes
@@ -289,17 +259,17 @@ module _ {p : Program} {z : Shape} {st : Slots} {n : ℕ} {x : NodeRecord} {ws x
   pub take-pre : TakePre z t st₁
   take-pre = record {
     long = numbers-long;
-    free = omega (arith, slots₁ .all, slots-in h);
+    free = omega (arith, slots₁ .all, slots-below h);
     limit = size h .limit;
     few = size h .few;
     room = h .holding .room;
-    slots = slots-in h;
+    slots = slots-below h;
     u-small = size h .u-small;
   }
 
   is-slotted : slotted p n ≡ takeSlot (z .l) k₁
   unfolding slotted
-  is-slotted = ap (λ (l : ℕ). takeSlot l k₁) (sym (l-is h))
+  is-slotted = ap (λ (l : ℕ). takeSlot l k₁) (width-is (h .granted) (h .whole))
 
   slots-count : k₁ .slots ≡ st .slots
   slots-count = children-keep (nodeAt p n) (before p n) .1 .0 ∙ h .holding .slots
@@ -311,12 +281,13 @@ module _ {p : Program} {z : Shape} {st : Slots} {n : ℕ} {x : NodeRecord} {ws x
   kept₁ = rw words-are (kept-put (z .limit + 2 * z .l) ws (z .limit) word (omega (arith, value-long h)) (omega (arith, h .granted .words-long)))
 
   -- the limit refuses the slot
-  pub place-full : taken z t st₁ ≡ None → Turned p z (suc n) n 0 (slotted p n) Full ws′ t
-  place-full f = rw is-slotted (turned-full (took-none z n (valueOf p) t ws′ (row t (z .u) nodePhase) st₁ k₁ slots-count (slots₁ .all) axes-count f))
+  pub place-limit : taken z t st₁ ≡ NoSlot → PlacedAs p z n ExpansionLimit ws′ t
+  place-limit f =
+      rw is-slotted (took-none z n (valueOf p) t ws′ (row t (z .u) nodePhase) st₁ k₁ slots-count (slots₁ .all) axes-count f)
 
-  pub left-full : Left z ws xs ws′ t
+  pub left-limit : Left z ws xs ws′ t
   unfolding allOf member anyOf
-  left-full = record { words = kept₁; numbers = only-of written refl (c .only) }
+  left-limit = record { words = kept₁; numbers = only-of turnRows refl (c .only) }
 
   -- the slot that is taken
   module _ {s : ℕ} {st′ : Slots} (f : taken z t st₁ ≡ Slot s st′) where
@@ -332,7 +303,7 @@ module _ {p : Program} {z : Shape} {st : Slots} {n : ℕ} {x : NodeRecord} {ws x
     keep-pre = record {
       scratch = omega (arith, words-long, h .granted .words-long);
       long = numbers-long;
-      node = omega (arith, h .node, nodes-in h);
+      node = omega (arith, h .node, nodes-in (h .granted));
       slot = omega (arith, slots-le (z .l) s (st′ .slots) (took .takes .inside), slots-fit′);
       small = omega (arith, took .takes .inside, size h .words-row (st′ .slots) slots-fit′);
       u-small = size h .u-small;
@@ -395,8 +366,8 @@ module _ {p : Program} {z : Shape} {st : Slots} {n : ℕ} {x : NodeRecord} {ws x
       held″ =
           rw (took .uses, q .slot, q .phase, same-free, words″)
           (slots-kept slots-fit′ (omega (arith, words-long, h .granted .words-long))
-          (omega (arith, row-length t (z .u) 24 nodeSlot numbers-long (omega arith), h .node, nodes-in h))
-          (omega (arith, row-length t (z .u) 24 nodePhase numbers-long (omega arith), h .node, nodes-in h))
+          (omega (arith, row-length t (z .u) 24 nodeSlot numbers-long (omega arith), h .node, nodes-in (h .granted)))
+          (omega (arith, row-length t (z .u) 24 nodePhase numbers-long (omega arith), h .node, nodes-in (h .granted)))
           turns-are refl (value-long h) (took .takes) (slots₁ .held))
 
       holding″ : Holding p z (suc n) n 0 (takeSlot (z .l) k₁) st′ ws″ t″
@@ -420,8 +391,8 @@ module _ {p : Program} {z : Shape} {st : Slots} {n : ℕ} {x : NodeRecord} {ws x
       }
 
       -- the turn goes on
-      pub place-next : Turned p z (suc n) n 0 (slotted p n) (Next st′) ws″ t″
-      place-next = rw is-slotted (turned-next holding″)
+      pub place-next : PlacedAs p z n (SlotsThen st′) ws″ t″
+      place-next = rw is-slotted holding″
 
       pub left-next : Left z ws xs ws″ t″
       unfolding allOf member anyOf
@@ -429,5 +400,5 @@ module _ {p : Program} {z : Shape} {st : Slots} {n : ℕ} {x : NodeRecord} {ws x
         words = kept-then kept₁
             (rw words″ (kept-put (z .limit + 2 * z .l) ws′ (slotPlace (z .limit) (z .l) s) word (omega (arith, place-in, value-long h))
             (omega (arith, words-long, h .granted .words-long))));
-        numbers = only-of written refl numbers″;
+        numbers = only-of turnRows refl numbers″;
       }

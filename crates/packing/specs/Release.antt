@@ -107,25 +107,29 @@ module _ {l limit b slots free : ℕ} {value : ℕ → Value} {uses slotRow phas
 
 -- ---- the store
 
-module _ {l limit u nodes b slots free : ℕ} {value : ℕ → Value} {k : Pack} {ws xs : List ℕ} (m : ℕ)
-    (long : 24 * u ≤ length xs) (nodes-in : nodes ≤ u) (below : b ≤ nodes) (slots-in : slots ≤ u)
-    (d : m < b) (used : 0 < getD (k .uses) m 0)
-    (s : SlotsAre l limit u nodes b slots free value k ws xs) where
-  -- the node's count in memory is the model's
-  pub count-is : usesOf xs u m ≡ getD (k .uses) m 0
-  count-is = sym (entries-at xs u usesRow nodes long (omega arith) nodes-in m (omega arith)) ∙ ap (λ (x : List ℕ). getD x m 0) (s .uses)
+-- a node's count in memory is the model's
+pub count-is : {l limit u nodes b slots free : ℕ} {value : ℕ → Value} {k : Pack} {ws xs : List ℕ} (m : ℕ) → 24 * u ≤ length xs
+    → nodes ≤ u → m < nodes → SlotsAre l limit u nodes b slots free value k ws xs → usesOf xs u m ≡ getD (k .uses) m 0
+count-is {u = u} {nodes} {xs = xs} m long nodes-in below s =
+    sym (entries-at xs u usesRow nodes long (omega arith) nodes-in m below) ∙ ap (λ (x : List ℕ). getD x m 0) (s .uses)
 
+module _ {l limit u nodes b slots free : ℕ} {value : ℕ → Value} {k : Pack} {ws xs : List ℕ} (m : ℕ)
+    (d : m < b) (used : 0 < getD (k .uses) m 0) (s : SlotsAre l limit u nodes b slots free value k ws xs) where
   -- its slot has room among the free ones
   pub free-room : free < slots
   free-room = omega (arith, s .all, s .live, used-below-some b m (k .uses) d used)
 
-  module _ {r : ℕ} {xs′ : List ℕ} (t : Released xs u free m r xs′) where
+  module _ (long : 24 * u ≤ length xs) (nodes-in : nodes ≤ u) (below : b ≤ nodes) (slots-in : slots < u)
+      {r : ℕ} {xs′ : List ℕ} (t : Released xs u free m r xs′) where
+    count : usesOf xs u m ≡ getD (k .uses) m 0
+    count = count-is m long nodes-in (omega arith) s
+
     counts : entries xs′ u usesRow nodes ≡ oneUseLess m (k .uses)
     unfolding entries oneUseLess
     counts =
         ap (take nodes) (t .uses)
         ∙ take-set-lt nodes (row xs u usesRow) m (usesOf xs u m - 1) (omega arith)
-        ∙ ap₂ (λ (x : List ℕ) (v : ℕ). set x m (v - 1)) (s .uses) count-is
+        ∙ ap₂ (λ (x : List ℕ) (v : ℕ). set x m (v - 1)) (s .uses) count
 
     same-slots : row xs′ u nodeSlot ≡ row xs u nodeSlot
     unfolding member anyOf
@@ -141,7 +145,7 @@ module _ {l limit u nodes b slots free : ℕ} {value : ℕ → Value} {k : Pack}
         × SlotsHold l limit b slots r value (oneUseLess m (k .uses)) (row xs′ u nodeSlot) (row xs′ u nodePhase) (row xs′ u freeRow) ws
     unfolding useNode
     last true e =
-        let one : getD (k .uses) m 0 ≡ 1 = sym count-is ∙ eqb-true (usesOf xs u m) 1 e in
+        let one : getD (k .uses) m 0 ≡ 1 = sym count ∙ eqb-true (usesOf xs u m) 1 e in
         let c : r ≡ free + 1 = t .count ∙ ap (λ (n : ℕ). free + n) (if-true _ _ e) in
         let q : row xs′ u freeRow ≡ set (row xs u freeRow) free (getD (row xs u nodeSlot) m 0) = t .stack ∙ if-true _ _ e in
         let one-less : _≡_ {A = ℕ} (if eqb (getD (k .uses) m 0) 1 then 1 else 0) 1 = if-true _ _ (eq-eqb (getD (k .uses) m 0) 1 one) in
@@ -152,7 +156,7 @@ module _ {l limit u nodes b slots free : ℕ} {value : ℕ → Value} {k : Pack}
     last false e =
         let c : r ≡ free = t .count ∙ ap (λ (n : ℕ). free + n) (if-false _ _ e) ∙ add-zero free in
         let q : row xs′ u freeRow ≡ row xs u freeRow = t .stack ∙ if-false _ _ e in
-        let none : _≡_ {A = ℕ} (if eqb (getD (k .uses) m 0) 1 then 1 else 0) 0 = if-false _ _ (ap (λ (n : ℕ). eqb n 1) (sym count-is) ∙ e) in
+        let none : _≡_ {A = ℕ} (if eqb (getD (k .uses) m 0) 1 then 1 else 0) 0 = if-false _ _ (ap (λ (n : ℕ). eqb n 1) (sym count) ∙ e) in
         (omega (arith, s .all), rw (same-slots, same-phases, q, c) (slots-fewer (s .held) m))
 
     -- "a slot is freed after its last use"

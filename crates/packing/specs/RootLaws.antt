@@ -1,32 +1,32 @@
 -- Before a root's turn: what memory holds of its node, the root's sign, the model's next state, what `intern` answers. Assumes nothing.
-use mathlib.Core.Path.{_≡_, refl, sym, ap, ap₂, _∙_, subst}
+use mathlib.Core.Path.{_≡_, sym, ap, ap₂, _∙_, subst}
 use mathlib.Core.Bool.{true, false}
 use mathlib.Core.List.{List}
-use Prim.Native.Nat.{ℕ, suc, _+_, _*_, _%_, _≤_, _<_}
+use Prim.Native.Nat.{ℕ, suc, _+_, _*_, _%_, _<_}
 use native.Mathlib.Omega.{arith}
 use lib.ListN.{getD}
-use borrow.Author.Tests.{eq-eqb, ne-eqb, eqb-true}
+use borrow.Author.Tests.{eq-eqb, ne-eqb}
 use Rattle.store.specs.Row.{row}
-use Rattle.pauli.specs.Word.{width}
 use Rattle.model.specs.Lists.{isOdd}
 use Rattle.model.specs.Program.{Program}
 use Rattle.model.specs.Words.{Store, intern}
 use Rattle.model.specs.Packing.{withStore, withRefusal, useNode, packRoot}
-use Rattle.theory.specs.Cases.{if-true, if-false, and-left, and-right}
+use Rattle.theory.specs.Cases.{if-true, if-false}
 use Rattle.axes.specs.View.{wordAt}
 use Rattle.axes.specs.Intern.{InternPre, Stores}
-use Rattle.axes.specs.Stored.{Accepted, accepted, Refused, refused}
+use Rattle.axes.specs.Stored.{HasId, has-id, NoRoom, no-room}
 use Rattle.axes.specs.declared.Interned.{Interned}
 use Rattle.axes.specs.declared.Interned.the-variants.{Id, Full}
 use Rattle.layout.specs.declared.Shape.{Shape}
 use Rattle.layout.specs.Rows.{nodeSlot}
-use Rattle.layout.specs.Words.{slotPlace, slots-le, slot-in, slot-counted}
-use Rattle.packing_states.specs.References.{referenceAt, isRootAt, rootOf}
+use Rattle.layout.specs.Words.{slotPlace, slot-in, slot-counted}
+use Rattle.packing_states.specs.References.{referenceAt}
 use Rattle.packing_states.specs.States.{valueOf, within}
 use Rattle.packing_states.specs.StateLaws.{pack-reference}
 use Rattle.packing.specs.declared.Slots.{Slots}
 use Rattle.packing.specs.declared.ValueHeld.{ValueHeld}
 use Rattle.packing.specs.Holding.{RootAt}
+use Rattle.packing.specs.Held.{slots-fit, nodes-in, width-is, held-pre}
 use Rattle.packing.specs.Values.{HeldPre, heldAt}
 use Rattle.packing.specs.NodeValues.{value-turns}
 
@@ -40,24 +40,14 @@ mod-odd a = omega arith
 
 -- ---- roots
 
--- a root of node n is a root, and its node is n
-pub root-is : (p : Program) (n j : ℕ) → rootOf p n j ≡ true → (isRootAt p j ≡ true) × (referenceAt p j .node ≡ n)
-unfolding rootOf
-root-is p n j e = (and-left (isRootAt p j) _ e, eqb-true _ n (and-right (isRootAt p j) _ e))
-
--- and the other way round
-pub its-root : (p : Program) (n j : ℕ) → isRootAt p j ≡ true → referenceAt p j .node ≡ n → rootOf p n j ≡ true
-unfolding rootOf
-its-root p n j r e = rw (r, eq-eqb (referenceAt p j .node) n e) refl
-
 -- the model's store once the root's word is stored
 abbrev pub rootStore : Program → Shape → Slots → ℕ → ℕ → Store
 rootStore p z st n j = intern (z .l) (st .slots * (2 * z .l)) (within p n j .store) (valueOf p n .word)
 
 -- what the id of the root's word means
-abbrev pub RootAccepted : Program → Shape → Slots → ℕ → ℕ → List ℕ → ℕ → List ℕ → Type 0
-RootAccepted p z st n j ws id ws′ =
-    Accepted (z .l) (st .slots * (2 * z .l)) (z .limit) (st .axes) ws (within p n j .store) (valueOf p n .word) id ws′
+abbrev pub RootHasId : Program → Shape → Slots → ℕ → ℕ → List ℕ → ℕ → List ℕ → Type 0
+RootHasId p z st n j ws id ws′ =
+    HasId (z .l) (st .slots * (2 * z .l)) (z .limit) (st .axes) ws (within p n j .store) (valueOf p n .word) id ws′
 
 -- ---- before the root's turn
 
@@ -65,25 +55,15 @@ module _ {p : Program} {z : Shape} {st : Slots} {n j phase : ℕ} {ws xs : List 
   slot-below : getD (row xs (z .u) nodeSlot) n 0 < st .slots
   slot-below = h .holding .held .slot n (omega arith) (h .used)
 
-  pub slots-fit : st .slots * (2 * z .l) ≤ z .limit
-  slots-fit = omega (arith, h .holding .room)
-
-  width-is : width (p .qubits) ≡ z .l
-  width-is = ap width (h .whole .qubits) ∙ sym (h .granted .sized .l-is)
-
   -- the reference has its entry in a row
   pub reference-in : j < z .u
   reference-in = omega (arith, h .reference, h .whole .references, h .granted .sized .row)
 
   pub node-in : n < z .u
-  node-in = omega (arith, h .node, h .granted .sized .row)
+  node-in = omega (arith, h .node, nodes-in (h .granted))
 
-  pub held-pre : HeldPre z xs n
-  held-pre = record {
-    long = h .granted .numbers-long;
-    node = node-in;
-    slot = omega (arith, slots-fit, slots-le (z .l) (getD (row xs (z .u) nodeSlot) n 0) (st .slots) slot-below);
-  }
+  pub node-held : HeldPre z xs n
+  node-held = held-pre (h .granted) (h .holding) n (omega arith) (h .node) (h .used)
 
   module _ {v : ValueHeld} (e : v ≡ heldAt z xs n) where
     held-turns : v .phase ≡ valueOf p n .turns
@@ -104,10 +84,10 @@ module _ {p : Program} {z : Shape} {st : Slots} {n j phase : ℕ} {ws xs : List 
         let at : v .at ≡ slotPlace (z .limit) (z .l) s = ap (λ (x : ValueHeld). x .at) e in
         record {
           stored = omega (arith, h .holding .room);
-          counted = slots-fit;
+          counted = slots-fit (h .holding);
           inside = omega (arith, h .granted .words-long);
-          word-in = omega (arith, at, h .granted .words-long, slot-in (z .limit) (z .l) (st .slots) slots-fit s slot-below);
-          behind = omega (arith, at, slot-counted (z .limit) (z .l) (st .slots) slots-fit s slot-below);
+          word-in = omega (arith, at, h .granted .words-long, slot-in (z .limit) (z .l) (st .slots) (slots-fit (h .holding)) s slot-below);
+          behind = omega (arith, at, slot-counted (z .limit) (z .l) (st .slots) (slots-fit (h .holding)) s slot-below);
         }
 
     -- the root's total phase
@@ -133,20 +113,20 @@ module _ {p : Program} {z : Shape} {st : Slots} {n j phase : ℕ} {ws xs : List 
   stored-next e =
       pack-reference p n j (h .root) (h .holding .going) ∙ if-false _ _ e
       ∙ ap₂ (λ (l s : ℕ). useNode n (withStore (intern l (s * (2 * l)) (within p n j .store) (valueOf p n .word)) (within p n j)))
-      width-is (h .holding .slots)
+      (width-is (h .granted) (h .whole)) (h .holding .slots)
 
   -- ---- the answer of `intern`
 
   module _ {v : ValueHeld} (e : v ≡ heldAt z xs n) {r : Interned} {ws′ : List ℕ}
       (s : Stores (z .l) (st .slots * (2 * z .l)) (z .limit) (st .axes) ws (v .at) r ws′) where
-    pub root-accepted : {id : ℕ} → r ≡ Id id → RootAccepted p z st n j ws id ws′
-    root-accepted {id} q =
-        subst (λ (w : List ℕ). Accepted (z .l) (st .slots * (2 * z .l)) (z .limit) (st .axes) ws (within p n j .store) w id ws′)
+    pub root-has-id : {id : ℕ} → r ≡ Id id → RootHasId p z st n j ws id ws′
+    root-has-id {id} q =
+        subst (λ (w : List ℕ). HasId (z .l) (st .slots * (2 * z .l)) (z .limit) (st .axes) ws (within p n j .store) w id ws′)
         (held-word e)
-        (accepted _ _ _ _ ws (v .at) (intern-pre e) (within p n j .store) (sym (h .holding .axes)) r ws′ s (h .holding .fits) id q)
+        (has-id _ _ _ _ ws (v .at) (intern-pre e) (within p n j .store) (sym (h .holding .axes)) r ws′ s (h .holding .fits) id q)
 
-    pub root-refused : r ≡ Full → Refused (z .l) (st .slots * (2 * z .l)) (z .limit) ws (within p n j .store) (valueOf p n .word) ws′
-    root-refused q =
-        subst (λ (w : List ℕ). Refused (z .l) (st .slots * (2 * z .l)) (z .limit) ws (within p n j .store) w ws′)
+    pub root-no-room : r ≡ Full → NoRoom (z .l) (st .slots * (2 * z .l)) (z .limit) ws (within p n j .store) (valueOf p n .word) ws′
+    root-no-room q =
+        subst (λ (w : List ℕ). NoRoom (z .l) (st .slots * (2 * z .l)) (z .limit) ws (within p n j .store) w ws′)
         (held-word e)
-        (refused _ _ _ _ ws (v .at) (intern-pre e) (within p n j .store) (sym (h .holding .axes)) r ws′ s q)
+        (no-room _ _ _ _ ws (v .at) (intern-pre e) (within p n j .store) (sym (h .holding .axes)) r ws′ s q)

@@ -7,61 +7,41 @@ use Prim.Native.Nat.{ℕ, suc, _+_, _*_, _%_, _≤_, _<_}
 use native.Mathlib.Nat.{add-zero}
 use native.Mathlib.Omega.{arith}
 use native.Mathlib.Decide.{decLt, ℕ-discrete}
-use lib.ListN.{length, getD, set, take, List·getD-eq-default}
-use lib.Seq.{getD-set-same, getD-set-other}
+use lib.ListN.{length, getD, take, List·getD-eq-default}
 use Rattle.store.specs.Part.{part, part-at}
-use Rattle.store.specs.Row.{row, Written, row-length}
 use Rattle.model.specs.Lists.{anyOf, member, allOf}
 use Rattle.model.specs.Program.{Program}
-use Rattle.model.specs.Words.{Value, idOf, Store}
+use Rattle.model.specs.Words.{idOf, Store}
 use Rattle.model.specs.Packing.{withStore, useNode}
 use Rattle.theory.specs.Ids.{id-in, id-stored, intern-grows, stored-keeps, id-keeps}
 use Rattle.axes.specs.Intern.{countWith}
-use Rattle.axes.specs.Stored.{Accepted}
+use Rattle.axes.specs.Stored.{HasId}
 use Rattle.layout.specs.declared.Shape.{Shape}
-use Rattle.layout.specs.Rows.{usesRow, nodeSlot, nodePhase, freeRow, firstRoot, nextRoot, rootAxis, rootSign, entries, written-row}
-use Rattle.layout.specs.Only.{Only, only-then, only-of, only-written}
+use Rattle.layout.specs.Rows.{usesRow, nodeSlot, nodePhase, freeRow, firstRoot, nextRoot, rootAxis, rootSign, entries}
+use Rattle.layout.specs.Only.{only-then, only-of}
 use Rattle.layout.specs.Words.{slotPlace, slot-in, slot-counted, KeptFrom}
 use Rattle.packing_states.specs.References.{referenceAt, total, isRootAt}
 use Rattle.packing_states.specs.States.{valueOf, within}
+use Rattle.packing_states.specs.ReferenceLaws.{root-is}
+use Rattle.packing_states.specs.RootRows.{RootRows, rootRows, axis-own, sign-own, axis-other, sign-other}
 use Rattle.packing_states.specs.Linked.{Linked}
 use Rattle.packing.specs.declared.Slots.{Slots}
-use Rattle.packing.specs.Holding.{SlotsHold, SignedAt, Done, Holding, Left, RootAt}
+use Rattle.packing.specs.Holding.{SignedAt, Done, Holding, Left, RootAt}
+use Rattle.packing.specs.Held.{slots-fit, nodes-in, slots-in}
+use Rattle.packing.specs.Keeping.{slots-words}
 use Rattle.packing.specs.Values.{ReleasePre, Released}
 use Rattle.packing.specs.Release.{SlotsAre, count-is, free-room, slots-release}
-use Rattle.packing.specs.RootLaws.{root-is, rootStore, RootAccepted, slots-fit, reference-in, node-in}
+use Rattle.packing.specs.RootLaws.{rootStore, RootHasId, reference-in, node-in}
 
 -- ---- the root's axis and sign in their rows
 
--- reference j's are written, and of the other rows only some change
-pub record RootRows (rs : List ℕ) (u j id turns : ℕ) (xs t : List ℕ) : Type 0 where
-  pub only : Only rs u xs t
-  pub axis : row t u rootAxis ≡ set (row xs u rootAxis) j id
-  pub sign : row t u rootSign ≡ set (row xs u rootSign) j turns
+-- the rows of a root's whole turn
+abbrev rootTurnRows : List ℕ
+rootTurnRows = usesRow ∷ freeRow ∷ rootAxis ∷ rootSign ∷ []
 
-abbrev pub rootRows : List ℕ
-rootRows = rootAxis ∷ rootSign ∷ []
-
--- those of a root's whole turn
-abbrev turnRows : List ℕ
-turnRows = usesRow ∷ freeRow ∷ rootAxis ∷ rootSign ∷ []
-
-pub root-rows : {u j id turns : ℕ} {xs xs′ t : List ℕ} → 24 * u ≤ length xs → j < u → Written xs u rootAxis j id xs′
-    → Written xs′ u rootSign j turns t → RootRows rootRows u j id turns xs t
-unfolding member anyOf allOf
-root-rows {u} {j} {id} {turns} {xs} {xs′} {t} h b a s =
-    let long : 24 * u ≤ length xs′ = omega (arith, a .long) in
-    let x = only-written h (omega arith) b a in
-    let y = only-written long (omega arith) b s in
-    record {
-      only = only-then (only-of _ refl x) (only-of _ refl y);
-      axis = y .rows rootAxis (omega arith) refl ∙ written-row h (omega arith) b a;
-      sign = written-row long (omega arith) b s ∙ ap (λ (q : List ℕ). set q j turns) (x .rows rootSign (omega arith) refl);
-    }
-
--- then the node's use is given up
+-- they are written, then the node's use is given up
 rows-released : {u j id turns free n r : ℕ} {xs xs′ t : List ℕ} → RootRows rootRows u j id turns xs xs′ → Released xs′ u free n r t
-    → RootRows turnRows u j id turns xs t
+    → RootRows rootTurnRows u j id turns xs t
 unfolding member anyOf allOf
 rows-released m r = record {
   only = only-then (only-of _ refl (m .only)) (only-of _ refl (r .only));
@@ -69,59 +49,29 @@ rows-released m r = record {
   sign = r .only .rows rootSign (omega arith) refl ∙ m .sign;
 }
 
-module _ {rs : List ℕ} {u j id turns : ℕ} {xs t : List ℕ} (w : RootRows rs u j id turns xs t) where
-  axis-own : 24 * u ≤ length xs → j < u → getD (row t u rootAxis) j 0 ≡ id
-  axis-own long b =
-      ap (λ (q : List ℕ). getD q j 0) (w .axis)
-      ∙ getD-set-same (row xs u rootAxis) j id 0 (omega (arith, row-length xs u 24 rootAxis long (omega arith)))
-
-  sign-own : 24 * u ≤ length xs → j < u → getD (row t u rootSign) j 0 ≡ turns
-  sign-own long b =
-      ap (λ (q : List ℕ). getD q j 0) (w .sign)
-      ∙ getD-set-same (row xs u rootSign) j turns 0 (omega (arith, row-length xs u 24 rootSign long (omega arith)))
-
-  axis-other : (i : ℕ) → i ≢ j → getD (row t u rootAxis) i 0 ≡ getD (row xs u rootAxis) i 0
-  axis-other i n = ap (λ (q : List ℕ). getD q i 0) (w .axis) ∙ getD-set-other (row xs u rootAxis) j i id 0 n
-
-  sign-other : (i : ℕ) → i ≢ j → getD (row t u rootSign) i 0 ≡ getD (row xs u rootSign) i 0
-  sign-other i n = ap (λ (q : List ℕ). getD q i 0) (w .sign) ∙ getD-set-other (row xs u rootSign) j i turns 0 n
-
 -- links stay: a reference that is no root is not this one
-linked-after : {p : Program} {z : Shape} {j id turns : ℕ} {xs t : List ℕ} → RootRows turnRows (z .u) j id turns xs t
+linked-after : {p : Program} {z : Shape} {j id turns : ℕ} {xs t : List ℕ} → RootRows rootTurnRows (z .u) j id turns xs t
     → isRootAt p j ≡ true → Linked p z xs → Linked p z t
 unfolding member anyOf
 linked-after {p} {z} {j} {id} {turns} {xs} {t} w root k = record {
   first = λ n b. ap (λ (q : List ℕ). getD q n 0) (w .only .rows firstRoot (omega arith) refl) ∙ k .first n b;
-  next = λ i b r. ap (λ (q : List ℕ). getD q i 0) (w .only .rows nextRoot (omega arith) refl) ∙ k .next i b r;
-  no-axis = λ i b r. axis-other w i (other i r) ∙ k .no-axis i b r;
-  no-sign = λ i b r. sign-other w i (other i r) ∙ k .no-sign i b r;
+  next = λ i l b r. ap (λ (q : List ℕ). getD q i 0) (w .only .rows nextRoot (omega arith) refl) ∙ k .next i l b r;
+  no-axis = λ i l b r. axis-other w i (other i r) ∙ k .no-axis i l b r;
+  no-sign = λ i l b r. sign-other w i (other i r) ∙ k .no-sign i l b r;
 }
   where
     other : (i : ℕ) → isRootAt p i ≡ false → i ≢ j
     other i r e = true≢false (sym root ∙ ap (isRootAt p) (sym e) ∙ r)
 
--- ---- words that stay where the slots are
-
-slots-words : {l limit b slots free : ℕ} {value : ℕ → Value} {uses slotRow phaseRow stack ws ws′ : List ℕ}
-    → ((s : ℕ) → s < slots → part ws′ (slotPlace limit l s) (2 * l) ≡ part ws (slotPlace limit l s) (2 * l))
-    → SlotsHold l limit b slots free value uses slotRow phaseRow stack ws → SlotsHold l limit b slots free value uses slotRow phaseRow stack ws′
-slots-words {slotRow = slotRow} f s = record {
-  slot = s .slot;
-  word = λ m a u. f (getD slotRow m 0) (s .slot m a u) ∙ s .word m a u;
-  turns = s .turns;
-  one = s .one;
-  free-slot = s .free-slot;
-  free-one = s .free-one;
-  free-other = s .free-other;
-}
+-- ---- words that stay behind the limit
 
 at-part : (s : List ℕ) (i : ℕ) → getD (part s i 1) 0 0 ≡ getD s i 0
 at-part s i = part-at s i 1 0 (omega arith) ∙ ap (λ (m : ℕ). getD s m 0) (add-zero i)
 
 -- storing an axis leaves what lies behind the limit
-accepted-kept : {l others limit n : ℕ} {s : List ℕ} {st : Store} {w : List ℕ} {id : ℕ} {t : List ℕ}
-    → Accepted l others limit n s st w id t → KeptFrom (limit + 2 * l) s t
-accepted-kept {l} {others} {limit} {n} {s} {st} {w} {id} {t} a = record { long = a .long; kept = λ i b. go i b (decLt i (length s)) }
+has-id-kept : {l others limit n : ℕ} {s : List ℕ} {st : Store} {w : List ℕ} {id : ℕ} {t : List ℕ}
+    → HasId l others limit n s st w id t → KeptFrom (limit + 2 * l) s t
+has-id-kept {l} {others} {limit} {n} {s} {st} {w} {id} {t} a = record { long = a .long; kept = λ i b. go i b (decLt i (length s)) }
   where
     go : (i : ℕ) → limit + 2 * l ≤ i → Dec (i < length s) → getD t i 0 ≡ getD s i 0
     go i b (yes c) = sym (at-part t i) ∙ ap (λ (q : List ℕ). getD q 0 0) (a .rest i 1 (omega arith) (omega arith)) ∙ at-part s i
@@ -133,13 +83,13 @@ accepted-kept {l} {others} {limit} {n} {s} {st} {w} {id} {t} a = record { long =
 -- ---- the turn
 
 module _ {p : Program} {z : Shape} {st : Slots} {n j phase : ℕ} {ws xs : List ℕ} (h : RootAt p z st n j phase ws xs)
-    {id turns : ℕ} {ws′ xs′ : List ℕ} (a : RootAccepted p z st n j ws id ws′)
+    {id turns : ℕ} {ws′ xs′ : List ℕ} (a : RootHasId p z st n j ws id ws′)
     (m : RootRows rootRows (z .u) j id turns xs xs′) where
   same-words : (s : ℕ) → s < st .slots
       → part ws′ (slotPlace (z .limit) (z .l) s) (2 * z .l) ≡ part ws (slotPlace (z .limit) (z .l) s) (2 * z .l)
   same-words s b =
-      a .rest (slotPlace (z .limit) (z .l) s) (2 * z .l) (slot-counted (z .limit) (z .l) (st .slots) (slots-fit h) s b)
-      (omega (arith, slot-in (z .limit) (z .l) (st .slots) (slots-fit h) s b, h .granted .words-long))
+      a .rest (slotPlace (z .limit) (z .l) s) (2 * z .l) (slot-counted (z .limit) (z .l) (st .slots) (slots-fit (h .holding)) s b)
+      (omega (arith, slot-in (z .limit) (z .l) (st .slots) (slots-fit (h .holding)) s b, h .granted .words-long))
 
   slots-marked : SlotsAre (z .l) (z .limit) (z .u) (z .nodes) (suc n) (st .slots) (st .free) (valueOf p)
       (withStore (rootStore p z st n j) (within p n j)) ws′ xs′
@@ -158,28 +108,22 @@ module _ {p : Program} {z : Shape} {st : Slots} {n j phase : ℕ} {ws xs : List 
   long-marked : 24 * z .u ≤ length xs′
   long-marked = omega (arith, m .only .long, h .granted .numbers-long)
 
-  nodes-in : z .nodes ≤ z .u
-  nodes-in = omega (arith, h .granted .sized .row)
-
-  slots-in : st .slots ≤ z .u
-  slots-in = omega (arith, h .granted .sized .words-row (st .slots) (slots-fit h))
-
   pub release-pre : ReleasePre xs′ (z .u) (st .free) n
   release-pre = record {
     long = long-marked;
     node = node-in h;
-    room = omega (arith, slots-in, free-room n long-marked nodes-in (h .node) slots-in (omega arith) (h .used) slots-marked);
+    room = omega (arith, slots-in (h .granted) (h .holding), free-room n (omega arith) (h .used) slots-marked);
     u-small = h .granted .sized .u-small;
-    used = omega (arith, h .used, count-is n long-marked nodes-in (h .node) slots-in (omega arith) (h .used) slots-marked);
+    used = omega (arith, h .used, count-is n long-marked (nodes-in (h .granted)) (h .node) slots-marked);
   }
 
   module _ {free : ℕ} {t : List ℕ} (r : Released xs′ (z .u) (st .free) n free t) where
-    rows : RootRows turnRows (z .u) j id turns xs t
+    rows : RootRows rootTurnRows (z .u) j id turns xs t
     rows = rows-released m r
 
     pub left-next : Left z ws xs ws′ t
     unfolding member anyOf allOf
-    left-next = record { words = accepted-kept a; numbers = only-of _ refl (rows .only) }
+    left-next = record { words = has-id-kept a; numbers = only-of _ refl (rows .only) }
 
     abbrev axesNext : List (List ℕ)
     axesNext = rootStore p z st n j .axes
@@ -232,7 +176,8 @@ module _ {p : Program} {z : Shape} {st : Slots} {n j phase : ℕ} {ws xs : List 
           (record { axes = countWith (st .axes) id; slots = st .slots; free = free }) ws′ t
       unfolding useNode
       holding-next =
-          let s = slots-release n long-marked nodes-in (h .node) slots-in (omega arith) (h .used) slots-marked r in
+          let s = slots-release n (omega arith) (h .used) slots-marked long-marked (nodes-in (h .granted)) (h .node)
+          (slots-in (h .granted) (h .holding)) r in
           record {
             going = h .holding .going;
             fits = a .fits;

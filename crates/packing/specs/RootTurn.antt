@@ -15,15 +15,17 @@ use Rattle.axes.specs.declared.Interned.the-variants.{Id, Full as InternedFull}
 use Rattle.layout.specs.declared.Shape.{Shape}
 use Rattle.layout.specs.Rows.{rootAxis, rootSign}
 use Rattle.packing_states.specs.States.{valueOf, within}
+use Rattle.packing_states.specs.RootRows.{RootRows, rootRows, root-rows}
 use Rattle.packing.specs.declared.Slots.{Slots}
 use Rattle.packing.specs.declared.ValueHeld.{ValueHeld}
-use Rattle.packing.specs.declared.Step.the-variants.{Next, NonHermitianAxis, Full}
+use Rattle.packing.specs.declared.Step.the-variants.{Next, NonHermitianAxis, ExpansionLimit}
 use Rattle.packing.specs.Holding.{Turned, Left, RootAt}
+use Rattle.packing.specs.Held.{slots-fit}
 use Rattle.packing.specs.Values.{heldAt, ReleasePre, Released}
-use Rattle.packing.specs.Turns.{turned-next, turned-odd, turned-full, left-none}
-use Rattle.packing.specs.RootLaws.{slots-fit, reference-in, sign-is, odd-root, even-root, refused-next, stored-next}
-use Rattle.packing.specs.RootLaws.{RootAccepted, root-accepted, root-refused}
-use Rattle.packing.specs.RootNext.{RootRows, rootRows, root-rows, release-pre, left-next, holding-next}
+use Rattle.packing.specs.Turns.{left-none}
+use Rattle.packing.specs.RootLaws.{reference-in, sign-is, odd-root, even-root, refused-next, stored-next}
+use Rattle.packing.specs.RootLaws.{RootHasId, root-has-id, root-no-room}
+use Rattle.packing.specs.RootNext.{release-pre, left-next, holding-next}
 
 module _ {p : Program} {z : Shape} {st : Slots} {n j phase : ℕ} {ws xs : List ℕ} (h : RootAt p z st n j phase ws xs) where
   -- ---- bounds
@@ -32,7 +34,7 @@ module _ {p : Program} {z : Shape} {st : Slots} {n j phase : ℕ} {ws xs : List 
   l-small = h .granted .sized .few
 
   pub slots-small : st .slots * (2 * z .l) ≤ 1048576
-  slots-small = omega (arith, slots-fit h, h .granted .sized .limit)
+  slots-small = omega (arith, slots-fit (h .holding), h .granted .sized .limit)
 
   pub axes-small : st .axes < 1187839
   axes-small =
@@ -43,25 +45,25 @@ module _ {p : Program} {z : Shape} {st : Slots} {n j phase : ℕ} {ws xs : List 
     -- ---- 9
 
     pub root-odd : ((v .phase + phase % 4) % 4) % 2 ≡ 1 → Turned p z (suc n) n (suc j) (within p n (suc j)) NonHermitianAxis ws xs
-    root-odd o = rw (refused-next h (odd-root h e o)) (turned-odd refl (h .holding .fits))
+    root-odd o = rw (refused-next h (odd-root h e o)) (refl, h .holding .fits)
 
     module _ {r : Interned} {ws′ : List ℕ}
         (s : Stores (z .l) (st .slots * (2 * z .l)) (z .limit) (st .axes) ws (v .at) r ws′) where
       -- ---- 10
 
-      pub left-full : r ≡ InternedFull → Left z ws xs ws′ xs
-      left-full q = subst (λ (w : List ℕ). Left z ws xs w xs) (sym (root-refused h e s q .kept)) (left-none z ws xs)
+      pub left-limit : r ≡ InternedFull → Left z ws xs ws′ xs
+      left-limit q = subst (λ (w : List ℕ). Left z ws xs w xs) (sym (root-no-room h e s q .kept)) (left-none z ws xs)
 
-      pub root-full : (((v .phase + phase % 4) % 4) % 2 ≡ 1 → ⊥) → r ≡ InternedFull
-          → Turned p z (suc n) n (suc j) (within p n (suc j)) Full ws′ xs
+      pub root-limit : (((v .phase + phase % 4) % 4) % 2 ≡ 1 → ⊥) → r ≡ InternedFull
+          → Turned p z (suc n) n (suc j) (within p n (suc j)) ExpansionLimit ws′ xs
       unfolding useNode
-      root-full o q = rw (stored-next h (even-root h e o)) (turned-full (root-refused h e s q .exceeds))
+      root-limit o q = rw (stored-next h (even-root h e o)) (root-no-room h e s q .exceeds)
 
       -- ---- the word has an id
 
       module _ {id : ℕ} (q : r ≡ Id id) where
-        stored : RootAccepted p z st n j ws id ws′
-        stored = root-accepted h e s q
+        stored : RootHasId p z st n j ws id ws′
+        stored = root-has-id h e s q
 
         pub id-small : id < 1187839
         id-small =
@@ -83,4 +85,4 @@ module _ {p : Program} {z : Shape} {st : Slots} {n j phase : ℕ} {ws xs : List 
 
             pub root-next : (((v .phase + phase % 4) % 4) % 2 ≡ 1 → ⊥) → {count : ℕ} → count ≡ countWith (st .axes) id
                 → Turned p z (suc n) n (suc j) (within p n (suc j)) (Next (record { axes = count; slots = st .slots; free = free })) ws′ t
-            root-next o f = rw (f, stored-next h (even-root h e o)) (turned-next (holding-next h stored written c (sign-is h e)))
+            root-next o f = rw (f, stored-next h (even-root h e o)) (holding-next h stored written c (sign-is h e))

@@ -13,45 +13,32 @@ use Rattle.model.specs.Packing.{Pack}
 use Rattle.layout.specs.declared.Shape.{Shape}
 use Rattle.layout.specs.Rows.{firstRoot, nextRoot}
 use Rattle.packing_states.specs.References.{referenceAt, total, isRootAt, rootOf, linkFrom}
-use Rattle.packing_states.specs.ReferenceLaws.{link-none, link-some}
+use Rattle.packing_states.specs.ReferenceLaws.{root-is, its-root, link-none, link-some}
 use Rattle.packing_states.specs.States.{within}
 use Rattle.packing_states.specs.StateLaws.{within-none, within-next, peak-within, refused-within}
 use Rattle.packing_states.specs.Uses.{root-used}
 use Rattle.packing.specs.declared.Slots.{Slots}
 use Rattle.packing.specs.declared.Step.{Step}
-use Rattle.packing.specs.declared.Step.the-variants.{Next, NonHermitianAxis, Full}
+use Rattle.packing.specs.declared.Step.the-variants.{Next, NonHermitianAxis, ExpansionLimit}
 use Rattle.packing.specs.Phases.{PhasePre, phaseIn}
-use Rattle.packing_states.specs.Some.{Some}
-use Rattle.packing.specs.Holding.{Done, Holding, Turned, Left, RootAt, RootsAt}
-use Rattle.packing.specs.RootLaws.{root-is, its-root}
-use Rattle.packing.specs.Turns.{turned-next, turned-odd, turned-full, left-none, left-then, granted-left}
+use Rattle.packing_states.specs.SomeProgram.{SomeProgram}
+use Rattle.packing.specs.Holding.{Done, Holding, holding-done, Turned, Left, RootAt, RootsAt}
+use Rattle.packing.specs.Turns.{left-none, left-then, granted-left}
 
 -- ---- between two links
 
-module _ {p : Program} {z : Shape} {b n i : ℕ} {k : Pack} {st : Slots} {ws xs : List ℕ} where
-  -- references that are no roots of the node change nothing
-  past : (t : ℕ) → ((j : ℕ) → i ≤ j → j < t → rootOf p n j ≡ false) → Holding p z b n i k st ws xs → Holding p z b n t k st ws xs
-  past t none h = record {
-    going = h .going;
-    fits = h .fits;
-    axes = h .axes;
-    room = h .room;
-    slots = h .slots;
-    free = h .free;
-    live = h .live;
-    uses = h .uses;
-    held = h .held;
-    signed = λ j a r d. h .signed j a r (earlier j r d);
-    linked = h .linked;
-  }
-    where
-      before-i : (j : ℕ) → isRootAt p j ≡ true → referenceAt p j .node ≡ n → j < t → Dec (j < i) → Done p n i j
-      before-i j r e a (yes c) = inr (e, c)
-      before-i j r e a (no c) = absurd (true≢false (sym (its-root p n j r e) ∙ none j (omega arith) a))
+-- references that are no roots of the node change nothing
+past : {p : Program} {z : Shape} {b n i : ℕ} {k : Pack} {st : Slots} {ws xs : List ℕ} (t : ℕ)
+    → ((j : ℕ) → i ≤ j → j < t → rootOf p n j ≡ false) → Holding p z b n i k st ws xs → Holding p z b n t k st ws xs
+past {p} {n = n} {i} t none = holding-done (λ j b r d. earlier j r d)
+  where
+    before-i : (j : ℕ) → isRootAt p j ≡ true → referenceAt p j .node ≡ n → j < t → Dec (j < i) → Done p n i j
+    before-i j r e a (yes c) = inr (e, c)
+    before-i j r e a (no c) = absurd (true≢false (sym (its-root p n j r e) ∙ none j (omega arith) a))
 
-      earlier : (j : ℕ) → isRootAt p j ≡ true → Done p n t j → Done p n i j
-      earlier j r (inl a) = inl a
-      earlier j r (inr (e, a)) = before-i j r e a (decLt j i)
+    earlier : (j : ℕ) → isRootAt p j ≡ true → Done p n t j → Done p n i j
+    earlier j r (inl a) = inl a
+    earlier j r (inr (e, a)) = before-i j r e a (decLt j i)
 
 -- root r of node n is to be packed
 pub record BeforeRoot (p : Program) (z : Shape) (n r : ℕ) (st : Slots) (ws xs : List ℕ) : Type 0 where
@@ -79,9 +66,9 @@ module _ {p : Program} {z : Shape} {n : ℕ} {st : Slots} {ws xs : List ℕ} whe
 -- ---- the loop
 
 -- what is left of both stores, and where the loop is for each program that they hold
-pub record Along (z : Shape) (first : Slots) (n : ℕ) (os rs ws₀ xs₀ ws xs : List ℕ) (st : Slots) (link : ℕ) : Type 0 where
+pub record Along (z : Shape) (placed : Slots) (n : ℕ) (os rs ws₀ xs₀ ws xs : List ℕ) (st : Slots) (link : ℕ) : Type 0 where
   pub left : Left z ws₀ xs₀ ws xs
-  pub at : (p : Program) → RootsAt p z first n os rs ws₀ xs₀ → AtLink p z n link st ws xs
+  pub at : (p : Program) → RootsAt p z placed n os rs ws₀ xs₀ → AtLink p z n link st ws xs
 
 -- how many references stand from the linked one on
 unfoldable pub referencesLeft : ℕ → ℕ → ℕ
@@ -93,9 +80,9 @@ unfolding referencesLeft
 fall t r zero b h = omega arith
 fall t r (suc s) b h = omega (arith, h s refl)
 
-module _ {z : Shape} {first : Slots} {n : ℕ} {os rs ws₀ xs₀ : List ℕ} where
+module _ {z : Shape} {placed : Slots} {n : ℕ} {os rs ws₀ xs₀ : List ℕ} where
   -- it starts at the node's first link
-  pub along-first : (link : ℕ) → link ≡ getD (row xs₀ (z .u) firstRoot) n 0 → Along z first n os rs ws₀ xs₀ ws₀ xs₀ first link
+  pub along-first : (link : ℕ) → link ≡ getD (row xs₀ (z .u) firstRoot) n 0 → Along z placed n os rs ws₀ xs₀ ws₀ xs₀ placed link
   unfolding within
   along-first link e = record {
     left = left-none z ws₀ xs₀;
@@ -103,12 +90,12 @@ module _ {z : Shape} {first : Slots} {n : ℕ} {os rs ws₀ xs₀ : List ℕ} wh
   }
 
   -- the node has its first link
-  pub first-there : Some (λ p. RootsAt p z first n os rs ws₀ xs₀) → (24 * z .u ≤ length xs₀) × (firstRoot < 24) × (n < z .u)
+  pub first-there : SomeProgram (λ p. RootsAt p z placed n os rs ws₀ xs₀) → (24 * z .u ≤ length xs₀) × (firstRoot < 24) × (n < z .u)
   first-there s = let g = s .it .granted in (g .numbers-long, omega arith, omega (arith, s .it .node, g .sized .row))
 
-  module _ {ws xs : List ℕ} {st : Slots} {link r : ℕ} (a : Along z first n os rs ws₀ xs₀ ws xs st link) (l : link ≡ suc r) where
+  module _ {ws xs : List ℕ} {st : Slots} {link r : ℕ} (a : Along z placed n os rs ws₀ xs₀ ws xs st link) (l : link ≡ suc r) where
     -- the linked root has its phase
-    pub phase-there : Some (λ p. RootsAt p z first n os rs ws₀ xs₀) → PhasePre (z .operations) os rs r
+    pub phase-there : SomeProgram (λ p. RootsAt p z placed n os rs ws₀ xs₀) → PhasePre (z .operations) os rs r
     phase-there s =
         let w = s .it .whole .references in
         let b = a .at (s .p) (s .it) .some r l .reference in
@@ -117,7 +104,8 @@ module _ {z : Shape} {first : Slots} {n : ℕ} {os rs ws₀ xs₀ : List ℕ} wh
           row = λ h. omega (arith, s .it .rows-long);
         }
 
-    root-at : (p : Program) (phase : ℕ) → RootsAt p z first n os rs ws₀ xs₀ → phase ≡ phaseIn (z .operations) os rs r → RootAt p z st n r phase ws xs
+    root-at : (p : Program) (phase : ℕ) → RootsAt p z placed n os rs ws₀ xs₀ → phase ≡ phaseIn (z .operations) os rs r
+        → RootAt p z st n r phase ws xs
     root-at p phase h e =
         let b = a .at p h .some r l in
         record {
@@ -133,12 +121,12 @@ module _ {z : Shape} {first : Slots} {n : ℕ} {os rs ws₀ xs₀ : List ℕ} wh
         }
 
     -- it can be packed
-    pub root-there : (phase : ℕ) → Some (λ p. RootsAt p z first n os rs ws₀ xs₀) → phase ≡ phaseIn (z .operations) os rs r
-        → Some (λ p. RootAt p z st n r phase ws xs)
+    pub root-there : (phase : ℕ) → SomeProgram (λ p. RootsAt p z placed n os rs ws₀ xs₀) → phase ≡ phaseIn (z .operations) os rs r
+        → SomeProgram (λ p. RootAt p z st n r phase ws xs)
     root-there phase s e = record { p = s .p; it = root-at (s .p) phase (s .it) e }
 
     -- it has its next link, whatever packing it left
-    pub next-there : {ws′ xs′ : List ℕ} → Some (λ p. RootsAt p z first n os rs ws₀ xs₀) → Left z ws xs ws′ xs′
+    pub next-there : {ws′ xs′ : List ℕ} → SomeProgram (λ p. RootsAt p z placed n os rs ws₀ xs₀) → Left z ws xs ws′ xs′
         → (24 * z .u ≤ length xs′) × (nextRoot < 24) × (r < z .u)
     next-there s k =
         let g = granted-left (s .it .granted) (left-then (a .left) k) in
@@ -147,26 +135,27 @@ module _ {z : Shape} {first : Slots} {n : ℕ} {os rs ws₀ xs₀ : List ℕ} wh
     -- and has been
     module _ {step : Step} {phase : ℕ} {ws′ xs′ : List ℕ} (e : phase ≡ phaseIn (z .operations) os rs r) (k : Left z ws xs ws′ xs′)
         (t : (p : Program) → RootAt p z st n r phase ws xs → Turned p z (suc n) n (suc r) (within p n (suc r)) step ws′ xs′) where
-      turned : (p : Program) → RootsAt p z first n os rs ws₀ xs₀ → Turned p z (suc n) n (suc r) (within p n (suc r)) step ws′ xs′
-      turned p h = t p (root-at p phase h e)
+      next-holding : (p : Program) → RootsAt p z placed n os rs ws₀ xs₀ → (st′ : Slots) → step ≡ Next st′
+          → Holding p z (suc n) n (suc r) (within p n (suc r)) st′ ws′ xs′
+      next-holding p h st′ f = rw f at (t p (root-at p phase h e))
 
-      next-is : (p : Program) → RootsAt p z first n os rs ws₀ xs₀ → (st′ : Slots) → step ≡ Next st′
+      next-is : (p : Program) → RootsAt p z placed n os rs ws₀ xs₀ → (st′ : Slots) → step ≡ Next st′
           → getD (row xs′ (z .u) nextRoot) r 0 ≡ linkFrom p n (suc r)
       next-is p h st′ f =
           let b = a .at p h .some r l in
           let s = root-is p n r (b .root) in
-          turned p h .next st′ f .linked .next r (b .reference) (s .0) ∙ ap (λ (m : ℕ). linkFrom p m (suc r)) (s .1)
+          next-holding p h st′ f .linked .next r (omega arith) (b .reference) (s .0) ∙ ap (λ (m : ℕ). linkFrom p m (suc r)) (s .1)
 
       -- the next link
       pub along-next : (st′ : Slots) (link′ : ℕ) → step ≡ Next st′ → link′ ≡ getD (row xs′ (z .u) nextRoot) r 0
-          → Along z first n os rs ws₀ xs₀ ws′ xs′ st′ link′
+          → Along z placed n os rs ws₀ xs₀ ws′ xs′ st′ link′
       along-next st′ link′ f g = record {
         left = left-then (a .left) k;
-        at = λ p h. at-link (suc r) link′ (a .at p h .some r l .reference) (g ∙ next-is p h st′ f) (turned p h .next st′ f);
+        at = λ p h. at-link (suc r) link′ (a .at p h .some r l .reference) (g ∙ next-is p h st′ f) (next-holding p h st′ f);
       }
 
       -- it is a later one
-      pub next-later : Some (λ p. RootsAt p z first n os rs ws₀ xs₀) → (st′ : Slots) (link′ : ℕ) → step ≡ Next st′
+      pub next-later : SomeProgram (λ p. RootsAt p z placed n os rs ws₀ xs₀) → (st′ : Slots) (link′ : ℕ) → step ≡ Next st′
           → link′ ≡ getD (row xs′ (z .u) nextRoot) r 0
           → referencesLeft (z .operations + 2 * z .qubits) link′ < referencesLeft (z .operations + 2 * z .qubits) link
       next-later s st′ link′ f g =
@@ -178,26 +167,27 @@ module _ {z : Shape} {first : Slots} {n : ℕ} {os rs ws₀ xs₀ : List ℕ} wh
 
       -- "refused" ends the node's turn
       pub along-odd : step ≡ NonHermitianAxis → Left z ws₀ xs₀ ws′ xs′
-          × ((p : Program) → RootsAt p z first n os rs ws₀ xs₀ → Turned p z (suc n) n (total p) (within p n (total p)) NonHermitianAxis ws′ xs′)
+          × ((p : Program) → RootsAt p z placed n os rs ws₀ xs₀ → Turned p z (suc n) n (total p) (within p n (total p)) NonHermitianAxis ws′ xs′)
       along-odd f = (
         left-then (a .left) k,
         λ p h.
-            let o = turned p h .odd f in
+            let o = rw f at (t p (root-at p phase h e)) in
             let same = refused-within p n (suc r) (total p) (o .0) (a .at p h .some r l .reference) in
-            turned-odd (rw same (o .0)) (rw same (o .1)),
+            (rw same (o .0), rw same (o .1)),
       )
 
       -- and so does a sum above the limit
-      pub along-full : step ≡ Full → Left z ws₀ xs₀ ws′ xs′
-          × ((p : Program) → RootsAt p z first n os rs ws₀ xs₀ → Turned p z (suc n) n (total p) (within p n (total p)) Full ws′ xs′)
-      along-full f = (
+      pub along-limit : step ≡ ExpansionLimit → Left z ws₀ xs₀ ws′ xs′
+          × ((p : Program) → RootsAt p z placed n os rs ws₀ xs₀ → Turned p z (suc n) n (total p) (within p n (total p)) ExpansionLimit ws′ xs′)
+      along-limit f = (
         left-then (a .left) k,
         λ p h.
-            turned-full (omega (arith, turned p h .full f, peak-within p n (suc r) (total p) (a .at p h .some r l .reference))),
+            let o = rw f at (t p (root-at p phase h e)) in
+            omega (arith, o, peak-within p n (suc r) (total p) (a .at p h .some r l .reference)),
       )
 
   -- the last link
-  pub along-end : {ws xs : List ℕ} {st : Slots} {link : ℕ} → Along z first n os rs ws₀ xs₀ ws xs st link → link ≡ 0
+  pub along-end : {ws xs : List ℕ} {st : Slots} {link : ℕ} → Along z placed n os rs ws₀ xs₀ ws xs st link → link ≡ 0
       → Left z ws₀ xs₀ ws xs
-      × ((p : Program) → RootsAt p z first n os rs ws₀ xs₀ → Turned p z (suc n) n (total p) (within p n (total p)) (Next st) ws xs)
-  along-end a e = (a .left, λ p h. turned-next (a .at p h .end e))
+      × ((p : Program) → RootsAt p z placed n os rs ws₀ xs₀ → Turned p z (suc n) n (total p) (within p n (total p)) (Next st) ws xs)
+  along-end a e = (a .left, λ p h. a .at p h .end e)

@@ -15,7 +15,7 @@ use Rattle.model.specs.Results.{noOperation}
 use Rattle.theory.specs.Cases.{if-true, if-false}
 use Rattle.layout.specs.declared.Shape.{Shape}
 use Rattle.layout.specs.Rows.{rootAxis, rootSign}
-use Rattle.packing_states.specs.References.{referenceAt, total, isRootAt}
+use Rattle.packing_states.specs.References.{noReference, referenceAt, total, isRootAt}
 use Rattle.packing_states.specs.ReferenceLaws.{total-sum, operation-kept, row-at, row-kept}
 use Rattle.packing_states.specs.States.{valueOf}
 use Rattle.packing_states.specs.Linked.{Linked}
@@ -71,14 +71,14 @@ module _ {p : Program} {z : Shape} {xs : List ℕ} (w : Whole p z) (linked : Lin
       ∙ ap signOf (o .1 ∙ List·getD-map operationRoot (p .operations) k noOperation)
 
   row-sign : (k : ℕ) → k < length (p .rows)
-      → signAt (k + (length (p .operations) + 0)) ≡ rowSign p (getD (p .rows) k (record { node = 0; phase = 0 }))
+      → signAt (k + (length (p .operations) + 0)) ≡ rowSign p (getD (p .rows) k noReference)
   unfolding rowSign
   row-sign k b =
       let e : length (p .operations) ≡ length (map operationRoot (p .operations)) = sym (length-map (p .operations) operationRoot) in
       rw e (go (isRoot p r) refl)
     where
       r : PauliRef
-      r = getD (p .rows) k (record { node = 0; phase = 0 })
+      r = getD (p .rows) k noReference
 
       j : ℕ
       j = k + (length (map operationRoot (p .operations)) + 0)
@@ -89,7 +89,8 @@ module _ {p : Program} {z : Shape} {xs : List ℕ} (w : Whole p z) (linked : Lin
       go : (t : Bool) → isRoot p r ≡ t → signAt j ≡ rowSign p r
       go true e = root-sign j in-all (row-kept p k ∙ e) ∙ ap signOf (row-at p k) ∙ sym (if-true _ _ e)
       go false e =
-          rw (linked .no-axis j in-all (row-kept p k ∙ e), linked .no-sign j in-all (row-kept p k ∙ e)) (sym (if-false _ _ e))
+          let q = row-kept p k ∙ e in
+          rw (linked .no-axis j (omega arith) in-all q, linked .no-sign j (omega arith) in-all q) (sym (if-false _ _ e))
 
   pub signs-are : signsIn z xs ≡ signsOf p
   unfolding signsIn signsOf
@@ -97,4 +98,4 @@ module _ {p : Program} {z : Shape} {xs : List ℕ} (w : Whole p z) (linked : Lin
       let ops = p .operations in
       map-front signAt (λ o. signOf (operationRoot o)) noOperation ops 0 (length (p .rows)) _ (sym (w .references) ∙ total-sum p) operation-sign
       ∙ ap (λ (ys : List SignedAxis). map (λ o. signOf (operationRoot o)) ops ++ ys)
-      (map-all signAt (rowSign p) (record { node = 0; phase = 0 }) (p .rows) (length ops + 0) row-sign)
+      (map-all signAt (rowSign p) noReference (p .rows) (length ops + 0) row-sign)

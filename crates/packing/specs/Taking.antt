@@ -1,10 +1,9 @@
 -- What an answer of `take_slot` means for the model, whose free slots are those in memory. Assumes nothing.
-use mathlib.Core.Path.{_≡_, refl, sym, ap}
-use mathlib.Core.Bool.{Bool, true, false, true≢false}
+use mathlib.Core.Path.{_≡_, refl, ap}
 use mathlib.Core.Logic.{_⊎_, inl, inr, ⊎-elim}
 use mathlib.Core.List.{List}
 use Prim.Native.Nat.{ℕ, suc, _+_, _-_, _*_, _≤_, _<_}
-use native.Mathlib.Nat.{suc-mul, add-mul}
+use native.Mathlib.Nat.{add-mul}
 use native.Mathlib.Numerals.{add-one}
 use native.Mathlib.Omega.{arith}
 use lib.ListN.{length, getD}
@@ -17,36 +16,12 @@ use Rattle.layout.specs.declared.Shape.{Shape}
 use Rattle.layout.specs.Rows.{nodeSlot, freeRow}
 use Rattle.packing.specs.declared.Slots.{Slots}
 use Rattle.packing.specs.declared.Taken.{Taken}
-use Rattle.packing.specs.declared.Taken.the-variants.{Slot, Full}
+use Rattle.packing.specs.declared.Taken.the-variants.{Slot, ExpansionLimit}
 use Rattle.packing.specs.Holding.{SlotsHold}
-use Rattle.packing.specs.Values.{taken}
+use Rattle.packing.specs.Values.{sumWith, taken}
 use Rattle.packing.specs.Keeping.{Takes, takes-free, takes-new}
 
 -- ---- answers
-
-unfoldable isFull : Taken → Bool
-isFull (Slot s st) = false
-isFull Full = true
-
-unfoldable slotIn : Taken → ℕ
-slotIn (Slot s st) = s
-slotIn Full = 0
-
-unfoldable slotsIn : Taken → Slots
-slotsIn (Slot s st) = st
-slotsIn Full = record { axes = 0; slots = 0; free = 0 }
-
-same-slot : {s r : ℕ} {st sr : Slots} → Slot s st ≡ Slot r sr → (s ≡ r) × (st ≡ sr)
-unfolding slotIn slotsIn
-same-slot e = (ap slotIn e, ap slotsIn e)
-
-no-slot : {s : ℕ} {st : Slots} → Full ≡ Slot s st → ⊥
-unfolding isFull
-no-slot e = true≢false (ap isFull e)
-
--- "(slots with the new one + axes) × 2l"
-abbrev sumWith : Shape → Slots → ℕ
-sumWith z st = st .slots * (2 * z .l) + 2 * z .l + st .axes * (2 * z .l)
 
 -- the slot freed last
 abbrev Freed : Shape → List ℕ → Slots → ℕ → Slots → Type 0
@@ -59,23 +34,18 @@ abbrev New : Shape → Slots → ℕ → Slots → Type 0
 New z st s st′ =
     (st .free ≡ 0) × ((sumWith z st ≤ z .limit) × ((st .slots ≡ s) × (record { axes = st .axes; slots = st .slots + 1; free = 0 } ≡ st′)))
 
--- a slot is one of them
-taken-slot : (z : Shape) (xs : List ℕ) (st : Slots) {s : ℕ} {st′ : Slots} → taken z xs st ≡ Slot s st′ → Freed z xs st s st′ ⊎ New z st s st′
-unfolding taken
-taken-slot z xs st {s} {st′} =
-    on-if (λ (r : Taken). r ≡ Slot s st′ → Freed z xs st s st′ ⊎ New z st s st′) _ _ _ (λ e q. inl (ltb-true 0 (st .free) e, same-slot q))
-    (λ e. let none = ltb-false 0 (st .free) e in
-    on-if (λ (r : Taken). r ≡ Slot s st′ → Freed z xs st s st′ ⊎ New z st s st′) _ _ _ (λ f q. absurd (no-slot q))
-    (λ f q. inr (omega arith, (ltb-false (z .limit) (sumWith z st) f, same-slot q))))
+-- what the answer means; without a slot none is free, and a new one exceeds the limit
+abbrev TakenAs : Shape → List ℕ → Slots → Taken → Type 0
+TakenAs z xs st (Slot s st′) = Freed z xs st s st′ ⊎ New z st s st′
+TakenAs z xs st ExpansionLimit = (st .free ≡ 0) × (z .limit < sumWith z st)
 
--- none: no slot is free, and a new one exceeds the limit
-taken-full : (z : Shape) (xs : List ℕ) (st : Slots) → taken z xs st ≡ Full → (st .free ≡ 0) × (z .limit < sumWith z st)
+taken-is : (z : Shape) (xs : List ℕ) (st : Slots) → TakenAs z xs st (taken z xs st)
 unfolding taken
-taken-full z xs st =
-    on-if (λ (r : Taken). r ≡ Full → (st .free ≡ 0) × (z .limit < sumWith z st)) _ _ _ (λ e q. absurd (no-slot (sym q)))
+taken-is z xs st =
+    on-if (TakenAs z xs st) _ _ _ (λ e. inl (ltb-true 0 (st .free) e, (refl, refl)))
     (λ e. let none = ltb-false 0 (st .free) e in
-    on-if (λ (r : Taken). r ≡ Full → (st .free ≡ 0) × (z .limit < sumWith z st)) _ _ _
-    (λ f q. (omega arith, ltb-true (z .limit) (sumWith z st) f)) (λ f q. absurd (no-slot (sym q))))
+    on-if (TakenAs z xs st) _ _ _ (λ f. (omega arith, ltb-true (z .limit) (sumWith z st) f))
+    (λ f. inr (omega arith, (ltb-false (z .limit) (sumWith z st) f, (refl, refl)))))
 
 -- ---- the model
 
@@ -89,10 +59,6 @@ model-new : (l : ℕ) (k : Pack) → k .slots ≤ k .live → takeSlot l k
     ≡ withSlots (suc (k .live)) (suc (k .slots)) (withStore (tested ((suc (k .slots) + length (k .store .axes)) * (2 * l)) (k .store)) k)
 unfolding takeSlot
 model-new l k h = if-false _ _ (le-ltb (k .live) (k .slots) h)
-
--- the same sum
-sum-is : (l s a : ℕ) → (suc s + a) * (2 * l) ≡ s * (2 * l) + 2 * l + a * (2 * l)
-sum-is l s a = omega (arith, add-mul (suc s) a (2 * l), suc-mul s (2 * l))
 
 -- ---- both
 
@@ -111,17 +77,20 @@ pub record Took (z : Shape) (n axes slots free : ℕ) (slotRow stack : List ℕ)
 
 module _ (z : Shape) (n : ℕ) (value : ℕ → Value) (xs ws phaseRow : List ℕ) (st : Slots) (k : Pack)
     (slots-are : k .slots ≡ st .slots) (all : k .live + st .free ≡ st .slots) (axes-are : length (k .store .axes) ≡ st .axes) where
+  -- the model's sum
+  same-sum : sumWith z st ≡ (suc (k .slots) + length (k .store .axes)) * (2 * z .l)
+  same-sum = rw (← slots-are, ← axes-are, add-one (k .slots)) refl
+
   -- the limit refuses a new slot
-  pub took-none : taken z xs st ≡ Full → z .limit < takeSlot (z .l) k .store .peak
+  pub took-none : taken z xs st ≡ ExpansionLimit → z .limit < takeSlot (z .l) k .store .peak
   unfolding tested
   took-none e =
-      let f = taken-full z xs st e in
+      let f = rw e at (taken-is z xs st) in
       let m = ap (λ (q : Pack). q .store .peak) (model-new (z .l) k (omega (arith, f .0))) in
-      let sum = sum-is (z .l) (k .slots) (length (k .store .axes)) in
-      let same : sumWith z st ≡ (suc (k .slots) + length (k .store .axes)) * (2 * z .l) = rw (← slots-are, ← axes-are) (sym sum) in
-      omega (arith, f .1)
+      omega (arith, f .1, same-sum)
 
-  module _ (held : SlotsHold (z .l) (z .limit) n (st .slots) (st .free) value (k .uses) (row xs (z .u) nodeSlot) phaseRow (row xs (z .u) freeRow) ws)
+  module _
+      (held : SlotsHold (z .l) (z .limit) n (st .slots) (st .free) value (k .uses) (row xs (z .u) nodeSlot) phaseRow (row xs (z .u) freeRow) ws)
       (room : st .slots * (2 * z .l) + st .axes * (2 * z .l) ≤ z .limit) (fits : k .store .peak ≤ z .limit) where
     abbrev Result : ℕ → Slots → Type 0
     Result s st′ = Took z n (st .axes) (st .slots) (st .free) (row xs (z .u) nodeSlot) (row xs (z .u) freeRow) k (takeSlot (z .l) k) s st′
@@ -144,19 +113,15 @@ module _ (z : Shape) (n : ℕ) (value : ℕ → Value) (xs ws phaseRow : List �
     took-new : st .free ≡ 0 → sumWith z st ≤ z .limit → Result (st .slots) (record { axes = st .axes; slots = st .slots + 1; free = 0 })
     unfolding tested
     took-new h f =
-        let sum = sum-is (z .l) (k .slots) (length (k .store .axes)) in
-        let same : sumWith z st ≡ (suc (k .slots) + length (k .store .axes)) * (2 * z .l) = rw (← slots-are, ← axes-are) (sym sum) in
-        let wide : (st .slots + 1) * (2 * z .l) ≡ st .slots * (2 * z .l) + 2 * z .l
-        = rw (add-one (st .slots)) (omega (arith, suc-mul (st .slots) (2 * z .l))) in
         rw (model-new (z .l) k (omega arith)) (record {
           takes = takes-new held;
-          room = omega arith;
+          room = omega (arith, add-mul (st .slots + 1) (st .axes) (2 * z .l));
           same-axes = refl;
           slots-are = omega arith;
           all = omega arith;
           live-more = refl;
           stored = refl;
-          fits = omega arith;
+          fits = omega (arith, same-sum);
           refused = refl;
           uses = refl;
         })
@@ -165,4 +130,4 @@ module _ (z : Shape) (n : ℕ) (value : ℕ → Value) (xs ws phaseRow : List �
     pub took-slot : {s : ℕ} {st′ : Slots} → taken z xs st ≡ Slot s st′ → Result s st′
     took-slot e =
         ⊎-elim (λ a. rw (← a .1 .0, ← a .1 .1) (took-free (a .0))) (λ a. rw (← a .1 .1 .0, ← a .1 .1 .1) (took-new (a .0) (a .1 .0)))
-        (taken-slot z xs st e)
+        (rw e at (taken-is z xs st))

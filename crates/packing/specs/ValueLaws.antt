@@ -4,7 +4,7 @@ use mathlib.Core.Bool.{true, false}
 use mathlib.Core.List.{List, [], _∷_}
 use mathlib.Core.Logic.{inr}
 use Prim.Native.Nat.{ℕ, _+_, _-_, _*_, _/_, _%_, _≤_, _<_}
-use native.Mathlib.Nat.{add-zero}
+use native.Mathlib.Nat.{add-zero, add-mul, one-mul}
 use native.Mathlib.Omega.{arith}
 use lib.Dec.{eqb}
 use lib.ListN.{length, getD, set, take, drop, replicate}
@@ -14,7 +14,7 @@ use Rattle.bits.specs.Remainder.{same4}
 use Rattle.store.specs.Part.{part, put, zeros-lent}
 use Rattle.store.specs.Row.{row, Written}
 use Rattle.store.specs.Copy.{CopyPre}
-use Rattle.pauli.specs.Word.{xorWords, phase, identity as identityWord}
+use Rattle.pauli.specs.Word.{phase, identity as identityWord}
 use Rattle.pauli.specs.Letter.{single}
 use Rattle.product.specs.Product.{StoredPre, StoredProduct}
 use Rattle.model.specs.Lists.{if_then_else_, allOf, anyOf, member}
@@ -24,19 +24,14 @@ use Rattle.theory.specs.Cases.{by-if, if-true, if-false}
 use Rattle.layout.specs.declared.Shape.{Shape}
 use Rattle.layout.specs.Rows.{usesRow, nodeSlot, nodePhase, freeRow, written-row}
 use Rattle.layout.specs.Only.{Only, only-none, only-then, only-of, only-written}
-use Rattle.layout.specs.Words.{slotPlace}
+use Rattle.layout.specs.Words.{scratchPlace, slotPlace, slot-ends}
 use Rattle.records.specs.declared.NodeRecord.{NodeRecord}
 use Rattle.records.specs.Records.{said-identity, said-letter, said-product}
 use Rattle.packing.specs.declared.Slots.{Slots}
 use Rattle.packing.specs.declared.ValueHeld.{ValueHeld}
-use Rattle.packing.specs.declared.Taken.the-variants.{Slot, Full}
+use Rattle.packing.specs.declared.Taken.the-variants.{Slot, ExpansionLimit}
 use Rattle.packing.specs.Values.{slotOf, phaseOf, HeldPre, heldAt, heldValue, EvaluatePre, valueOfRecord, Evaluated, usesOf}
 use Rattle.packing.specs.Values.{ReleasePre, Released, ChildrenPre, ChildrenReleased, taken, KeepPre, Kept}
-
--- a slot within the limit ends within it
-slot-ends : (limit l s : ℕ) → s * (2 * l) + 2 * l ≤ limit → slotPlace limit l s + 2 * l ≤ limit
-unfolding slotPlace
-slot-ends limit l s h = omega arith
 
 -- ---- what is held of a node
 
@@ -77,26 +72,26 @@ module _ (z : Shape) (x : NodeRecord) (ws xs : List ℕ) where
   unfolding valueOfRecord nodeValue
   value-product f g = ap (nodeValue (z .l) (heldValue z ws xs)) (said-product x f g)
 
-  -- the words behind the limit are those of a value
-  evaluated : {ws′ : List ℕ} {e : ℕ} (v : Value) → valueOfRecord z ws xs x ≡ v → ws′ ≡ put ws (z .limit) (v .word) → e ≡ v .turns
-      → Evaluated z x ws xs ws′ e
+  -- the scratch word is a value's
+  evaluated : {ws′ : List ℕ} {e : ℕ} (v : Value) → valueOfRecord z ws xs x ≡ v → ws′ ≡ put ws (scratchPlace (z .limit)) (v .word)
+      → e ≡ v .turns → Evaluated z x ws xs ws′ e
   evaluated v is p q = record {
-    words = p ∙ ap (λ (y : Value). put ws (z .limit) (y .word)) (sym is);
+    words = p ∙ ap (λ (y : Value). put ws (scratchPlace (z .limit)) (y .word)) (sym is);
     turns = q ∙ ap (λ (y : Value). y .turns) (sym is);
   }
 
-  -- zeros came back for the words behind the limit
-  pub evaluated-identity : (w : List ℕ) → x .kind ≡ 0 → z .limit + 2 * z .l ≤ length ws
-      → w ≡ replicate (length (take (z .limit + 2 * z .l - z .limit) (drop (z .limit) ws))) 0
-      → Evaluated z x ws xs (putMid (z .limit) (z .limit + 2 * z .l - z .limit) ws w) 0
-  evaluated-identity w k h e = evaluated (asValue (identityWord (z .l))) (value-identity k) (zeros-lent ws (z .limit) (2 * z .l) w h e) refl
+  -- zeros came back for the scratch word, which is at o
+  pub evaluated-identity : (w : List ℕ) (o : ℕ) → o ≡ scratchPlace (z .limit) → x .kind ≡ 0 → z .limit + 2 * z .l ≤ length ws
+      → w ≡ replicate (length (take (o + 2 * z .l - o) (drop o ws))) 0
+      → Evaluated z x ws xs (putMid o (o + 2 * z .l - o) ws w) 0
+  evaluated-identity w o s k h e =
+      evaluated (asValue (identityWord (z .l))) (value-identity k)
+      (zeros-lent ws o (2 * z .l) w (omega arith) e ∙ ap (λ (i : ℕ). put ws i (identityWord (z .l))) s) refl
 
-  pub evaluated-letter : (ws′ : List ℕ) → x .kind ≡ 1 → ws′ ≡ put ws (z .limit) (single (z .l) (x .a) (x .p)) → Evaluated z x ws xs ws′ 0
-  evaluated-letter ws′ k e = evaluated (asValue (single (z .l) (x .a) (x .p))) (value-letter k) e refl
-
--- neither an identity nor a letter
-pub from-two : {k : ℕ} → (k ≡ 0 → ⊥) × (k ≡ 1 → ⊥) → 2 ≤ k
-from-two (f, g) = omega arith
+  pub evaluated-letter : (ws′ : List ℕ) (o : ℕ) → o ≡ scratchPlace (z .limit) → x .kind ≡ 1 → ws′ ≡ put ws o (single (z .l) (x .a) (x .p))
+      → Evaluated z x ws xs ws′ 0
+  evaluated-letter ws′ o s k e =
+      evaluated (asValue (single (z .l) (x .a) (x .p))) (value-letter k) (e ∙ ap (λ (i : ℕ). put ws i (single (z .l) (x .a) (x .p))) s) refl
 
 -- the phases of a product, remainder by remainder
 turns-sum : (e a p b q : ℕ) → (e + a + p % 4 + b + q % 4) % 4 ≡ ((a + p) % 4 + (b + q) % 4 + e) % 4
@@ -107,46 +102,36 @@ phase-small : (l : ℕ) (p q : List ℕ) → phase l p q < 4
 unfolding phase
 phase-small l p q = omega arith
 
-module _ {z : Shape} {x : NodeRecord} {ws xs : List ℕ} (a b : ValueHeld) where
-  -- the words of both children, and the one behind the limit, for `product_in`
-  pub stored-pre : EvaluatePre z x ws xs → 2 ≤ x .kind → a ≡ heldAt z xs (x .a) → b ≡ heldAt z xs (x .b)
-      → StoredPre (z .l) ws (a .at) (b .at) (z .limit)
-  stored-pre pre k e f =
+module _ {z : Shape} {x : NodeRecord} {ws xs : List ℕ} (a b : ValueHeld) (o : ℕ) where
+  -- the words of both children, and the scratch word, for `product_in`
+  pub stored-pre : EvaluatePre z x ws xs → 2 ≤ x .kind → a ≡ heldAt z xs (x .a) → b ≡ heldAt z xs (x .b) → o ≡ scratchPlace (z .limit)
+      → StoredPre (z .l) ws (a .at) (b .at) o
+  stored-pre pre k e f g =
       let p : a .at + 2 * z .l ≤ z .limit = held-ends z xs (x .a) (pre .first k) e in
       let q : b .at + 2 * z .l ≤ z .limit = held-ends z xs (x .b) (pre .second k) f in
       let s : z .limit + 2 * z .l ≤ length ws = pre .scratch in
-      record { p-in = omega arith; q-in = omega arith; o-in = s; p-clear = inr (inr p); q-clear = inr (inr q) }
+      rw g (record { p-in = omega arith; q-in = omega arith; o-in = s; p-clear = inr (inr p); q-clear = inr (inr q) })
 
   -- all that is summed is small
   pub phases-small : {ws′ : List ℕ} {e : ℕ} → EvaluatePre z x ws xs → 2 ≤ x .kind → a ≡ heldAt z xs (x .a) → b ≡ heldAt z xs (x .b)
-      → StoredProduct (z .l) ws (a .at) (b .at) (z .limit) ws′ e → (e < 4) × (a .phase < 4) × (b .phase < 4)
+      → StoredProduct (z .l) ws (a .at) (b .at) o ws′ e → (e < 4) × (a .phase < 4) × (b .phase < 4)
   phases-small pre k g h s = (
     omega (arith, s .turns, phase-small (z .l) (part ws (a .at) (2 * z .l)) (part ws (b .at) (2 * z .l))),
     omega (arith, held-phase z xs (x .a) g, pre .first-phase k),
     omega (arith, held-phase z xs (x .b) h, pre .second-phase k),
   )
 
-  pub evaluated-product : {ws′ : List ℕ} {e : ℕ} → (x .kind ≡ 0 → ⊥) → (x .kind ≡ 1 → ⊥) → a ≡ heldAt z xs (x .a) → b ≡ heldAt z xs (x .b)
-      → StoredProduct (z .l) ws (a .at) (b .at) (z .limit) ws′ e
+  pub evaluated-product : {ws′ : List ℕ} {e : ℕ} → (x .kind ≡ 0 → ⊥) → (x .kind ≡ 1 → ⊥) → a ≡ heldAt z xs (x .a)
+      → b ≡ heldAt z xs (x .b) → o ≡ scratchPlace (z .limit) → StoredProduct (z .l) ws (a .at) (b .at) o ws′ e
       → Evaluated z x ws xs ws′ ((e + a .phase + x .p % 4 + b .phase + x .q % 4) % 4)
   unfolding multiply scaled heldValue
-  evaluated-product {ws′} {e} f g p q s =
-      let n = 2 * z .l in
-      let u = slotPlace (z .limit) (z .l) (slotOf z xs (x .a)) in
-      let v = slotPlace (z .limit) (z .l) (slotOf z xs (x .b)) in
-      let c = phaseOf z xs (x .a) in
-      let d = phaseOf z xs (x .b) in
+  evaluated-product f g p q c s =
+      let u = held-place z xs (x .a) p in
+      let v = held-place z xs (x .b) q in
       evaluated z x ws xs (multiply (z .l) (scaled (x .p) (heldValue z ws xs (x .a))) (scaled (x .q) (heldValue z ws xs (x .b))))
       (value-product z x ws xs f g)
-      (s .store
-      ∙ ap (λ (i : ℕ). put ws (z .limit) (xorWords (part ws i n) (part ws (b .at) n))) (held-place z xs (x .a) p)
-      ∙ ap (λ (i : ℕ). put ws (z .limit) (xorWords (part ws u n) (part ws i n))) (held-place z xs (x .b) q))
-      (ap (λ (i : ℕ). (i + a .phase + x .p % 4 + b .phase + x .q % 4) % 4) (s .turns)
-      ∙ turns-sum (phase (z .l) (part ws (a .at) n) (part ws (b .at) n)) (a .phase) (x .p) (b .phase) (x .q)
-      ∙ ap (λ (i : ℕ). ((i + x .p) % 4 + (b .phase + x .q) % 4 + phase (z .l) (part ws (a .at) n) (part ws (b .at) n)) % 4) (held-phase z xs (x .a) p)
-      ∙ ap (λ (i : ℕ). ((c + x .p) % 4 + (i + x .q) % 4 + phase (z .l) (part ws (a .at) n) (part ws (b .at) n)) % 4) (held-phase z xs (x .b) q)
-      ∙ ap (λ (i : ℕ). ((c + x .p) % 4 + (d + x .q) % 4 + phase (z .l) (part ws i n) (part ws (b .at) n)) % 4) (held-place z xs (x .a) p)
-      ∙ ap (λ (i : ℕ). ((c + x .p) % 4 + (d + x .q) % 4 + phase (z .l) (part ws u n) (part ws i n)) % 4) (held-place z xs (x .b) q))
+      (s .store ∙ rw (c, u, v) refl)
+      (rw (s .turns, held-phase z xs (x .a) p, held-phase z xs (x .b) q, u, v) (turns-sum _ _ (x .p) _ (x .q)))
 
 -- ---- giving up a use
 
@@ -234,6 +219,10 @@ module _ {s : List ℕ} {u free : ℕ} {x : NodeRecord} where
 
 -- ---- taking a slot
 
+-- the sum, as the code works it out
+sum-is : (l s a : ℕ) → (s + 1 + a) * (2 * l) ≡ s * (2 * l) + 2 * l + a * (2 * l)
+sum-is l s a = omega (arith, add-mul (s + 1) a (2 * l), add-mul s 1 (2 * l), one-mul (2 * l))
+
 module _ (z : Shape) (xs : List ℕ) (st : Slots) where
   pub taken-free : (s : ℕ) → 0 < st .free → s ≡ getD (row xs (z .u) freeRow) (st .free - 1) 0
       → Slot s (record { axes = st .axes; slots = st .slots; free = st .free - 1 }) ≡ taken z xs st
@@ -241,33 +230,36 @@ module _ (z : Shape) (xs : List ℕ) (st : Slots) where
   taken-free s h e =
       ap (λ (i : ℕ). Slot i (record { axes = st .axes; slots = st .slots; free = st .free - 1 })) e ∙ sym (if-true _ _ (lt-ltb 0 (st .free) h))
 
-  pub taken-full : st .free ≤ 0 → z .limit < st .slots * (2 * z .l) + 2 * z .l + st .axes * (2 * z .l) → Full ≡ taken z xs st
+  pub taken-limit : st .free ≤ 0 → z .limit < st .slots * (2 * z .l) + 2 * z .l + st .axes * (2 * z .l) → ExpansionLimit ≡ taken z xs st
   unfolding taken
-  taken-full h k = sym (if-false _ _ (le-ltb 0 (st .free) h) ∙ if-true _ _ (lt-ltb (z .limit) _ k))
+  taken-limit h k =
+      sym (if-false _ _ (le-ltb 0 (st .free) h) ∙ if-true _ _ (lt-ltb (z .limit) _ (rw (sum-is (z .l) (st .slots) (st .axes)) k)))
 
   pub taken-new : st .free ≤ 0 → st .slots * (2 * z .l) + 2 * z .l + st .axes * (2 * z .l) ≤ z .limit
       → Slot (st .slots) (record { axes = st .axes; slots = st .slots + 1; free = 0 }) ≡ taken z xs st
   unfolding taken
-  taken-new h k = sym (if-false _ _ (le-ltb 0 (st .free) h) ∙ if-false _ _ (le-ltb (z .limit) _ k))
+  taken-new h k =
+      sym (if-false _ _ (le-ltb 0 (st .free) h) ∙ if-false _ _ (le-ltb (z .limit) _ (rw (sum-is (z .l) (st .slots) (st .axes)) k)))
 
 -- ---- keeping a value
 
 module _ {z : Shape} {n s : ℕ} {ws xs : List ℕ} (pre : KeepPre z n s ws xs) where
-  pub keep-apart : (a : ℕ) → a ≡ slotPlace (z .limit) (z .l) s → CopyPre ws (z .limit) a (2 * z .l)
-  keep-apart a e =
+  pub keep-apart : (o a : ℕ) → o ≡ scratchPlace (z .limit) → a ≡ slotPlace (z .limit) (z .l) s → CopyPre ws o a (2 * z .l)
+  keep-apart o a c e =
       let p : a + 2 * z .l ≤ z .limit = omega (arith, slot-ends (z .limit) (z .l) s (pre .slot)) in
       let h : z .limit + 2 * z .l ≤ length ws = pre .scratch in
-      record { source = h; target = omega arith; apart = inr p }
+      rw c (record { source = h; target = omega arith; apart = inr p })
 
-  pub kept : {e : ℕ} {ws′ t xs′ : List ℕ} (a : ℕ) → a ≡ slotPlace (z .limit) (z .l) s → ws′ ≡ put ws a (part ws (z .limit) (2 * z .l))
-      → Written xs (z .u) nodeSlot n s t → Written t (z .u) nodePhase n e xs′ → Kept z n s e ws xs ws′ xs′
+  pub kept : {e : ℕ} {ws′ t xs′ : List ℕ} (o a : ℕ) → o ≡ scratchPlace (z .limit) → a ≡ slotPlace (z .limit) (z .l) s
+      → ws′ ≡ put ws a (part ws o (2 * z .l)) → Written xs (z .u) nodeSlot n s t → Written t (z .u) nodePhase n e xs′
+      → Kept z n s e ws xs ws′ xs′
   unfolding allOf member anyOf
-  kept {e} {ws′} {t} {xs′} a p q v w =
+  kept {e} {ws′} {t} {xs′} o a b p q v w =
       let long : 24 * z .u ≤ length t = omega (arith, pre .long, v .long) in
       let c : Only (nodeSlot ∷ []) (z .u) xs t = only-written (pre .long) (omega arith) (pre .node) v in
       let d : Only (nodePhase ∷ []) (z .u) t xs′ = only-written long (omega arith) (pre .node) w in
       record {
-        words = q ∙ ap (λ (i : ℕ). put ws i (part ws (z .limit) (2 * z .l))) p;
+        words = q ∙ rw (b, p) refl;
         only = only-then (only-of (nodeSlot ∷ nodePhase ∷ []) refl c) (only-of (nodeSlot ∷ nodePhase ∷ []) refl d);
         slot = d .rows nodeSlot (omega arith) refl ∙ written-row (pre .long) (omega arith) (pre .node) v;
         phase =

@@ -12,13 +12,13 @@ use Rattle.model.specs.Value.{nodeValue}
 use Rattle.layout.specs.declared.Shape.{Shape}
 use Rattle.layout.specs.Rows.{usesRow, nodeSlot, nodePhase, freeRow}
 use Rattle.layout.specs.Only.{Only}
-use Rattle.layout.specs.Words.{slotPlace}
+use Rattle.layout.specs.Words.{scratchPlace, slotPlace}
 use Rattle.records.specs.declared.NodeRecord.{NodeRecord}
 use Rattle.records.specs.Records.{nodeSaid}
 use Rattle.packing.specs.declared.Slots.{Slots}
 use Rattle.packing.specs.declared.ValueHeld.{ValueHeld}
 use Rattle.packing.specs.declared.Taken.{Taken}
-use Rattle.packing.specs.declared.Taken.the-variants.{Slot, Full}
+use Rattle.packing.specs.declared.Taken.the-variants.{Slot, ExpansionLimit}
 
 -- ---- what is held of a node
 
@@ -65,9 +65,9 @@ pub record EvaluatePre (z : Shape) (x : NodeRecord) (ws xs : List ℕ) : Type 0 
 unfoldable pub valueOfRecord : Shape → List ℕ → List ℕ → NodeRecord → Value
 valueOfRecord z ws xs x = nodeValue (z .l) (heldValue z ws xs) (nodeSaid x)
 
--- the value's word stands behind the limit, and its phase is the answer
+-- the value's word is the scratch word, and its phase is the answer
 pub record Evaluated (z : Shape) (x : NodeRecord) (ws xs ws′ : List ℕ) (e : ℕ) : Type 0 where
-  pub words : ws′ ≡ put ws (z .limit) (valueOfRecord z ws xs x .word)
+  pub words : ws′ ≡ put ws (scratchPlace (z .limit)) (valueOfRecord z ws xs x .word)
   pub turns : e ≡ valueOfRecord z ws xs x .turns
 
 -- ---- giving up a use
@@ -121,12 +121,16 @@ pub record TakePre (z : Shape) (xs : List ℕ) (st : Slots) : Type 0 where
   pub slots : st .slots < z .u
   pub u-small : z .u ≤ 1187839
 
--- "a slot is freed after its last use and reused, last freed first"; "(slots with the new one + axes) × 2l" is tested
+-- "(slots with the new one + axes) × 2l"
+abbrev pub sumWith : Shape → Slots → ℕ
+sumWith z st = (st .slots + 1 + st .axes) * (2 * z .l)
+
+-- "a slot is freed after its last use and reused, last freed first"; for a new one the sum is tested
 unfoldable pub taken : Shape → List ℕ → Slots → Taken
 taken z xs st =
     if ltb 0 (st .free) then Slot (getD (row xs (z .u) freeRow) (st .free - 1) 0)
     (record { axes = st .axes; slots = st .slots; free = st .free - 1 })
-    else if ltb (z .limit) (st .slots * (2 * z .l) + 2 * z .l + st .axes * (2 * z .l)) then Full
+    else if ltb (z .limit) (sumWith z st) then ExpansionLimit
     else Slot (st .slots) (record { axes = st .axes; slots = st .slots + 1; free = 0 })
 
 -- ---- keeping a value
@@ -140,9 +144,9 @@ pub record KeepPre (z : Shape) (n s : ℕ) (ws xs : List ℕ) : Type 0 where
   pub small : s < z .u
   pub u-small : z .u ≤ 1187839
 
--- the word behind the limit is copied to slot s; node n has the slot, and the phase e
+-- the scratch word is copied to slot s; node n has the slot, and the phase e
 pub record Kept (z : Shape) (n s e : ℕ) (ws xs ws′ xs′ : List ℕ) : Type 0 where
-  pub words : ws′ ≡ put ws (slotPlace (z .limit) (z .l) s) (part ws (z .limit) (2 * z .l))
+  pub words : ws′ ≡ put ws (slotPlace (z .limit) (z .l) s) (part ws (scratchPlace (z .limit)) (2 * z .l))
   pub only : Only (nodeSlot ∷ nodePhase ∷ []) (z .u) xs xs′
   pub slot : row xs′ (z .u) nodeSlot ≡ set (row xs (z .u) nodeSlot) n s
   pub phase : row xs′ (z .u) nodePhase ≡ set (row xs (z .u) nodePhase) n e

@@ -3,11 +3,11 @@ ghost use mathlib.Core.Path.{_≡_};
 ghost use Prim.Native.Nat.{suc};
 ghost use Rattle.model.specs.Program.{Program};
 ghost use Rattle.packing_states.specs.References.{total};
-ghost use Rattle.packing_states.specs.States.{before, slotted, within};
-ghost use Rattle.packing_states.specs.Some.{Some};
-ghost use Rattle.packing.specs.Holding.{PlaceAt, RootAt, RootsAt, NodeAt, Turned, Left};
+ghost use Rattle.packing_states.specs.States.{before, within};
+ghost use Rattle.packing_states.specs.SomeProgram.{SomeProgram};
+ghost use Rattle.packing.specs.Holding.{PlaceAt, RootAt, RootsAt, NodeAt, PlacedAs, Turned, Left};
 ghost use Rattle.packing.specs.Phases.{PhasePre, phaseIn};
-ghost use Rattle.packing.specs.Packed.{PackPre, PackedAs};
+ghost use Rattle.packing.specs.Packed.{PackPre, PackedAs, packingAnswer};
 ghost use Rattle.records.specs.Given.{programIn};
 
 mod values;
@@ -19,39 +19,46 @@ use layout::ROOT_AXIS;
 use layout::ROOT_SIGN;
 use layout::Shape;
 use layout::USES;
+use model::Answer;
 use records::NodeRecord;
 
 // Axes stored, slots allocated, slots on the free stack.
-pub struct Slots {
-    pub axes: usize,
-    pub slots: usize,
-    pub free: usize,
+struct Slots {
+    axes: usize,
+    slots: usize,
+    free: usize,
 }
 
 // Where a node's word is, and its phase.
-pub struct ValueHeld {
-    pub at: usize,
-    pub phase: u32,
+struct ValueHeld {
+    at: usize,
+    phase: u32,
 }
 
 // The slot that a value gets, and the slots then.
-pub enum Taken {
+enum Taken {
     Slot(usize, Slots),
-    Full,
+    ExpansionLimit,
+}
+
+// The slots once a node has its own, or none is within the limit.
+enum Placed {
+    Slots(Slots),
+    ExpansionLimit,
 }
 
 // How a turn ends.
-pub enum Step {
+enum Step {
     Next(Slots),
     NonHermitianAxis,
-    Full,
+    ExpansionLimit,
 }
 
 // How packing ends: with so many axes, or refused.
 pub enum Packed {
     Axes(usize),
     NonHermitianAxis,
-    Full,
+    ExpansionLimit,
 }
 
 // Works node n out, gives up its children's uses, and keeps its value in a slot.
@@ -62,11 +69,11 @@ fn place_node(
     st: Slots,
     n: usize,
     x: NodeRecord,
-) -> Step
-    requires { ⌜ Some (λ (p : Program). PlaceAt p shape st n x (now words) (now numbers)) ⌝ }
+) -> Placed
+    requires { ⌜ SomeProgram (λ (p : Program). PlaceAt p shape st n x (now words) (now numbers)) ⌝ }
     ensures { λ r. ⌜ Left shape (now (words .entry)) (now (numbers .entry)) (now (words .exit)) (now (numbers .exit))
         × ((p : Program) → PlaceAt p shape st n x (now (words .entry)) (now (numbers .entry))
-        → Turned p shape (suc n) n 0 (slotted p n) r (now (words .exit)) (now (numbers .exit))) ⌝ }
+        → PlacedAs p shape n r (now (words .exit)) (now (numbers .exit))) ⌝ }
 {
     let phase = values::evaluate(words, &numbers[..], shape, x);
     let free = values::release_children(numbers, shape.u, st.free, x);
@@ -79,9 +86,9 @@ fn place_node(
     match taken {
         Taken::Slot(s, after) => {
             values::keep(words, numbers, shape, n, s, phase);
-            Step::Next(after)
+            Placed::Slots(after)
         }
-        Taken::Full => Step::Full,
+        Taken::ExpansionLimit => Placed::ExpansionLimit,
     }
 }
 
@@ -106,7 +113,7 @@ fn pack_root(
     root: usize,
     phase: u32,
 ) -> Step
-    requires { ⌜ Some (λ (p : Program). RootAt p shape st n root phase (now words) (now numbers)) ⌝ }
+    requires { ⌜ SomeProgram (λ (p : Program). RootAt p shape st n root phase (now words) (now numbers)) ⌝ }
     ensures { λ r. ⌜ Left shape (now (words .entry)) (now (numbers .entry)) (now (words .exit)) (now (numbers .exit))
         × ((p : Program) → RootAt p shape st n root phase (now (words .entry)) (now (numbers .entry))
         → Turned p shape (suc n) n (suc root) (within p n (suc root)) r (now (words .exit)) (now (numbers .exit))) ⌝ }
@@ -119,7 +126,7 @@ fn pack_root(
     let counted = st.slots * (2 * shape.l);
     let i = axes::intern(words, v.at, st.axes, counted, shape.limit, shape.l);
     let Interned::Id(id) = i else {
-        return Step::Full;
+        return Step::ExpansionLimit;
     };
     store::write(numbers, shape.u, ROOT_AXIS, root, id as u32);
     store::write(numbers, shape.u, ROOT_SIGN, root, sign);
@@ -138,15 +145,15 @@ fn pack_roots(
     words: &mut [u64],
     numbers: &mut [u32],
     shape: Shape,
-    first: Slots,
+    placed: Slots,
     n: usize,
 ) -> Step
-    requires { ⌜ Some (λ (p : Program). RootsAt p shape first n (now operations) (now rows) (now words) (now numbers)) ⌝ }
+    requires { ⌜ SomeProgram (λ (p : Program). RootsAt p shape placed n (now operations) (now rows) (now words) (now numbers)) ⌝ }
     ensures { λ r. ⌜ Left shape (now (words .entry)) (now (numbers .entry)) (now (words .exit)) (now (numbers .exit))
-        × ((p : Program) → RootsAt p shape first n (now (operations .entry)) (now (rows .entry)) (now (words .entry)) (now (numbers .entry))
+        × ((p : Program) → RootsAt p shape placed n (now (operations .entry)) (now (rows .entry)) (now (words .entry)) (now (numbers .entry))
         → Turned p shape (suc n) n (total p) (within p n (total p)) r (now (words .exit)) (now (numbers .exit))) ⌝ }
 {
-    let mut st = first;
+    let mut st = placed;
     let mut next = store::read(&numbers[..], shape.u, FIRST_ROOT, n) as usize;
     while next != 0 {
         let root = next - 1;
@@ -155,7 +162,7 @@ fn pack_roots(
         match step {
             Step::Next(s) => st = s,
             Step::NonHermitianAxis => return Step::NonHermitianAxis,
-            Step::Full => return Step::Full,
+            Step::ExpansionLimit => return Step::ExpansionLimit,
         }
         next = store::read(&numbers[..], shape.u, NEXT_ROOT, root) as usize;
     }
@@ -163,7 +170,7 @@ fn pack_roots(
 }
 
 // Node n's turn.
-pub fn pack_node(
+fn pack_node(
     nodes: &[u32],
     operations: &[u32],
     rows: &[u32],
@@ -184,8 +191,8 @@ pub fn pack_node(
     }
     let x = records::node_at(nodes, n);
     let placed = place_node(words, numbers, shape, st, n, x);
-    let Step::Next(s) = placed else {
-        return Step::Full;
+    let Placed::Slots(s) = placed else {
+        return Step::ExpansionLimit;
     };
     pack_roots(operations, rows, words, numbers, shape, s, n)
 }
@@ -203,6 +210,7 @@ pub fn pack(
     ensures { λ r. ⌜ PackedAs shape (programIn shape (now (nodes .entry)) (now (operations .entry)) (now (rows .entry))) r
         (now (words .entry)) (now (numbers .entry)) (now (words .exit)) (now (numbers .exit)) ⌝ }
 {
+    mentions::relevance(nodes, operations, numbers, shape);
     roots::prepare(nodes, operations, rows, numbers, shape);
     let mut st = Slots {
         axes: 0,
@@ -214,8 +222,19 @@ pub fn pack(
         match step {
             Step::Next(s) => st = s,
             Step::NonHermitianAxis => return Packed::NonHermitianAxis,
-            Step::Full => return Packed::Full,
+            Step::ExpansionLimit => return Packed::ExpansionLimit,
         }
     }
     Packed::Axes(st.axes)
+}
+
+// The answer that packing's end is.
+pub fn answer(p: Packed) -> Answer
+    ensures { λ r. ⌜ r ≡ packingAnswer p ⌝ }
+{
+    match p {
+        Packed::Axes(_) => Answer::Accepted,
+        Packed::NonHermitianAxis => Answer::NonHermitianAxis,
+        Packed::ExpansionLimit => Answer::ExpansionLimit,
+    }
 }

@@ -25,30 +25,31 @@ pub fn held(numbers: &[u32], shape: Shape, n: usize) -> ValueHeld
     }
 }
 
-// The product of two nodes' values, each with its phase: its word, behind the limit, and its phase.
+// The product of two nodes' values, each with its phase: its word, as the scratch word, and its phase.
 fn evaluate_product(words: &mut [u64], numbers: &[u32], shape: Shape, x: NodeRecord) -> Phase
     requires { ⌜ EvaluatePre shape x (now words) (now numbers) × ((x .kind ≡ 0 → ⊥) × (x .kind ≡ 1 → ⊥)) ⌝ }
     ensures { λ r. ⌜ Evaluated shape x (now (words .entry)) (now (numbers .entry)) (now (words .exit)) (r .0) ⌝ }
 {
     let a = held(numbers, shape, x.a as usize);
     let b = held(numbers, shape, x.b as usize);
-    let e = product::product_in(words, a.at, b.at, shape.limit, shape.l);
+    let at = layout::scratch_at(shape.limit);
+    let e = product::product_in(words, a.at, b.at, at, shape.l);
     Phase(((e.0 as u32 + a.phase + x.p % 4 + b.phase + x.q % 4) % 4) as u8)
 }
 
-// A node's word, behind the limit, and its phase.
+// A node's word, as the scratch word, and its phase.
 pub fn evaluate(words: &mut [u64], numbers: &[u32], shape: Shape, x: NodeRecord) -> Phase
     requires { ⌜ EvaluatePre shape x (now words) (now numbers) ⌝ }
     ensures { λ r. ⌜ Evaluated shape x (now (words .entry)) (now (numbers .entry)) (now (words .exit)) (r .0) ⌝ }
 {
+    let at = layout::scratch_at(shape.limit);
     if x.kind == 0 {
-        let at = shape.limit;
         let e = at + 2 * shape.l;
         store::zero_words(&mut words[at..e]);
         return Phase(0);
     }
     if x.kind == 1 {
-        letter::put_letter(words, shape.limit, shape.l, x.a as usize, x.p);
+        letter::put_letter(words, at, shape.l, x.a as usize, x.p);
         return Phase(0);
     }
     evaluate_product(words, numbers, shape, x)
@@ -100,7 +101,7 @@ pub fn take_slot(numbers: &[u32], shape: Shape, st: Slots) -> Taken
     }
     let n = 2 * shape.l;
     if shape.limit < st.slots * n + n + st.axes * n {
-        return Taken::Full;
+        return Taken::ExpansionLimit;
     }
     Taken::Slot(
         st.slots,
@@ -112,13 +113,14 @@ pub fn take_slot(numbers: &[u32], shape: Shape, st: Slots) -> Taken
     )
 }
 
-// Moves the word behind the limit into slot s, which is node n's from now on.
+// Copies the scratch word into slot s, which is node n's from now on.
 pub fn keep(words: &mut [u64], numbers: &mut [u32], shape: Shape, n: usize, s: usize, phase: Phase)
     requires { ⌜ KeepPre shape n s (now words) (now numbers) ⌝ }
     ensures { λ _. ⌜ Kept shape n s (phase .0) (now (words .entry)) (now (numbers .entry)) (now (words .exit)) (now (numbers .exit)) ⌝ }
 {
+    let from = layout::scratch_at(shape.limit);
     let at = layout::slot_at(shape.limit, shape.l, s);
-    store::copy_within(words, shape.limit, at, 2 * shape.l);
+    store::copy_within(words, from, at, 2 * shape.l);
     store::write(numbers, shape.u, NODE_SLOT, n, s as u32);
     store::write(numbers, shape.u, NODE_PHASE, n, phase.0 as u32);
 }

@@ -86,7 +86,8 @@ module _ (H : Setting) (word : List ℕ → H .words .W) (p : Program) where
       signed = withSign-angle (f .sign) k (known .small) (known .even) h
 
       gone : (z : Bool) → eqb s 0 ≡ z → z || isIdentity (wordOf axes (f .axis)) ≡ true → source ≈ []
-      gone true z t = subst (λ (d : Eighth). (plain d P ∷ []) ≈ []) (ap (λ (n : ℕ). eighth (pos n)) (sym (eqb-true s 0 z)) ∙ signed) (drop-zero H P)
+      gone true z t =
+          subst (λ (d : Eighth). (plain d P ∷ []) ≈ []) (ap (λ (n : ℕ). eighth (pos n)) (sym (eqb-true s 0 z)) ∙ signed) (drop-zero H P)
       gone false z t = subst (λ (Q : W). (plain e Q ∷ []) ≈ []) (sym (known .none t)) (drop-unit H e)
 
   -- operation i of the program has its item, or none
@@ -135,7 +136,8 @@ module _ (H : Setting) (word : List ℕ → H .words .W) (p : Program) where
         let here = root r (inl refl) in
         let inside : r .node < length (p .nodes) = unfold operationRoot in (nodes .0) in
         let first : operationAt (p .operations) i ≡ op = subst (λ (n : ℕ). operationAt (p .operations) n ≡ op) (zero-add i) (at 0) in
-        then-effect (itemOf axes i (op .kind) f (op .angle)) (itemsFrom axes (valuesOf p) (suc i) rest) (about f op (op .kind)) (sourceOp word p op)
+        then-effect (itemOf axes i (op .kind) f (op .angle)) (itemsFrom axes (valuesOf p) (suc i) rest) (about f op (op .kind))
+        (sourceOp word p op)
         (map (sourceOp word p) rest) (itemOf-effect i f op (op .kind) first refl (known r here inside) (angles .0))
         (ap₂ (λ (s : ℕ) (w : List ℕ). opAbout (op .kind) (signOf s) (word w) (op .angle) (op .outcome)) (root-sign p fine kept r here inside)
         (root-word p fine kept r here inside))
@@ -146,7 +148,8 @@ module _ (H : Setting) (word : List ℕ → H .words .W) (p : Program) where
         shift j = omega arith
 
     -- the work that a run starts with, and the program that was handed in
-    pub startOf-effect : itemOps (axisWord word (startOf p .store .axes)) (barrierOp word (p .operations) (startOf p .store .axes)) (startOf p .items)
+    pub startOf-effect : itemOps (axisWord word (startOf p .store .axes)) (barrierOp word (p .operations) (startOf p .store .axes))
+        (startOf p .items)
         ≈ sourceOps word p
     unfolding startOf
     startOf-effect =

@@ -60,4 +60,5 @@ module _ (H : Setting) where
       go false a c = refl
       go true a c =
           ap (λ (d : Eighth). cos2 K Kr d a ⊹ sin2 K Kr d c) (eighth-neg (pos k))
-          ∙ ap₂ (λ (x : C) (y : C). x ⊹ y) (cos2-flip K Kr e a) (sin2-flip K Kr e c ∙ sym (map-neg K (sin2 K Kr e) (cos2-add K Kr (prev (prev e))) c))
+          ∙ ap₂ (λ (x : C) (y : C). x ⊹ y) (cos2-flip K Kr e a)
+          (sin2-flip K Kr e c ∙ sym (map-neg K (sin2 K Kr e) (cos2-add K Kr (prev (prev e))) c))

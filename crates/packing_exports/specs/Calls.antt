@@ -3,7 +3,6 @@ use mathlib.Core.Path.{_≡_, refl, sym, ap, _∙_}
 use mathlib.Core.Bool.{false}
 use mathlib.Core.List.{List}
 use Prim.Native.Nat.{ℕ, _≤_}
-use borrow.Author.Tests.{eq-eqb}
 use Rattle.model.specs.declared.Counts.{Counts}
 use Rattle.model.specs.declared.Options.{Options}
 use Rattle.model.specs.declared.Answer.{Answer}
@@ -12,14 +11,13 @@ use Rattle.model.specs.Interface.{numberOf, defaultsAt}
 use Rattle.model.specs.Program.{Job, programOf}
 use Rattle.model.specs.Checking.{Lent, badCount, checking}
 use Rattle.model.specs.Packing.{packed}
-use Rattle.theory.specs.Checked.{accepts-only}
 use Rattle.layout.specs.declared.Shape.{Shape}
-use Rattle.layout.specs.Bounds.{limit-fits, passed}
-use Rattle.layout.specs.Shape.{shapeOf, checked-granted}
-use Rattle.records.specs.Given.{programIn, checked-given}
+use Rattle.layout.specs.Shape.{shapeOf}
+use Rattle.records.specs.Given.{programIn}
 use Rattle.packing.specs.declared.Packed.{Packed}
-use Rattle.packing.specs.declared.Packed.the-variants.{Axes, NonHermitianAxis, Full}
-use Rattle.packing.specs.Packed.{PackPre, packedAnswer, PackedAs}
+use Rattle.packing.specs.declared.Packed.the-variants.{Axes, NonHermitianAxis, ExpansionLimit}
+use Rattle.packing.specs.Packed.{PackPre, packedAnswer, packingAnswer, PackedAs}
+use Rattle.packing.specs.Checked.{answered, checked-sizes, checked-pack}
 
 -- the counts that a call hands in
 abbrev pub countsOf : ℕ → ℕ → ℕ → Counts
@@ -29,17 +27,15 @@ countsOf q n o = record { qubits = q; nodes = n; operations = o }
 abbrev pub checkedNumber : ℕ → Job → Lent → ℕ
 checkedNumber limit j s = numberOf (checking (defaultsAt limit) j s)
 
--- 01's numbers of packing's answers
-unfoldable pub packedNumber : Packed → ℕ
-packedNumber (Axes n) = 0
-packedNumber NonHermitianAxis = 9
-packedNumber Full = 10
+-- the number of packing's answer
+abbrev pub packedNumber : Packed → ℕ
+packedNumber k = numberOf (packingAnswer k)
 
 -- how many axes there are where packing is accepted, else what stood there
 unfoldable pub axesAfter : ℕ → Packed → ℕ
 axesAfter before (Axes n) = n
 axesAfter before NonHermitianAxis = before
-axesAfter before Full = before
+axesAfter before ExpansionLimit = before
 
 -- what packing answers to the program
 unfoldable pub packingOf : ℕ → Job → Packed
@@ -60,21 +56,17 @@ check-number limit j s e f g = g ∙ ap numberOf (f ∙ ap (λ (o : Options). ch
 
 -- 0 is the answer of a Checking that passes
 accepted : (limit : ℕ) (j : Job) (s : Lent) {r : ℕ} → r ≡ checkedNumber limit j s → r ≡ 0 → checking (defaultsAt limit) j s ≡ Accepted
-accepted limit j s e h = accepts-only _ (eq-eqb _ _ (sym e ∙ h))
+accepted limit j s e h = answered _ _ _ refl e h
 
 -- it grants what the sizes demand
 pub shape-granted : (limit : ℕ) (j : Job) (s : Lent) {r : ℕ} → r ≡ checkedNumber limit j s → r ≡ 0
     → (badCount (j .counts) ≡ false) × (limit ≤ 1048576)
-shape-granted limit j s e h =
-    let a = passed (defaultsAt limit) j s (accepted limit j s e h) in
-    (a .counts, limit-fits (defaultsAt limit) (a .options))
+shape-granted limit j s e h = checked-sizes (defaultsAt limit) j s (accepted limit j s e h)
 
 -- and what packing demands
 pub pack-granted : (limit : ℕ) (j : Job) (s : Lent) {r : ℕ} {z : Shape} → r ≡ checkedNumber limit j s → r ≡ 0
     → z ≡ shapeOf (j .counts) limit → PackPre z (j .nodes) (j .operations) (j .rows) (s .words) (s .numbers)
-pack-granted limit j s e h f =
-    let a = accepted limit j s e h in
-    rw f (record { granted = checked-granted (defaultsAt limit) j s a; given = checked-given (defaultsAt limit) j s a })
+pack-granted limit j s e h f = rw f (checked-pack (defaultsAt limit) j s (accepted limit j s e h))
 
 pub call-refused : {limit : ℕ} {j : Job} {s : Lent} {r : ℕ} (axes : ℕ) → r ≡ checkedNumber limit j s → (r ≡ 0 → ⊥)
     → PackedCall limit j s axes r (s .words) (s .numbers) axes

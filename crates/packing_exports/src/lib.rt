@@ -1,4 +1,5 @@
-// Checking and packing for programs in other languages, as the benchmark of oracle/bench calls them.
+// Checking and packing for the benchmark and comparison of oracle/bench: no part of 01's interface.
+// The options are Rust's defaults at a word limit. In C a slice is a pointer and a length, and `&mut usize` a pointer.
 ghost use mathlib.Core.Path.{_≡_};
 ghost use mathlib.Core.Bool.{false};
 ghost use Prim.Native.Nat.{_≤_};
@@ -107,12 +108,13 @@ fn shape(qubits: usize, node_count: usize, operation_count: usize, limit: usize)
 fn packed_number(packed: Packed, axes: &mut usize) -> u32
     ensures { λ r. ⌜ (r ≡ packedNumber packed) × (now (axes .exit) ≡ axesAfter (now (axes .entry)) packed) ⌝ }
 {
+    let number = model::number_of(packing::answer(packed));
     match packed {
         Packed::Axes(n) => {
             *axes = n;
-            0
+            number
         }
-        Packed::NonHermitianAxis => 9,
-        Packed::Full => 10,
+        Packed::NonHermitianAxis => number,
+        Packed::ExpansionLimit => number,
     }
 }

@@ -1,38 +1,12 @@
 // One job: Checking, and packing where it accepts.
-ghost use Prim.Native.Nat.{_≤_};
 ghost use lib.ListN.{length};
-ghost use Rattle.packing.specs.Packed.{PackPre};
-use crate::memory;
-use crate::memory::Size;
+ghost use Rattle.jobs.specs.Within.{Within};
 use crate::out;
-use crate::read;
-use crate::read::Header;
-use layout::Shape;
-use model::Answer;
+use jobs::Job;
 use model::Counts;
 use model::Options;
-use packing::Packed;
 
-// Packs a program that Checking has accepted, and prints what comes out.
-fn pack(
-    nodes: &[u32],
-    operations: &[u32],
-    rows: &[u32],
-    words: &mut [u64],
-    numbers: &mut [u32],
-    shape: Shape,
-)
-    requires { ⌜ PackPre shape (now nodes) (now operations) (now rows) (now words) (now numbers) ⌝ }
-{
-    let p = packing::pack(nodes, operations, rows, words, numbers, shape);
-    match p {
-        Packed::Axes(count) => out::packed(&words[..], &numbers[..], shape, count),
-        Packed::NonHermitianAxis => out::refused(Answer::NonHermitianAxis),
-        Packed::Full => out::refused(Answer::ExpansionLimit),
-    }
-}
-
-// A job whose slices are lent, of these lengths.
+// A job whose slices are lent; Checking looks at the results' lengths alone.
 fn check_and_pack(
     c: Counts,
     o: Options,
@@ -60,63 +34,26 @@ fn check_and_pack(
         return;
     }
     let shape = layout::shape_of(c, o.max_packed_words);
-    pack(nodes, operations, rows, words, numbers, shape);
+    let p = packing::pack(nodes, operations, rows, words, numbers, shape);
+    out::packed(p, &words[..], &numbers[..], shape);
 }
 
-// A job whose program is lent: the stores and results, as long as its header says.
-fn lend_memory(
-    h: Header,
-    nodes: &[u32],
-    operations: &[u32],
-    rows: &[u32],
-    words: &mut [u64],
-    numbers: &mut [u32],
-    results: &[u32],
-) {
-    let w = memory::lent_length(memory::words_asked(h), h.words, words.len());
-    let m = memory::lent_length(memory::numbers_asked(h), h.numbers, numbers.len());
-    let p = memory::lent_length(
-        6 * h.operations as usize,
-        h.result_operations,
-        results.len(),
-    );
-    let q = memory::lent_length(8 * h.qubits as usize, h.result_rows, results.len());
+// A job that is read, in the memory that it is lent.
+pub fn run(j: Job, records: &[u32], words: &mut [u64], numbers: &mut [u32])
+    requires { ⌜ Within (j .lent) (length (now records)) (length (now words)) (length (now numbers)) ⌝ }
+{
+    let l = j.lent;
+    let w = l.words;
+    let m = l.numbers;
     check_and_pack(
-        read::counts(h),
-        read::options(h),
-        nodes,
-        operations,
-        rows,
+        j.counts,
+        j.options,
+        jobs::part(records, 0, l.nodes),
+        jobs::part(records, l.operations_from, l.operations),
+        jobs::part(records, l.rows_from, l.rows),
         &mut words[..w],
         &mut numbers[..m],
-        &results[..p],
-        &results[..q],
-    );
-}
-
-// A job whose program is read: its slices, as long as the header says.
-pub fn lend_program(
-    h: Header,
-    size: Size,
-    nodes: &[u32],
-    operations: &[u32],
-    rows: &[u32],
-    words: &mut [u64],
-    numbers: &mut [u32],
-    results: &[u32],
-)
-    requires { ⌜ (size .nodes ≤ length (now nodes)) × (size .operations ≤ length (now operations)) × (size .rows ≤ length (now rows)) ⌝ }
-{
-    let n = memory::program_length(size.nodes, h.words);
-    let o = memory::program_length(size.operations, h.numbers);
-    let r = memory::program_length(size.rows, h.result_operations);
-    lend_memory(
-        h,
-        &nodes[..n],
-        &operations[..o],
-        &rows[..r],
-        words,
-        numbers,
-        results,
+        jobs::part(records, 0, l.result_operations),
+        jobs::part(records, 0, l.result_rows),
     );
 }

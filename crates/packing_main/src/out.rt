@@ -1,11 +1,12 @@
 // What is printed of a job.
 ghost use Prim.Native.Nat.{_+_, _*_, _≤_};
 ghost use lib.ListN.{length};
-use layout::NONE;
+use layout::NO_AXIS;
 use layout::ROOT_AXIS;
 use layout::ROOT_SIGN;
 use layout::Shape;
 use model::Answer;
+use packing::Packed;
 
 // A line of two numbers.
 fn pair(a: u64, b: u64) {
@@ -23,7 +24,7 @@ pub fn refused(a: Answer) {
 
 // A reference's axis and sign; -1 0 for a row that is no root.
 fn reference(axis: u32, sign: u32) {
-    if axis == NONE {
+    if axis == NO_AXIS {
         io::write_all(1, b"-1 0\n");
         return;
     }
@@ -72,7 +73,7 @@ fn axes(words: &[u64], count: usize, n: usize) {
 }
 
 // A job that is packed.
-pub fn packed(words: &[u64], numbers: &[u32], shape: Shape, count: usize)
+fn accepted(words: &[u64], numbers: &[u32], shape: Shape, count: usize)
     requires { ⌜ (24 * shape .u ≤ length (now numbers)) × (shape .operations + 2 * shape .qubits ≤ shape .u) ⌝ }
     requires { ⌜ 2 * shape .l ≤ 128 ⌝ }
 {
@@ -80,4 +81,16 @@ pub fn packed(words: &[u64], numbers: &[u32], shape: Shape, count: usize)
     references(numbers, shape.u, shape.operations + 2 * shape.qubits);
     axes(words, count, 2 * shape.l);
     io::write_all(1, b"end\n");
+}
+
+// What packing comes to.
+pub fn packed(p: Packed, words: &[u64], numbers: &[u32], shape: Shape)
+    requires { ⌜ (24 * shape .u ≤ length (now numbers)) × (shape .operations + 2 * shape .qubits ≤ shape .u) ⌝ }
+    requires { ⌜ 2 * shape .l ≤ 128 ⌝ }
+{
+    let Packed::Axes(count) = p else {
+        refused(packing::answer(p));
+        return;
+    };
+    accepted(words, numbers, shape, count);
 }

@@ -10,10 +10,10 @@ use lib.Seq.{getD-set-other}
 use borrow.Author.Tests.{eqb-true, eqb-false}
 use Rattle.model.specs.Lists.{if_then_else_, numbersFrom}
 use Rattle.model.specs.Program.{Node, identity, letter, product, PauliRef}
-use Rattle.model.specs.Packing.{rootsAt, oneUseMore, oneUseLess, countChildren, countUses, useCounts, Pack, useNode, useChildren}
+use Rattle.model.specs.Packing.{rootsAt, oneUseMore, oneUseLess, countChildren, Pack, useNode, useChildren}
+use Rattle.theory.specs.Lists.{numbers-length}
 use Rattle.theory.specs.Cases.{by-if, on-if}
 use Rattle.theory.specs.PackedRoots.{map-range, ChildrenBefore}
-use Rattle.packing_states.specs.ReferenceLaws.{numbers-length}
 
 -- ---- one entry more or less
 
@@ -53,11 +53,6 @@ less-at uses a c =
 pub more-length : (uses : List ℕ) (a : ℕ) → length (oneUseMore a uses) ≡ length uses
 unfolding oneUseMore
 more-length uses a = length-set uses a _
-
--- and after one use less
-pub less-length : (uses : List ℕ) (a : ℕ) → length (oneUseLess a uses) ≡ length uses
-unfolding oneUseLess
-less-length uses a = length-set uses a _
 
 -- ---- a node's children
 
@@ -100,13 +95,6 @@ used-at identity k c = omega arith
 used-at (letter q x) k c = omega arith
 used-at (product a u b v) k c = omega (arith, less-at (oneUseLess a (k .uses)) b c, less-at (k .uses) a c)
 
--- as many entries as before
-pub used-length : (node : Node) (k : Pack) → length (useChildren node k .uses) ≡ length (k .uses)
-unfolding useChildren useNode
-used-length identity k = refl
-used-length (letter q x) k = refl
-used-length (product a u b v) k = less-length (oneUseLess a (k .uses)) b ∙ less-length (k .uses) a
-
 -- ---- large counts
 
 more-most : (uses : List ℕ) (a m : ℕ) → getD (oneUseMore a uses) m 0 ≤ suc (getD uses m 0)
@@ -147,16 +135,3 @@ rootCounts-at rs t m h =
 -- one for each node
 pub rootCounts-length : (rs : List PauliRef) (t : ℕ) → length (rootCounts rs t) ≡ t
 rootCounts-length rs t = length-map (numbersFrom 0 t) (λ n. length (rootsAt n rs)) ∙ numbers-length 0 t
-
-countUses-length : (nodes : List Node) (n : ℕ) (uses : List ℕ) → length (countUses nodes n uses) ≡ length uses
-unfolding countUses
-countUses-length nodes zero uses = refl
-countUses-length nodes (suc n) uses =
-    let node = getD nodes n identity in
-    countUses-length nodes n (countNode n node uses)
-    ∙ by-if (λ (x : List ℕ). length x ≡ length uses) _ uses (countChildren node uses) refl (counted-length node uses)
-
--- one count for each node
-pub useCounts-length : (nodes : List Node) (rs : List PauliRef) → length (useCounts nodes rs) ≡ length nodes
-unfolding useCounts
-useCounts-length nodes rs = countUses-length nodes (length nodes) (rootCounts rs (length nodes)) ∙ rootCounts-length rs (length nodes)

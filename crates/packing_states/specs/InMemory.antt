@@ -1,7 +1,7 @@
 -- A program in the lent slices: its counts, and its nodes and references as their records. Assumes nothing.
 use mathlib.Core.Path.{_≡_, refl, ap, _∙_}
 use mathlib.Core.List.{List, map, _++_}
-use Prim.Native.Nat.{ℕ, _+_, _*_, _≤_, _<_}
+use Prim.Native.Nat.{ℕ, _+_, _*_, _<_}
 use native.Mathlib.Omega.{arith}
 use lib.ListN.{length, length-map, List·getD-append, List·getD-map}
 use lib.Seq.{getD-append-add}
@@ -9,20 +9,17 @@ use Rattle.model.specs.Program.{operationOf, rowOf, Program, programOf}
 use Rattle.model.specs.Roots.{operationRoot}
 use Rattle.model.specs.Results.{noOperation}
 use Rattle.theory.specs.Every.{every-append, every-map, every-at}
-use Rattle.theory.specs.Checked.{NodeIn, RowIn, nodes-length, Fine, records-length}
+use Rattle.theory.specs.Checked.{NodeIn, RowIn, Fine, records-length}
 use Rattle.layout.specs.declared.Shape.{Shape}
-use Rattle.records.specs.Records.{nodeRecord, operationRecord, rowRecord, nodeSaid, operationSaid, rowSaid, node-said, operation-said, row-said}
-use Rattle.records.specs.Given.{programIn, Given}
-use Rattle.packing_states.specs.References.{references, referenceAt, total}
+use Rattle.records.specs.Records.{operationRecord, rowRecord, operationSaid, rowSaid, operation-said, row-said}
+use Rattle.records.specs.Nodes.{nodeHere, nodes-count, node-here}
+use Rattle.records.specs.Given.{programIn, nodes-in, Given}
+use Rattle.packing_states.specs.References.{references, noReference, referenceAt, total}
 use Rattle.packing_states.specs.ReferenceLaws.{total-sum}
 use Rattle.packing_states.specs.States.{nodeAt}
 
 module _ (z : Shape) (ns os rs : List ℕ) where
   -- ---- as many as the counts say
-
-  pub nodes-count : length (programIn z ns os rs .nodes) ≡ z .nodes
-  unfolding programIn
-  nodes-count = nodes-length _
 
   pub operations-count : length (programIn z ns os rs .operations) ≡ z .operations
   unfolding programIn programOf
@@ -40,29 +37,29 @@ module _ (z : Shape) (ns os rs : List ℕ) where
 
   -- ---- record by record
 
-  pub node-is : (n : ℕ) → n < z .nodes → z .nodes * 5 ≤ length ns → nodeAt (programIn z ns os rs) n ≡ nodeSaid (nodeRecord ns n)
-  unfolding nodeAt programIn programOf
-  node-is n h k = node-said (z .nodes) ns n h k
+  pub node-is : (n : ℕ) → n < z .nodes → nodeAt (programIn z ns os rs) n ≡ nodeHere ns n
+  unfolding nodeAt
+  node-is n h = rw (nodes-in z ns os rs) (node-here (z .nodes) ns n h)
 
   -- operation j is reference j
-  pub operation-reference : (j : ℕ) → j < z .operations → z .operations * 6 ≤ length os
+  pub operation-reference : (j : ℕ) → j < z .operations
       → referenceAt (programIn z ns os rs) j ≡ record { node = operationRecord os j .node; phase = operationRecord os j .phase }
   unfolding referenceAt references programIn programOf noOperation operationRoot operationSaid
-  operation-reference j h k =
+  operation-reference j h =
       let ops = programIn z ns os rs .operations in
       List·getD-append (map operationRoot ops) (programIn z ns os rs .rows) (operationRoot noOperation) j (omega (arith, roots-count))
       ∙ List·getD-map operationRoot ops j noOperation
-      ∙ ap operationRoot (operation-said (z .operations) os j noOperation h k)
+      ∙ ap operationRoot (operation-said (z .operations) os j h)
 
   -- frame row r is reference operations + r
-  pub row-reference : (r : ℕ) → r < 2 * z .qubits → 2 * z .qubits * 4 ≤ length rs
+  pub row-reference : (r : ℕ) → r < 2 * z .qubits
       → referenceAt (programIn z ns os rs) (z .operations + r) ≡ record { node = rowRecord rs r .node; phase = rowRecord rs r .phase }
   unfolding referenceAt references programIn programOf rowSaid
-  row-reference r h k =
+  row-reference r h =
       let p = programIn z ns os rs in
       let e : z .operations + r ≡ length (map operationRoot (p .operations)) + r = omega (arith, roots-count) in
-      rw e (getD-append-add (map operationRoot (p .operations)) (p .rows) r (record { node = 0; phase = 0 })
-      ∙ row-said (2 * z .qubits) rs r (record { node = 0; phase = 0 }) h k)
+      rw e (getD-append-add (map operationRoot (p .operations)) (p .rows) r noReference
+      ∙ row-said (2 * z .qubits) rs r h)
 
 -- a fine program's references are to its nodes
 pub reference-node : (p : Program) → Fine p → (j : ℕ) → j < total p → referenceAt p j .node < length (p .nodes)
@@ -70,7 +67,7 @@ unfolding referenceAt total references operationRoot
 reference-node p f j h =
     let n = length (p .nodes) in
     let ops = map operationRoot (p .operations) in
-    every-at (RowIn n) (ops ++ p .rows) (record { node = 0; phase = 0 }) j
+    every-at (RowIn n) (ops ++ p .rows) noReference j
     (every-append (RowIn n) ops (p .rows) (every-map (NodeIn n) (RowIn n) operationRoot (λ x k. k) (p .operations) (f .operations)) (f .rows)) h
 
 -- ---- what is known of a program without its records
@@ -89,7 +86,7 @@ unfolding programIn programOf
 given-whole {z} {ns} {os} {rs} g = record {
   fine = g .fine;
   qubits = refl;
-  nodes = nodes-count z ns os rs;
+  nodes = ap length (nodes-in z ns os rs) ∙ nodes-count (z .nodes) ns;
   operations = operations-count z ns os rs;
   references = total-is z ns os rs;
 }

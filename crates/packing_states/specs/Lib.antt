@@ -7,5 +7,7 @@ pub mod Owed
 pub mod Uses
 pub mod Live
 pub mod Linked
+pub mod RootRows
 pub mod InMemory
-pub mod Some
+pub mod NodeRows
+pub mod SomeProgram

@@ -14,7 +14,8 @@ use Rattle.model.specs.Packing.{rootsAt, countChildren, countUses, useCounts}
 use Rattle.theory.specs.Cases.{on-if, if-true, if-false}
 use Rattle.theory.specs.PackedRoots.{ChildrenBefore, Ordered}
 use Rattle.theory.specs.PlainValue.{ordered-at}
-use Rattle.packing_states.specs.Counts.{edges, edges-later, counted-at, counted-length, countNode, rootCounts, rootCounts-at, rootCounts-length}
+use Rattle.packing_states.specs.Counts.{edges, edges-later, counted-at, counted-length, countNode}
+use Rattle.packing_states.specs.Counts.{rootCounts, rootCounts-at, rootCounts-length}
 
 -- ---- what the used ones of nodes m, m + 1, .. owe node c
 

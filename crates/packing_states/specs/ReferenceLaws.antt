@@ -1,120 +1,26 @@
 -- A program's roots are its kept references; the links between a node's roots, and how many of them are left. Assumes nothing.
 use mathlib.Core.Path.{_≡_, refl, sym, ap, _∙_}
-use mathlib.Core.Bool.{Bool, true, false, _&&_}
-use mathlib.Core.List.{List, [], _∷_, map, _++_}
+use mathlib.Core.Bool.{true, false}
+use mathlib.Core.List.{List, map, _++_}
 use Prim.Native.Nat.{ℕ, zero, suc, _+_, _-_, _≤_, _<_}
-use native.Mathlib.Nat.{le-refl, zero-add, add-zero}
+use native.Mathlib.Nat.{le-refl, add-zero}
 use native.Mathlib.Omega.{arith}
 use native.Mathlib.Decide.{ℕ-discrete}
 use lib.Dec.{eqb}
 use lib.ListN.{length, getD, length-append, length-map, List·getD-append}
 use lib.Seq.{getD-append-add}
-use borrow.Author.Tests.{lt-ltb, le-ltb}
+use borrow.Author.Tests.{lt-ltb, le-ltb, eq-eqb, eqb-true}
 use Rattle.model.specs.Lists.{if_then_else_, keep, countOf, numbersFrom}
 use Rattle.model.specs.Program.{PauliRef, Program}
 use Rattle.model.specs.Roots.{isRoot, rootRows, operationRoot, roots}
 use Rattle.model.specs.Packing.{rootsAt}
-use Rattle.theory.specs.Cases.{by-if, on-if, if-true, if-false}
-use Rattle.packing_states.specs.References.{references, referenceAt, total, relevant, isRootAt, rootOf, linkWithin, linkFrom}
-
--- ---- what a test keeps
-
-module _ {A : Type 0} (f : A → Bool) (x : A) (xs : List A) where
-  -- its first element is kept
-  pub keep-taken : f x ≡ true → keep f (x ∷ xs) ≡ x ∷ keep f xs
-  unfolding keep
-  keep-taken e = if-true _ _ e
-
-  -- or left out
-  pub keep-left : f x ≡ false → keep f (x ∷ xs) ≡ keep f xs
-  unfolding keep
-  keep-left e = if-false _ _ e
-
--- of elements that g makes
-keep-map : {A B : Type 0} (f : B → Bool) (g : A → B) (xs : List A) → keep f (map g xs) ≡ map g (keep (λ x. f (g x)) xs)
-unfolding keep
-keep-map f g [] = refl
-keep-map {A} {B} f g (x ∷ xs) = go (f (g x)) refl (keep-map f g xs)
-  where
-    go : (b : Bool) → f (g x) ≡ b → keep f (map g xs) ≡ map g (keep (λ y. f (g y)) xs)
-        → keep f (g x ∷ map g xs) ≡ map g (keep (λ y. f (g y)) (x ∷ xs))
-    go true e h = keep-taken f (g x) (map g xs) e ∙ ap (λ (ys : List B). g x ∷ ys) h ∙ ap (map g) (sym (keep-taken (λ y. f (g y)) x xs e))
-    go false e h = keep-left f (g x) (map g xs) e ∙ h ∙ ap (map g) (sym (keep-left (λ y. f (g y)) x xs e))
-
--- of those that another test has kept
-keep-both : {A : Type 0} (f h : A → Bool) (xs : List A) → keep h (keep f xs) ≡ keep (λ x. f x && h x) xs
-unfolding keep
-keep-both f h [] = refl
-keep-both {A} f h (x ∷ xs) = go (f x) (h x) refl refl (keep-both f h xs)
-  where
-    both : A → Bool
-    both y = f y && h y
-
-    and-is : (a b : Bool) → f x ≡ a → h x ≡ b → both x ≡ a && b
-    and-is a b e d = rw (e, d) refl
-
-    go : (a b : Bool) → f x ≡ a → h x ≡ b → keep h (keep f xs) ≡ keep both xs → keep h (keep f (x ∷ xs)) ≡ keep both (x ∷ xs)
-    go true true e d i =
-        ap (keep h) (keep-taken f x xs e) ∙ keep-taken h x (keep f xs) d ∙ ap (λ (ys : List A). x ∷ ys) i
-        ∙ sym (keep-taken both x xs (and-is true true e d))
-    go true false e d i = ap (keep h) (keep-taken f x xs e) ∙ keep-left h x (keep f xs) d ∙ i ∙ sym (keep-left both x xs (and-is true false e d))
-    go false b e d i = ap (keep h) (keep-left f x xs e) ∙ i ∙ sym (keep-left both x xs (and-is false b e d))
-
--- how many it keeps
-pub keep-count : {A : Type 0} (f : A → Bool) (xs : List A) → length (keep f xs) ≡ countOf f xs
-unfolding keep countOf
-keep-count f [] = refl
-keep-count f (x ∷ xs) =
-    on-if (λ (ys : List _). length ys ≡ (if f x then 1 else 0) + countOf f xs) (f x) (x ∷ keep f xs) (keep f xs)
-    (λ e. rw (if-true {A = ℕ} 1 0 e) (omega (arith, keep-count f xs))) (λ e. rw (if-false {A = ℕ} 1 0 e) (omega (arith, keep-count f xs)))
-
--- ---- a list's elements by their numbers, from i on
-
-module _ {A : Type 0} (g : ℕ → A) (f : ℕ → Bool) (d : A) where
-  -- the elements in front are all kept
-  kept-front : (xs : List A) (i m t : ℕ) → t ≡ length xs + m → ((k : ℕ) → k < length xs → (f (k + i) ≡ true) × (g (k + i) ≡ getD xs k d))
-      → map g (keep f (numbersFrom i t)) ≡ xs ++ map g (keep f (numbersFrom (length xs + i) m))
-  unfolding numbersFrom
-  kept-front [] i m t e h = let z : t ≡ m = omega arith in rw (z, zero-add i) refl
-  kept-front (x ∷ xs) i m zero e h = absurd (omega arith)
-  kept-front (x ∷ xs) i m (suc t) e h = go (kept-front xs (suc i) m t (omega arith) later)
-    where
-      later : (k : ℕ) → k < length xs → (f (k + suc i) ≡ true) × (g (k + suc i) ≡ getD xs k d)
-      later k b = let e : suc k + i ≡ k + suc i = omega arith in rw e at (h (suc k) (omega arith))
-
-      here : (f i ≡ true) × (g i ≡ x)
-      here = rw zero-add at (h 0 (omega arith))
-
-      go : map g (keep f (numbersFrom (suc i) t)) ≡ xs ++ map g (keep f (numbersFrom (length xs + suc i) m))
-          → map g (keep f (i ∷ numbersFrom (suc i) t)) ≡ x ∷ (xs ++ map g (keep f (numbersFrom (suc (length xs) + i) m)))
-      go ih =
-          let e : suc (length xs) + i ≡ length xs + suc i = omega arith in
-          rw (keep-taken f i (numbersFrom (suc i) t) (here .0), here .1, ih, e) refl
-
-  -- and those behind as their test says
-  kept-behind : (h : A → Bool) (xs : List A) (i : ℕ) → ((k : ℕ) → k < length xs → (f (k + i) ≡ h (getD xs k d)) × (g (k + i) ≡ getD xs k d))
-      → map g (keep f (numbersFrom i (length xs))) ≡ keep h xs
-  unfolding numbersFrom keep
-  kept-behind h [] i a = refl
-  kept-behind h (x ∷ xs) i a = go (h x) refl (kept-behind h xs (suc i) later)
-    where
-      later : (k : ℕ) → k < length xs → (f (k + suc i) ≡ h (getD xs k d)) × (g (k + suc i) ≡ getD xs k d)
-      later k b = let e : suc k + i ≡ k + suc i = omega arith in rw e at (a (suc k) (omega arith))
-
-      here : (f i ≡ h x) × (g i ≡ x)
-      here = rw zero-add at (a 0 (omega arith))
-
-      go : (b : Bool) → h x ≡ b → map g (keep f (numbersFrom (suc i) (length xs))) ≡ keep h xs
-          → map g (keep f (i ∷ numbersFrom (suc i) (length xs))) ≡ keep h (x ∷ xs)
-      go true e ih = rw (keep-taken f i (numbersFrom (suc i) (length xs)) (here .0 ∙ e), here .1, ih, keep-taken h x xs e) refl
-      go false e ih = rw (keep-left f i (numbersFrom (suc i) (length xs)) (here .0 ∙ e), ih, keep-left h x xs e) refl
+use Rattle.theory.specs.Lists.{keep-map, keep-both, keep-count, count-le, numbers-length, kept-front, kept-behind}
+use Rattle.theory.specs.Cases.{on-if, if-true, if-false, and-left, and-right}
+use Rattle.packing_states.specs.References.{references, noReference, referenceAt, total, isRootAt, rootOf, linkWithin, linkFrom}
 
 -- ---- the roots
 
 module _ (p : Program) where
-  abbrev none : PauliRef
-  none = record { node = 0; phase = 0 }
-
   abbrev operationRoots : List PauliRef
   operationRoots = map operationRoot (p .operations)
 
@@ -127,31 +33,33 @@ module _ (p : Program) where
   total-sum = omega (arith, length-append operationRoots (p .rows), operationRoots-length)
 
   -- operation k is reference k, and a root
-  pub operation-kept : (k : ℕ) → k < length operationRoots → (isRootAt p (k + 0) ≡ true) × (referenceAt p (k + 0) ≡ getD operationRoots k none)
+  pub operation-kept : (k : ℕ) → k < length operationRoots
+      → (isRootAt p (k + 0) ≡ true) × (referenceAt p (k + 0) ≡ getD operationRoots k noReference)
   unfolding isRootAt referenceAt references
   operation-kept k h =
-      rw (add-zero k)
-      (rw (lt-ltb k (length (p .operations)) (omega (arith, operationRoots-length))) refl, List·getD-append operationRoots (p .rows) none k h)
+      let test = lt-ltb k (length (p .operations)) (omega (arith, operationRoots-length)) in
+      rw (add-zero k) (rw test refl, List·getD-append operationRoots (p .rows) noReference k h)
 
   -- frame row k stands behind the operations
-  pub row-at : (k : ℕ) → referenceAt p (k + (length operationRoots + 0)) ≡ getD (p .rows) k none
+  pub row-at : (k : ℕ) → referenceAt p (k + (length operationRoots + 0)) ≡ getD (p .rows) k noReference
   unfolding referenceAt references
   row-at k =
       let e : k + (length operationRoots + 0) ≡ length operationRoots + k = omega arith in
-      rw e (getD-append-add operationRoots (p .rows) k none)
+      rw e (getD-append-add operationRoots (p .rows) k noReference)
 
   -- and is a root where the model keeps it
-  pub row-kept : (k : ℕ) → isRootAt p (k + (length operationRoots + 0)) ≡ isRoot p (getD (p .rows) k none)
-  unfolding isRootAt relevant isRoot
+  pub row-kept : (k : ℕ) → isRootAt p (k + (length operationRoots + 0)) ≡ isRoot p (getD (p .rows) k noReference)
+  unfolding isRootAt isRoot
   row-kept k = rw (le-ltb (k + (length operationRoots + 0)) (length (p .operations)) (omega (arith, operationRoots-length)), row-at k) refl
 
   -- "Roots are operations, then the frame rows"
   pub roots-are : roots p ≡ map (referenceAt p) (keep (isRootAt p) (numbersFrom 0 (total p)))
   unfolding roots rootRows total references
   roots-are =
-      sym (kept-front (referenceAt p) (isRootAt p) none operationRoots 0 (length (p .rows)) _ (length-append operationRoots (p .rows)) operation-kept
+      let long = length-append operationRoots (p .rows) in
+      sym (kept-front (referenceAt p) (isRootAt p) noReference operationRoots 0 (length (p .rows)) _ long operation-kept
       ∙ ap (λ (rows : List PauliRef). operationRoots ++ rows)
-      (kept-behind (referenceAt p) (isRootAt p) none (isRoot p) (p .rows) (length operationRoots + 0) (λ k h. (row-kept k, row-at k))))
+      (kept-behind (referenceAt p) (isRootAt p) noReference (isRoot p) (p .rows) (length operationRoots + 0) (λ k h. (row-kept k, row-at k))))
 
   -- those of node n
   pub roots-of : (n : ℕ) → rootsAt n (roots p) ≡ map (referenceAt p) (keep (rootOf p n) (numbersFrom 0 (total p)))
@@ -165,6 +73,18 @@ module _ (p : Program) where
   roots-of-count : (n : ℕ) → length (rootsAt n (roots p)) ≡ countOf (rootOf p n) (numbersFrom 0 (total p))
   roots-of-count n = ap length (roots-of n) ∙ length-map (keep (rootOf p n) (numbersFrom 0 (total p))) (referenceAt p) ∙ keep-count (rootOf p n) _
 
+-- ---- which node a root is of
+
+-- a root of node n is a root, and its node is n
+pub root-is : (p : Program) (n j : ℕ) → rootOf p n j ≡ true → (isRootAt p j ≡ true) × (referenceAt p j .node ≡ n)
+unfolding rootOf
+root-is p n j e = (and-left (isRootAt p j) _ e, eqb-true _ n (and-right (isRootAt p j) _ e))
+
+-- and the other way round
+pub its-root : (p : Program) (n j : ℕ) → isRootAt p j ≡ true → referenceAt p j .node ≡ n → rootOf p n j ≡ true
+unfolding rootOf
+its-root p n j r e = rw (r, eq-eqb (referenceAt p j .node) n e) refl
+
 -- ---- how many roots of node n stand from reference j on
 
 unfoldable pub rootsFrom : Program → ℕ → ℕ → ℕ
@@ -173,18 +93,6 @@ rootsFrom p n j = countOf (rootOf p n) (numbersFrom j (total p - j))
 -- one of them is left: as many numbers as from the next one on, and one more
 rest-length : (j t : ℕ) → j < t → t - j ≡ suc (t - suc j)
 rest-length j t h = omega arith
-
--- a test counts at most all
-pub count-le : {A : Type 0} (f : A → Bool) (xs : List A) → countOf f xs ≤ length xs
-unfolding countOf
-count-le f [] = le-refl _
-count-le f (x ∷ xs) = by-if (λ (k : ℕ). k + countOf f xs ≤ suc (length xs)) (f x) 1 0 (omega (arith, count-le f xs)) (omega (arith, count-le f xs))
-
--- n numbers
-pub numbers-length : (i n : ℕ) → length (numbersFrom i n) ≡ n
-unfolding numbersFrom
-numbers-length i zero = refl
-numbers-length i (suc n) = ap suc (numbers-length (suc i) n)
 
 module _ (p : Program) (n : ℕ) where
   -- none at the end

@@ -4,24 +4,23 @@ use mathlib.Core.List.{List, map, _++_}
 use Prim.Native.Nat.{ℕ, zero, suc, _-_}
 use lib.Dec.{eqb, ltb}
 use lib.ListN.{length, getD}
-use Rattle.model.specs.Lists.{if_then_else_, anyOf, member}
+use Rattle.model.specs.Lists.{if_then_else_}
 use Rattle.model.specs.Program.{PauliRef, Program}
-use Rattle.model.specs.Value.{mentionsAt, mentions}
-use Rattle.model.specs.Roots.{actedOn, operationRoot}
+use Rattle.model.specs.Roots.{relevant, operationRoot}
 
 unfoldable pub references : Program → List PauliRef
 references p = map operationRoot (p .operations) ++ p .rows
 
+-- read where there is none
+abbrev pub noReference : PauliRef
+noReference = record { node = 0; phase = 0 }
+
 unfoldable pub referenceAt : Program → ℕ → PauliRef
-referenceAt p j = getD (references p) j (record { node = 0; phase = 0 })
+referenceAt p j = getD (references p) j noReference
 
 -- how many there are
 unfoldable pub total : Program → ℕ
 total p = length (references p)
-
--- whether node n mentions "a qubit mentioned by any operation's nodes"
-unfoldable pub relevant : Program → ℕ → Bool
-relevant p n = anyOf (λ q. member q (actedOn p)) (mentionsAt (mentions (p .nodes)) n)
 
 -- "Roots are operations, then the frame rows that mention a qubit mentioned by any operation's nodes"
 unfoldable pub isRootAt : Program → ℕ → Bool

@@ -1,6 +1,6 @@
--- The states of packing: the last one is the packed program, peaks rise, refusals stay, references that are no roots change nothing. Assumes nothing.
+-- The states of packing: the last is the packed program, peaks rise, refusals stay, what is no root changes nothing. Assumes nothing.
 use mathlib.Core.Path.{_≡_, refl, sym, _∙_}
-use mathlib.Core.Bool.{Bool, true, false, _||_}
+use mathlib.Core.Bool.{Bool, true, false}
 use mathlib.Core.List.{List, [], _∷_, map}
 use Prim.Native.Nat.{ℕ, zero, suc, _+_, _-_, _≤_, _<_}
 use native.Mathlib.Nat.{le-refl, le-trans}
@@ -13,10 +13,11 @@ use Rattle.model.specs.Lists.{if_then_else_, keep, numbersFrom}
 use Rattle.model.specs.Program.{identity, PauliRef, Program}
 use Rattle.model.specs.Roots.{roots}
 use Rattle.model.specs.Packing.{rootsAt, Pack, packRoot, packRoots, packNode, packFrom, valuesOf, packed}
-use Rattle.theory.specs.Cases.{by-if, if-true, if-false}
+use Rattle.theory.specs.Cases.{by-if, if-true, if-false, or-right}
+use Rattle.theory.specs.Lists.{keep-taken, keep-left}
 use Rattle.theory.specs.Peak.{packRoot-rises, packFrom-rises}
 use Rattle.packing_states.specs.References.{referenceAt, total, rootOf, linkFrom}
-use Rattle.packing_states.specs.ReferenceLaws.{keep-taken, keep-left, roots-of, link-none, link-some}
+use Rattle.packing_states.specs.ReferenceLaws.{roots-of, link-none, link-some}
 use Rattle.packing_states.specs.States.{nodeAt, valueOf, before, slotted, packReference, within}
 
 -- ---- one reference's turn
@@ -76,15 +77,11 @@ module _ (p : Program) (n : ℕ) where
 
 -- ---- one node's turn
 
-or-true : (a b : Bool) → b ≡ true → a || b ≡ true
-or-true true b e = refl
-or-true false b e = e
-
 module _ (p : Program) where
   -- a node that is not used has no turn
   pub before-unused : (n : ℕ) → getD (before p n .uses) n 0 ≡ 0 → before p (suc n) ≡ before p n
   unfolding before packNode
-  before-unused n h = if-true _ _ (or-true (before p n .refused) _ (eq-eqb _ 0 h))
+  before-unused n h = if-true _ _ (or-right (before p n .refused) _ (eq-eqb _ 0 h))
 
   stay-node : (n : ℕ) → before p n .refused ≡ true → before p (suc n) ≡ before p n
   unfolding before packNode
@@ -117,7 +114,8 @@ rising : (f : ℕ → ℕ) → ((i : ℕ) → f i ≤ f (suc i)) → (k n m : �
 rising f h zero n m e = let z : n ≡ m = omega arith in rw z (le-refl _)
 rising f h (suc k) n m e = le-trans (h n) (rising f h k (suc n) m (omega arith))
 
-frozen : (f : ℕ → Pack) → ((i : ℕ) → f i .refused ≡ true → f (suc i) ≡ f i) → (k n m : ℕ) → n + k ≡ m → f n .refused ≡ true → f m ≡ f n
+frozen : (f : ℕ → Pack) → ((i : ℕ) → f i .refused ≡ true → f (suc i) ≡ f i)
+    → (k n m : ℕ) → n + k ≡ m → f n .refused ≡ true → f m ≡ f n
 frozen f h zero n m e r = let z : m ≡ n = omega arith in rw z refl
 frozen f h (suc k) n m e r = frozen f h k (suc n) m (omega arith) (rw (h n r) r) ∙ h n r
 

@@ -19,9 +19,9 @@ use Rattle.theory.specs.PackedRoots.{ChildrenBefore, Ordered}
 use Rattle.theory.specs.Checked.{Fine}
 use Rattle.packing_states.specs.References.{referenceAt, total, rootOf}
 use Rattle.packing_states.specs.ReferenceLaws.{rootsFrom, roots-from-end, roots-from-step, roots-from-all, roots-from-none}
-use Rattle.packing_states.specs.States.{nodeAt, before, slotted, packReference, within}
+use Rattle.packing_states.specs.States.{nodeAt, before, slotted, within}
 use Rattle.packing_states.specs.StateLaws.{skip-reference, pack-reference, before-unused, before-used, refused-before, refused-within}
-use Rattle.packing_states.specs.Counts.{less-same, less-other, less-at, less-length, edges, edges-later, used-at, used-length, useCounts-length}
+use Rattle.packing_states.specs.Counts.{less-same, less-other, less-at, edges, edges-later, used-at}
 use Rattle.packing_states.specs.Owed.{owed, owed-unused, owed-used, owed-same, children-before, counts-enough}
 
 -- ---- what the entries cover before reference j within node n's turn: what the nodes from m on owe, and the roots that are left
@@ -177,34 +177,6 @@ module _ (p : Program) (o : Ordered 0 (p .nodes)) where
           let u : 0 < getD (before p n .uses) n 0 = omega arith in
           let e = before-used p n g u in
           rw e (covers-within n b u h (total p) (le-refl _) (rw e at f))
-
--- ---- there are as many counts as nodes
-
-packRoot-long : (l n : ℕ) (v : Value) (k : Pack) (r : PauliRef) → length (packRoot l n v k r .uses) ≡ length (k .uses)
-unfolding packRoot useNode
-packRoot-long l n v k r = by-if (λ (q : Pack). length (q .uses) ≡ length (k .uses)) _ _ _ refl (less-length (k .uses) n)
-
-module _ (p : Program) where
-  slotted-long : (n : ℕ) → length (slotted p n .uses) ≡ length (before p n .uses)
-  slotted-long n = ap length (slotted-uses p n) ∙ used-length (nodeAt p n) (before p n)
-
-  within-long : (n j : ℕ) → length (within p n j .uses) ≡ length (before p n .uses)
-  unfolding within packReference
-  within-long n zero = slotted-long n
-  within-long n (suc j) =
-      by-if (λ (k : Pack). length (k .uses) ≡ length (within p n j .uses)) _ _ _
-      (by-if (λ (k : Pack). length (k .uses) ≡ length (within p n j .uses)) _ _ _ refl (packRoot-long _ n _ (within p n j) _)) refl
-      ∙ within-long n j
-
-  -- before a node's turn
-  pub uses-long : (n : ℕ) → length (before p n .uses) ≡ length (p .nodes)
-  uses-long zero = unfold before emptyPack in (useCounts-length (p .nodes) (roots p))
-  uses-long (suc n) = go (before p n .refused) refl (ℕ-discrete (getD (before p n .uses) n 0) 0) ∙ uses-long n
-    where
-      go : (b : Bool) → before p n .refused ≡ b → Dec (getD (before p n .uses) n 0 ≡ 0) → length (before p (suc n) .uses) ≡ length (before p n .uses)
-      go true f d = rw (refused-before p n (suc n) f (omega arith)) refl
-      go false f (yes z) = rw (before-unused p n z) refl
-      go false f (no ne) = rw (before-used p n f (omega arith)) (within-long n (total p))
 
 -- ---- no use is missing
 

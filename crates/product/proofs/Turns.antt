@@ -32,7 +32,8 @@ pub word-more : (l : ℕ) (p q out₀ out : List ℕ) (e cross j v : ℕ) → Pr
     → AtWord l p q out₀ (set (set out j (bitXor (xWord p j) (xWord q j))) (l + j) (bitXor (zWord l p j) (zWord l q j)))
     ((e + v) % 4) (bitXor cross (bitAnd (zWord l p j) (xWord q j))) (j + 1)
 word-more l p q out₀ out e cross j v pre a h hv =
-    let next : Laid out₀ (set (set out j (bitXor (xWord p j) (xWord q j))) (l + j) (bitXor (zWord l p j) (zWord l q j))) 0 l (xorWords p q) (j + 1) =
+    let next : Laid out₀ (set (set out j (bitXor (xWord p j) (xWord q j))) (l + j) (bitXor (zWord l p j) (zWord l q j))) 0 l (xorWords p q)
+    (j + 1) =
     simp zero-add at (laid-more out₀ out 0 l (xorWords p q) j (a .laid) (omega (arith, pre .out-long)) h _ _
     (sym (xorWords-at p q j)) (sym (xorWords-at p q (l + j)))) in
     record { le = omega arith; small = omega arith; long = next .long; turns = turns-more l p q e cross j v (a .turns) hv; laid = next }

@@ -1,5 +1,5 @@
 -- A program as it lies in the lent slices, after Checking has passed it. Assumes nothing.
-use mathlib.Core.Path.{_≡_}
+use mathlib.Core.Path.{_≡_, refl}
 use mathlib.Core.List.{List}
 use Prim.Native.Nat.{ℕ, _*_, _≤_}
 use native.Mathlib.Omega.{arith}
@@ -12,6 +12,7 @@ use Rattle.theory.specs.Checked.{Fine, checked-fine}
 use Rattle.layout.specs.declared.Shape.{Shape}
 use Rattle.layout.specs.Bounds.{program-long, passed}
 use Rattle.layout.specs.Shape.{shapeOf}
+use Rattle.records.specs.Nodes.{nodesIn}
 
 -- the program of these sizes in these slices
 unfoldable pub programIn : Shape → List ℕ → List ℕ → List ℕ → Program
@@ -21,6 +22,11 @@ programIn z ns os rs = programOf (record {
   operations = os;
   rows = rs;
 })
+
+-- its nodes
+pub nodes-in : (z : Shape) (ns os rs : List ℕ) → programIn z ns os rs .nodes ≡ nodesIn (z .nodes) ns
+unfolding programIn programOf nodesIn
+nodes-in z ns os rs = refl
 
 -- it is fine, and its records are there
 pub record Given (z : Shape) (ns os rs : List ℕ) : Type 0 where

@@ -1,14 +1,16 @@
 -- A program's records as the code reads them, and the model's nodes, operations and rows. Assumes nothing.
 use mathlib.Core.Path.{_≡_, refl, ap, _∙_}
-use mathlib.Core.List.{List, [], _∷_, map}
+use mathlib.Core.Logic.{_↔_}
+use mathlib.Core.List.{List, [], map}
 use Prim.Native.Nat.{ℕ, zero, suc, _+_, _*_, _≤_, _<_}
-use native.Mathlib.Nat.{add-zero, le-of-suc-le-suc, not-suc-le-zero}
+use native.Mathlib.Nat.{add-zero}
 use native.Mathlib.Omega.{arith}
 use borrow.Author.Tests.{ltb-true}
-use lib.ListN.{length, getD}
+use lib.ListN.{getD, List·getD-map}
 use Rattle.store.specs.Part.{part, part-at}
-use Rattle.store.specs.Chunk.{chunks, chunks-length, chunks-at}
+use Rattle.store.specs.Chunk.{chunks, chunks-at}
 use Rattle.model.specs.Program.{Node, identity, letter, product, nodeOfKind, nodeOf, kindOf, Operation, operationOf, PauliRef, rowOf}
+use Rattle.model.specs.Results.{noOperation}
 use Rattle.records.specs.declared.NodeRecord.{NodeRecord}
 use Rattle.records.specs.declared.OperationRecord.{OperationRecord}
 use Rattle.records.specs.declared.RowRecord.{RowRecord}
@@ -76,28 +78,51 @@ pub said-letter : (r : NodeRecord) → r .kind ≡ 1 → nodeSaid r ≡ letter (
 unfolding nodeSaid nodeSaidOfKind
 said-letter r e = ap (λ (k : ℕ). nodeSaidOfKind k r) e
 
-said-from-two : (k : ℕ) (r : NodeRecord) → (k ≡ 0 → ⊥) → (k ≡ 1 → ⊥) → nodeSaidOfKind k r ≡ product (r .a) (r .p) (r .b) (r .q)
+said-of-kind : (P : Node → Type 0) (k : ℕ) (r : NodeRecord) → P identity → P (letter (r .a) (r .p))
+    → (2 ≤ k → P (product (r .a) (r .p) (r .b) (r .q))) → P (nodeSaidOfKind k r)
 unfolding nodeSaidOfKind
-said-from-two zero r f g = absurd (f refl)
-said-from-two (suc zero) r f g = absurd (g refl)
-said-from-two (suc (suc k)) r f g = refl
+said-of-kind P zero r i l p = i
+said-of-kind P (suc zero) r i l p = l
+said-of-kind P (suc (suc k)) r i l p = p (omega arith)
+
+-- kinds 0, 1, and 2 on: what holds of each holds of the node
+pub said-by : (P : Node → Type 0) (r : NodeRecord) → P identity → P (letter (r .a) (r .p))
+    → (2 ≤ r .kind → P (product (r .a) (r .p) (r .b) (r .q))) → P (nodeSaid r)
+unfolding nodeSaid
+said-by P r i l p = said-of-kind P (r .kind) r i l p
+
+-- of a node that is no product: what f makes of the identity and of a letter
+pub leaf-of : {A : Type 0} (f : Node → A) (x : A) (r : NodeRecord) → r .kind < 2 → f identity ≡ x → ((q c : ℕ) → f (letter q c) ≡ x)
+    → f (nodeSaid r) ≡ x
+leaf-of f x r h i l = said-by (λ node. f node ≡ x) r i (l (r .a) (r .p)) (λ k. absurd (omega arith))
+
+-- a product's kind, said in two ways
+pub product-kind : (k : ℕ) → ((k ≡ 0 → ⊥) × (k ≡ 1 → ⊥)) ↔ (2 ≤ k)
+product-kind k = (from k, λ h. (λ e. omega arith, λ e. omega arith))
+  where
+    from : (k : ℕ) → (k ≡ 0 → ⊥) × (k ≡ 1 → ⊥) → 2 ≤ k
+    from zero h = absurd (h .0 refl)
+    from (suc zero) h = absurd (h .1 refl)
+    from (suc (suc k)) h = omega arith
+
+pub product-of : (r : NodeRecord) → 2 ≤ r .kind → nodeSaid r ≡ product (r .a) (r .p) (r .b) (r .q)
+unfolding nodeSaid nodeSaidOfKind
+product-of r h = go (r .kind) h
+  where
+    go : (k : ℕ) → 2 ≤ k → nodeSaidOfKind k r ≡ product (r .a) (r .p) (r .b) (r .q)
+    go zero h = absurd (omega arith)
+    go (suc zero) h = absurd (omega arith)
+    go (suc (suc k)) h = refl
 
 pub said-product : (r : NodeRecord) → (r .kind ≡ 0 → ⊥) → (r .kind ≡ 1 → ⊥) → nodeSaid r ≡ product (r .a) (r .p) (r .b) (r .q)
-unfolding nodeSaid
-said-product r f g = said-from-two (r .kind) r f g
+said-product r f g = product-of r (product-kind (r .kind) .0 (f, g))
 
 -- ---- record i of the counted ones is the model's i
 
-map-at : {A B : Type 0} (f : A → B) (xs : List A) (i : ℕ) (d : A) (e : B) → i < length xs → getD (map f xs) i e ≡ f (getD xs i d)
-map-at f [] i d e l = absurd (not-suc-le-zero l)
-map-at f (x ∷ xs) zero d e l = refl
-map-at f (x ∷ xs) (suc i) d e l = map-at f xs i d e (le-of-suc-le-suc l)
-
 -- for any width and any reading f of a record's numbers
-said-at : {B : Type 0} (f : List ℕ → B) (w count : ℕ) (s : List ℕ) (i : ℕ) (e : B) → i < count
-    → getD (map f (chunks w count s)) i e ≡ f (part s (i * w) w)
-said-at f w count s i e l =
-    map-at f (chunks w count s) i [] e (omega (arith, chunks-length w count s)) ∙ ap f (chunks-at w count s i l)
+said-at : {B : Type 0} (f : List ℕ → B) (w count : ℕ) (s : List ℕ) (i : ℕ) → i < count
+    → getD (map f (chunks w count s)) i (f []) ≡ f (part s (i * w) w)
+said-at f w count s i l = List·getD-map f (chunks w count s) i [] ∙ ap f (chunks-at w count s i l)
 
 -- field 0 stands where its record does
 part-first : (s : List ℕ) (b n : ℕ) → 0 < n → getD (part s b n) 0 0 ≡ getD s b 0
@@ -109,20 +134,20 @@ node-of zero s n = refl
 node-of (suc zero) s n = simp (part-at, ltb-true)
 node-of (suc (suc k)) s n = simp (part-at, ltb-true)
 
-pub node-said : (count : ℕ) (s : List ℕ) (n : ℕ) → n < count → count * 5 ≤ length s
+pub node-said : (count : ℕ) (s : List ℕ) (n : ℕ) → n < count
     → getD (map nodeOf (chunks 5 count s)) n identity ≡ nodeSaid (nodeRecord s n)
-unfolding nodeOf nodeSaid nodeRecord
-node-said count s n l _ =
-    said-at nodeOf 5 count s n identity l
+unfolding nodeOf nodeOfKind nodeSaid nodeRecord
+node-said count s n l =
+    said-at nodeOf 5 count s n l
     ∙ ap (λ (k : ℕ). nodeOfKind k (part s (n * 5) 5)) (part-first s (n * 5) 5 (omega arith))
     ∙ node-of (getD s (n * 5) 0) s n
 
-pub operation-said : (count : ℕ) (s : List ℕ) (i : ℕ) (d : Operation) → i < count → count * 6 ≤ length s
-    → getD (map operationOf (chunks 6 count s)) i d ≡ operationSaid (operationRecord s i)
-unfolding operationOf operationSaid operationRecord
-operation-said count s i d l _ = said-at operationOf 6 count s i d l ∙ simp (part-first, part-at, ltb-true)
+pub operation-said : (count : ℕ) (s : List ℕ) (i : ℕ) → i < count
+    → getD (map operationOf (chunks 6 count s)) i noOperation ≡ operationSaid (operationRecord s i)
+unfolding operationOf noOperation operationSaid operationRecord
+operation-said count s i l = said-at operationOf 6 count s i l ∙ simp (part-first, part-at, ltb-true)
 
-pub row-said : (count : ℕ) (s : List ℕ) (i : ℕ) (d : PauliRef) → i < count → count * 4 ≤ length s
-    → getD (map rowOf (chunks 4 count s)) i d ≡ rowSaid (rowRecord s i)
+pub row-said : (count : ℕ) (s : List ℕ) (i : ℕ) → i < count
+    → getD (map rowOf (chunks 4 count s)) i (record { node = 0; phase = 0 }) ≡ rowSaid (rowRecord s i)
 unfolding rowOf rowSaid rowRecord
-row-said count s i d l _ = said-at rowOf 4 count s i d l ∙ simp (part-at, ltb-true)
+row-said count s i l = said-at rowOf 4 count s i l ∙ simp (part-at, ltb-true)

@@ -151,7 +151,8 @@ module _ (o : Options) (j : Job) (s : Lent) (yes′ : rewriting o j s .answer �
       ∙ unfold accepted thenZeros in (records-read 6 (operationResults p callEnd) _ operations-long)
 
   rows-count : length (rowResults p callEnd) ≡ 2 * j .counts .qubits
-  rows-count = rowResults-length p callEnd ∙ unfold programOf in (length-map (rowRecords j) rowOf ∙ chunks-length 4 (2 * j .counts .qubits) (j .rows))
+  rows-count =
+      rowResults-length p callEnd ∙ unfold programOf in (length-map (rowRecords j) rowOf ∙ chunks-length 4 (2 * j .counts .qubits) (j .rows))
 
   -- and the rows'
   pub left-rows : leftRows ≡ rowResults (programOf j) callEnd

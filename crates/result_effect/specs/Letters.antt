@@ -47,7 +47,8 @@ module _ (l : ℕ) where
   unfolding letterRead
   other-qubits id w [] rest q h = refl
   other-qubits id w (x ∷ qs) rest q h =
-      if-false (letterAt l w x) _ (ap₂ (λ (a : Bool) (b : Bool). a && b) (eq-eqb id id refl) (ne-eqb x q (h .0))) ∙ other-qubits id w qs rest q (h .1)
+      if-false (letterAt l w x) _ (ap₂ (λ (a : Bool) (b : Bool). a && b) (eq-eqb id id refl) (ne-eqb x q (h .0)))
+      ∙ other-qubits id w qs rest q (h .1)
 
   -- ids rise
   before : (id : ℕ) (axes : List (List ℕ)) (a q : ℕ) → a < id → letterRead (letterLines l id axes) a q ≡ 0
@@ -72,7 +73,8 @@ module _ (l : ℕ) where
       go false e (inl k) = inl (eqb-false x q e, k)
       go false e (inr k) = inr (if-false (letterAt l w x) _ (test false e) ∙ k)
 
-  own-letter : (id : ℕ) (w : List ℕ) (axes : List (List ℕ)) (q : ℕ) → q < 64 * l → letterRead (letterLines l id (w ∷ axes)) id q ≡ letterAt l w q
+  own-letter : (id : ℕ) (w : List ℕ) (axes : List (List ℕ)) (q : ℕ) → q < 64 * l
+      → letterRead (letterLines l id (w ∷ axes)) id q ≡ letterAt l w q
   unfolding letterLines
   own-letter id w axes q b = go (found id w (support l w) rest q)
     where

@@ -15,7 +15,8 @@ use Rattle.pauli.specs.Word.{width}
 use Rattle.model.specs.declared.Answer.{Answer}
 use Rattle.model.specs.declared.Answer.the-variants.{Accepted, CountOutside, OptionOutside, BadOperation}
 use Rattle.model.specs.Interface.{accepts}
-use Rattle.model.specs.Program.{fieldOf, largestOutcome, noOutcome, minusOne, Job, operationRecords, rowRecords, Kind, rotate, measure, conditional}
+use Rattle.model.specs.Program.{fieldOf, largestOutcome, noOutcome, minusOne, Job, operationRecords, rowRecords, Kind, rotate, measure}
+use Rattle.model.specs.Program.{conditional}
 use Rattle.model.specs.Program.{kindOf, Operation, operationOf, rowOf, Program, programOf}
 use Rattle.model.specs.Rules.{Rules, rulesOf}
 use Rattle.model.specs.Packing.{packed}

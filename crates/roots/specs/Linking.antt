@@ -11,21 +11,21 @@ use Rattle.store.specs.Part.{put}
 use Rattle.store.specs.Row.{row}
 use Rattle.model.specs.Lists.{if_then_else_, allOf, anyOf, member}
 use Rattle.model.specs.Program.{Program}
-use Rattle.model.specs.Roots.{roots}
+use Rattle.model.specs.Roots.{relevant, roots}
 use Rattle.theory.specs.Cases.{if-true, if-false}
 use Rattle.layout.specs.declared.Shape.{Shape}
-use Rattle.layout.specs.Rows.{relevantRow, usesRow, firstRoot, nextRoot, entries, entries-length, entries-at}
+use Rattle.layout.specs.Rows.{relevantRow, usesRow, firstRoot, entries, entries-length, entries-at}
 use Rattle.layout.specs.Only.{Only, only-none, only-of, only-then}
 use Rattle.records.specs.Records.{operationRecord, rowRecord}
-use Rattle.packing_states.specs.References.{referenceAt, total, relevant, isRootAt}
+use Rattle.packing_states.specs.References.{referenceAt, total, isRootAt}
 use Rattle.packing_states.specs.ReferenceLaws.{roots-from-le, roots-from-all}
 use Rattle.packing_states.specs.Counts.{rootCounts, rootCounts-at, rootCounts-length}
 use Rattle.packing_states.specs.InMemory.{reference-node}
 use Rattle.layout.specs.Cleared.{cleared-only, cleared-at}
-use Rattle.packing_states.specs.Some.{Some}
-use Rattle.roots.specs.Links.{FrontPre, InFront, OperationPre, RowPre, linkRows, RowLinked, LinkedFrom, Sizes, RowsIn}
+use Rattle.packing_states.specs.SomeProgram.{SomeProgram}
+use Rattle.roots.specs.Links.{FrontPre, frontRows, InFront, OperationPre, RowPre, linkRows, RowLinked, LinksFrom, Sizes, RowsIn}
 use Rattle.roots.specs.Links.{RowsPre, RowsLinked, OperationsPre, OperationsLinked, LinkPre, Links, RootsLinked}
-use Rattle.roots.specs.LinkLaws.{link-root, link-none, linked-none}
+use Rattle.roots.specs.LinkLaws.{link-root, link-no-root, linked-none}
 
 -- ---- other rows are written
 
@@ -46,17 +46,17 @@ rows-kept {p} {z} {rs} {s} {t} o a = record {
 
 -- ---- a reference may be put in front
 
-front-pre : (p : Program) (z : Shape) (j n : ℕ) (x : List ℕ) → Sizes p z x → j < total p → referenceAt p j .node ≡ n → LinkedFrom p (z .u) (suc j) x
-    → FrontPre x (z .u) j n
+front-pre : (p : Program) (z : Shape) (j n : ℕ) (x : List ℕ) → Sizes p z x → j < total p → referenceAt p j .node ≡ n
+    → LinksFrom p z (suc j) x → FrontPre x (z .u) j n
 front-pre p z j n x a b e f =
     let d = a .sized in
     let w = a .whole in
-    let h : n < length (p .nodes) = rw e at (reference-node p (w .fine) j b) in
+    let h : n < z .nodes = rw (e, w .nodes) at (reference-node p (w .fine) j b) in
     record {
       long = a .long;
       u-small = d .u-small;
       root = omega (arith, d .row, w .references);
-      node = omega (arith, d .row, w .nodes);
+      node = omega (arith, d .row);
       uses = omega (arith, f .uses n h, roots-from-le p n (suc j), w .references, d .operations, d .qubits);
     }
 
@@ -67,7 +67,7 @@ module _ (z : Shape) (rs s : List ℕ) where
   pub record RowsAt (r : ℕ) (x : List ℕ) : Type 0 where
     pub most : r ≤ 2 * z .qubits
     pub only : Only linkRows (z .u) s x
-    pub linked : (p : Program) → RowsPre p z rs s → LinkedFrom p (z .u) (z .operations + r) x
+    pub linked : (p : Program) → RowsPre p z rs s → LinksFrom p z (z .operations + r) x
 
   pub rows-start : RowsAt (2 * z .qubits) s
   rows-start = record {
@@ -80,7 +80,7 @@ module _ (z : Shape) (rs s : List ℕ) where
   place : (r : ℕ) → 0 < r → z .operations + r ≡ suc (z .operations + (r - 1))
   place r h = omega arith
 
-  pub rows-need : {r : ℕ} {x : List ℕ} → Some (λ (p : Program). RowsPre p z rs s) → 0 < r → RowsAt r x
+  pub rows-need : {r : ℕ} {x : List ℕ} → SomeProgram (λ (p : Program). RowsPre p z rs s) → 0 < r → RowsAt r x
       → RowPre rs x (z .u) (z .operations + (r - 1)) (r - 1)
   rows-need {r} {x} some h i =
       let a = some .it in
@@ -99,8 +99,8 @@ module _ (z : Shape) (rs s : List ℕ) where
     unfolding isRootAt
     row-test = rw (le-ltb (z .operations + r) (length (p .operations)) (omega (arith, a .sizes .whole .operations)), d) refl
 
-    row-turn : Only linkRows (z .u) s x → LinkedFrom p (z .u) (suc (z .operations + r)) x → RowLinked x (z .u) (z .operations + r) n y
-        → LinkedFrom p (z .u) (z .operations + r) y
+    row-turn : Only linkRows (z .u) s x → LinksFrom p z (suc (z .operations + r)) x → RowLinked x (z .u) (z .operations + r) n y
+        → LinksFrom p z (z .operations + r) y
     row-turn o f w = go (relevant p n) refl
       where
         long : 24 * z .u ≤ length x
@@ -112,20 +112,20 @@ module _ (z : Shape) (rs s : List ℕ) where
         in-row : total p ≤ z .u
         in-row = omega (arith, a .sizes .whole .references, a .sizes .sized .row)
 
-        node-in : n < length (p .nodes)
-        node-in = rw d at (reference-node p (a .sizes .whole .fine) (z .operations + r) b)
+        node-in : n < z .nodes
+        node-in = rw (d, a .sizes .whole .nodes) at (reference-node p (a .sizes .whole .fine) (z .operations + r) b)
 
         kept : RowsIn p z rs x
         kept = rows-kept o (a .records)
 
         said : getD (row x (z .u) relevantRow) n 0 ≡ (if relevant p n then 1 else 0)
-        said = kept .tells n (omega (arith, a .sizes .whole .nodes, node-in))
+        said = kept .tells n node-in
 
-        go : (t : Bool) → relevant p n ≡ t → LinkedFrom p (z .u) (z .operations + r) y
+        go : (t : Bool) → relevant p n ≡ t → LinksFrom p z (z .operations + r) y
         go true e =
-            link-root p (z .u) (z .operations + r) x y long b in-row f (row-test ∙ e) n d node-in
-            (omega (arith, a .sizes .whole .nodes, a .sizes .sized .row)) (w .root (λ q. omega (arith, said, if-true {A = ℕ} 1 0 e)))
-        go false e = link-none p (z .u) (z .operations + r) x y long b in-row f (row-test ∙ e) (w .no-root (said ∙ if-false {A = ℕ} 1 0 e))
+            link-root p z (z .operations + r) x y long b in-row f (row-test ∙ e) n d node-in (omega (arith, a .sizes .sized .row))
+            (w .root (λ q. omega (arith, said, if-true {A = ℕ} 1 0 e)))
+        go false e = link-no-root p z (z .operations + r) x y long b in-row f (row-test ∙ e) (w .no-root (said ∙ if-false {A = ℕ} 1 0 e))
 
   pub rows-turn : {r : ℕ} {x y : List ℕ} → 0 < r → RowsAt r x → RowLinked x (z .u) (z .operations + (r - 1)) (rowRecord rs (r - 1) .node) y
       → RowsAt (r - 1) y
@@ -149,8 +149,8 @@ module _ (z : Shape) (os s : List ℕ) where
   -- operations i and later are linked
   pub record OperationsAt (i : ℕ) (x : List ℕ) : Type 0 where
     pub most : i ≤ z .operations
-    pub only : Only (usesRow ∷ firstRoot ∷ nextRoot ∷ []) (z .u) s x
-    pub linked : (p : Program) → OperationsPre p z os s → LinkedFrom p (z .u) i x
+    pub only : Only frontRows (z .u) s x
+    pub linked : (p : Program) → OperationsPre p z os s → LinksFrom p z i x
 
   pub operations-start : OperationsAt (z .operations) s
   operations-start = record { most = omega arith; only = only-none _ (z .u) s; linked = λ p a. a .start }
@@ -158,7 +158,7 @@ module _ (z : Shape) (os s : List ℕ) where
   above : (i : ℕ) → 0 < i → i ≡ suc (i - 1)
   above i h = omega arith
 
-  pub operations-need : {i : ℕ} {x : List ℕ} → Some (λ (p : Program). OperationsPre p z os s) → 0 < i → OperationsAt i x
+  pub operations-need : {i : ℕ} {x : List ℕ} → SomeProgram (λ (p : Program). OperationsPre p z os s) → 0 < i → OperationsAt i x
       → OperationPre os x (z .u) (i - 1)
   operations-need {i} {x} some h f =
       let a = some .it in
@@ -175,13 +175,13 @@ module _ (z : Shape) (os s : List ℕ) where
   operation-test p i a h = rw (lt-ltb i (length (p .operations)) (omega (arith, a .sizes .whole .operations))) refl
 
   operation-turn : (p : Program) (i : ℕ) (x y : List ℕ) → OperationsPre p z os s → i < z .operations → length x ≡ length s
-      → LinkedFrom p (z .u) (suc i) x → InFront x (z .u) i (operationRecord os i .node) y → LinkedFrom p (z .u) i y
+      → LinksFrom p z (suc i) x → InFront x (z .u) i (operationRecord os i .node) y → LinksFrom p z i y
   operation-turn p i x y a h o f w =
       let b : i < total p = omega (arith, a .sizes .whole .references) in
       let d = a .records .node i h in
-      link-root p (z .u) i x y (omega (arith, a .sizes .long)) b (omega (arith, a .sizes .whole .references, a .sizes .sized .row)) f
-      (operation-test p i a h) _ d (rw d at (reference-node p (a .sizes .whole .fine) i b))
-      (omega (arith, a .sizes .whole .nodes, a .sizes .sized .row)) w
+      link-root p z i x y (omega (arith, a .sizes .long)) b (omega (arith, a .sizes .whole .references, a .sizes .sized .row)) f
+      (operation-test p i a h) _ d (rw (d, a .sizes .whole .nodes) at (reference-node p (a .sizes .whole .fine) i b))
+      (omega (arith, a .sizes .sized .row)) w
 
   pub operations-turn : {i : ℕ} {x y : List ℕ} → 0 < i → OperationsAt i x → InFront x (z .u) (i - 1) (operationRecord os (i - 1) .node) y
       → OperationsAt (i - 1) y
@@ -196,14 +196,9 @@ module _ (z : Shape) (os s : List ℕ) where
 
 -- ---- when all are linked
 
-pub all-linked : (p : Program) (z : Shape) (t : List ℕ) → Sizes p z t → LinkedFrom p (z .u) 0 t → Links p z t
+pub all-linked : (p : Program) (z : Shape) (t : List ℕ) → Sizes p z t → LinksFrom p z 0 t → Links p z t
 all-linked p z t a f = record {
-  linked = record {
-    first = λ n h. f .first n (omega (arith, a .whole .nodes));
-    next = λ j h e. f .next j (omega arith) h e;
-    no-axis = λ j h e. f .no-axis j (omega arith) h e;
-    no-sign = λ j h e. f .no-sign j (omega arith) h e;
-  };
+  linked = f .linked;
   uses = ext-getD 0 (entries t (z .u) usesRow (z .nodes)) (rootCounts (roots p) (z .nodes)) (long ∙ sym (rootCounts-length (roots p) (z .nodes)))
       (λ n h. one n (omega (arith, long)));
 }
@@ -216,12 +211,12 @@ all-linked p z t a f = record {
 
     one : (n : ℕ) → n < z .nodes → getD (entries t (z .u) usesRow (z .nodes)) n 0 ≡ getD (rootCounts (roots p) (z .nodes)) n 0
     one n h =
-        entries-at t (z .u) usesRow (z .nodes) (a .long) (omega arith) fits n h ∙ f .uses n (omega (arith, a .whole .nodes)) ∙ roots-from-all p n
+        entries-at t (z .u) usesRow (z .nodes) (a .long) (omega arith) fits n h ∙ f .uses n h ∙ roots-from-all p n
         ∙ sym (rootCounts-at (roots p) (z .nodes) n h)
 
 -- ---- all of it
 
-module _ (z : Shape) (os rs s s₁ s₂ : List ℕ) (some : Some (λ (p : Program). LinkPre p z os rs s))
+module _ (z : Shape) (os rs s s₁ s₂ : List ℕ) (some : SomeProgram (λ (p : Program). LinkPre p z os rs s))
     (e : s₁ ≡ put s (firstRoot * z .u) (replicate (z .nodes) 0)) (d : s₂ ≡ put s₁ (usesRow * z .u) (replicate (z .nodes) 0)) where
   long : 24 * z .u ≤ length s
   long = some .it .sizes .long
@@ -253,11 +248,10 @@ module _ (z : Shape) (os rs s s₁ s₂ : List ℕ) (some : Some (λ (p : Progra
   cleared-rows p a = record {
     sizes = sizes-kept (only-both .long) (a .sizes);
     records = rows-kept only-both (a .rows);
-    start = linked-none p (z .u) s₂ (λ n h. cleared-first n (omega (arith, a .sizes .whole .nodes)))
-        (λ n h. cleared-at s₁ (z .u) usesRow (z .nodes) long₁ (omega arith) fits d n (omega (arith, a .sizes .whole .nodes)));
+    start = linked-none p z s₂ cleared-first (cleared-at s₁ (z .u) usesRow (z .nodes) long₁ (omega arith) fits d);
   }
 
-  pub first-rows : Some (λ (p : Program). RowsPre p z rs s₂)
+  pub first-rows : SomeProgram (λ (p : Program). RowsPre p z rs s₂)
   first-rows = record { p = some .p; it = cleared-rows (some .p) (some .it) }
 
   module _ (s₃ : List ℕ) (b : RowsLinked z rs s₂ s₃) where
@@ -267,7 +261,7 @@ module _ (z : Shape) (os rs s s₁ s₂ : List ℕ) (some : Some (λ (p : Progra
         let c = cleared-rows p a in
         record { sizes = sizes-kept (b .only .long) (c .sizes); records = a .operations; start = b .linked p c }
 
-    pub then-operations : Some (λ (p : Program). OperationsPre p z os s₃)
+    pub then-operations : SomeProgram (λ (p : Program). OperationsPre p z os s₃)
     then-operations = record { p = some .p; it = after-rows (some .p) (some .it) }
 
     pub roots-linked : {t : List ℕ} → OperationsLinked z os s₃ t → RootsLinked z os rs s t

@@ -1,24 +1,24 @@
 -- Linking: what its functions demand of the number store and leave in it. Assumes nothing.
 use mathlib.Core.Path.{_≡_}
-use mathlib.Core.Bool.{true, false}
 use mathlib.Core.List.{List, [], _∷_}
 use Prim.Native.Nat.{ℕ, suc, _+_, _*_, _≤_, _<_}
 use lib.ListN.{length, getD, set}
 use Rattle.store.specs.Row.{row}
-use Rattle.model.specs.Lists.{if_then_else_}
 use Rattle.model.specs.Program.{Program}
 use Rattle.model.specs.Roots.{roots}
 use Rattle.model.specs.Packing.{oneUseMore}
 use Rattle.layout.specs.declared.Shape.{Shape}
-use Rattle.layout.specs.Rows.{relevantRow, usesRow, firstRoot, nextRoot, rootAxis, rootSign, none, entries}
+use Rattle.layout.specs.Rows.{relevantRow, usesRow, firstRoot, nextRoot, rootAxis, rootSign, noAxis, entries}
 use Rattle.layout.specs.Only.{Only}
 use Rattle.layout.specs.Shape.{Sized}
 use Rattle.records.specs.Records.{operationRecord, rowRecord}
-use Rattle.packing_states.specs.References.{referenceAt, total, relevant, isRootAt, linkFrom}
+use Rattle.packing_states.specs.References.{referenceAt, total}
 use Rattle.packing_states.specs.ReferenceLaws.{rootsFrom}
 use Rattle.packing_states.specs.Counts.{rootCounts}
-use Rattle.packing_states.specs.Linked.{Linked}
+use Rattle.packing_states.specs.Linked.{LinkedFrom, Linked}
+use Rattle.packing_states.specs.RootRows.{RootRows, rootRows}
 use Rattle.packing_states.specs.InMemory.{Whole}
+use Rattle.packing_states.specs.NodeRows.{TellsRelevant}
 
 -- ---- one use more
 
@@ -43,24 +43,27 @@ pub record FrontPre (s : List ℕ) (u j n : ℕ) : Type 0 where
   pub node : n < u
   pub uses : getD (row s u usesRow) n 0 < 4294967295
 
+-- the rows that a root's turn writes
+abbrev pub frontRows : List ℕ
+frontRows = usesRow ∷ firstRoot ∷ nextRoot ∷ []
+
 -- root j stands in front of node n's other roots, and uses the node
 pub record InFront (s : List ℕ) (u j n : ℕ) (t : List ℕ) : Type 0 where
-  pub only : Only (usesRow ∷ firstRoot ∷ nextRoot ∷ []) u s t
+  pub only : Only frontRows u s t
   pub next : row t u nextRoot ≡ set (row s u nextRoot) j (getD (row s u firstRoot) n 0)
   pub first : row t u firstRoot ≡ set (row s u firstRoot) n (suc j)
   pub uses : row t u usesRow ≡ oneUseMore n (row s u usesRow)
 
 -- reference j, which is no root, has no axis
-pub record NoRoot (s : List ℕ) (u j : ℕ) (t : List ℕ) : Type 0 where
-  pub only : Only (rootAxis ∷ rootSign ∷ []) u s t
-  pub axis : row t u rootAxis ≡ set (row s u rootAxis) j none
-  pub sign : row t u rootSign ≡ set (row s u rootSign) j 0
+abbrev pub NoRoot : List ℕ → ℕ → ℕ → List ℕ → Type 0
+NoRoot s u j t = RootRows rootRows u j noAxis 0 s t
 
 -- reference i is operation i of the records
 pub record OperationPre (os s : List ℕ) (u i : ℕ) : Type 0 where
   pub record-long : i * 6 + 6 ≤ length os
   pub front : FrontPre s u i (operationRecord os i .node)
 
+-- the rows that any reference's turn writes
 abbrev pub linkRows : List ℕ
 linkRows = usesRow ∷ firstRoot ∷ nextRoot ∷ rootAxis ∷ rootSign ∷ []
 
@@ -77,13 +80,10 @@ pub record RowLinked (s : List ℕ) (u j n : ℕ) (t : List ℕ) : Type 0 where
 
 -- ---- the references from j on
 
--- they are linked
-pub record LinkedFrom (p : Program) (u j : ℕ) (t : List ℕ) : Type 0 where
-  pub first : (n : ℕ) → n < length (p .nodes) → getD (row t u firstRoot) n 0 ≡ linkFrom p n j
-  pub uses : (n : ℕ) → n < length (p .nodes) → getD (row t u usesRow) n 0 ≡ rootsFrom p n j
-  pub next : (i : ℕ) → j ≤ i → i < total p → isRootAt p i ≡ true → getD (row t u nextRoot) i 0 ≡ linkFrom p (referenceAt p i .node) (suc i)
-  pub no-axis : (i : ℕ) → j ≤ i → i < total p → isRootAt p i ≡ false → getD (row t u rootAxis) i 0 ≡ none
-  pub no-sign : (i : ℕ) → j ≤ i → i < total p → isRootAt p i ≡ false → getD (row t u rootSign) i 0 ≡ 0
+-- they are linked, and for each node its roots among them counted
+pub record LinksFrom (p : Program) (z : Shape) (j : ℕ) (t : List ℕ) : Type 0 where
+  pub linked : LinkedFrom p z j t
+  pub uses : (n : ℕ) → n < z .nodes → getD (row t (z .u) usesRow) n 0 ≡ rootsFrom p n j
 
 -- the program has these sizes, and the number store has its rows
 pub record Sizes (p : Program) (z : Shape) (s : List ℕ) : Type 0 where
@@ -100,7 +100,7 @@ pub record OperationsIn (p : Program) (z : Shape) (os : List ℕ) : Type 0 where
 pub record RowsIn (p : Program) (z : Shape) (rs s : List ℕ) : Type 0 where
   pub long : 2 * z .qubits * 4 ≤ length rs
   pub node : (r : ℕ) → r < 2 * z .qubits → referenceAt p (z .operations + r) .node ≡ rowRecord rs r .node
-  pub tells : (n : ℕ) → n < z .nodes → getD (row s (z .u) relevantRow) n 0 ≡ (if relevant p n then 1 else 0)
+  pub tells : TellsRelevant p z s
 
 -- ---- the frame rows, then the operations
 
@@ -108,23 +108,23 @@ pub record RowsIn (p : Program) (z : Shape) (rs s : List ℕ) : Type 0 where
 pub record RowsPre (p : Program) (z : Shape) (rs s : List ℕ) : Type 0 where
   pub sizes : Sizes p z s
   pub records : RowsIn p z rs s
-  pub start : LinkedFrom p (z .u) (total p) s
+  pub start : LinksFrom p z (total p) s
 
 -- then the frame rows are
 pub record RowsLinked (z : Shape) (rs s t : List ℕ) : Type 0 where
   pub only : Only linkRows (z .u) s t
-  pub linked : (p : Program) → RowsPre p z rs s → LinkedFrom p (z .u) (z .operations) t
+  pub linked : (p : Program) → RowsPre p z rs s → LinksFrom p z (z .operations) t
 
 -- the frame rows are linked
 pub record OperationsPre (p : Program) (z : Shape) (os s : List ℕ) : Type 0 where
   pub sizes : Sizes p z s
   pub records : OperationsIn p z os
-  pub start : LinkedFrom p (z .u) (z .operations) s
+  pub start : LinksFrom p z (z .operations) s
 
 -- then all references are
 pub record OperationsLinked (z : Shape) (os s t : List ℕ) : Type 0 where
-  pub only : Only (usesRow ∷ firstRoot ∷ nextRoot ∷ []) (z .u) s t
-  pub linked : (p : Program) → OperationsPre p z os s → LinkedFrom p (z .u) 0 t
+  pub only : Only frontRows (z .u) s t
+  pub linked : (p : Program) → OperationsPre p z os s → LinksFrom p z 0 t
 
 -- ---- both
 

@@ -1,47 +1,39 @@
 -- Counting uses: what its functions demand of the number store and leave in it. Assumes nothing.
 use mathlib.Core.Path.{_≡_}
-use mathlib.Core.List.{List, [], _∷_, map}
-use Prim.Native.Nat.{ℕ, _+_, _*_, _≤_, _<_}
-use lib.ListN.{length, getD}
-use Rattle.store.specs.Chunk.{chunks}
+use mathlib.Core.List.{List, [], _∷_}
+use Prim.Native.Nat.{ℕ, _≤_, _<_}
+use lib.ListN.{getD}
 use Rattle.store.specs.Row.{row}
-use Rattle.model.specs.Program.{nodeOf}
 use Rattle.model.specs.Packing.{countUses}
-use Rattle.theory.specs.PackedRoots.{ChildrenBefore}
 use Rattle.layout.specs.Rows.{usesRow, entries}
 use Rattle.layout.specs.Only.{Only}
-use Rattle.records.specs.Records.{nodeRecord, nodeSaid}
+use Rattle.records.specs.Records.{nodeRecord}
+use Rattle.records.specs.Nodes.{nodesIn, nodeHere}
 use Rattle.packing_states.specs.Counts.{countNode}
+use Rattle.packing_states.specs.NodeRows.{NodeInRows, NodesInRows}
 
 -- ---- one node
 
 -- a product's children have entries, and room for two uses more
 pub record UsePre (ns s : List ℕ) (u n : ℕ) : Type 0 where
-  pub long : 24 * u ≤ length s
-  pub record-long : n * 5 + 5 ≤ length ns
-  pub node : n < u
-  pub first : 2 ≤ nodeRecord ns n .kind → nodeRecord ns n .a < u
-  pub second : 2 ≤ nodeRecord ns n .kind → nodeRecord ns n .b < u
-  pub first-uses : 2 ≤ nodeRecord ns n .kind → getD (row s u usesRow) (nodeRecord ns n .a) 0 < 4294967294
-  pub second-uses : 2 ≤ nodeRecord ns n .kind → getD (row s u usesRow) (nodeRecord ns n .b) 0 < 4294967294
+  pub node : NodeInRows ns u n s
+  pub uses : 2 ≤ nodeRecord ns n .kind
+      → (getD (row s u usesRow) (nodeRecord ns n .a) 0 < 4294967294) × (getD (row s u usesRow) (nodeRecord ns n .b) 0 < 4294967294)
 
 -- node n's turn in the model's count
 pub record ChildrenUsed (ns s : List ℕ) (u n : ℕ) (t : List ℕ) : Type 0 where
   pub only : Only (usesRow ∷ []) u s t
-  pub uses : row t u usesRow ≡ countNode n (nodeSaid (nodeRecord ns n)) (row s u usesRow)
+  pub uses : row t u usesRow ≡ countNode n (nodeHere ns n) (row s u usesRow)
 
 -- ---- all nodes
 
--- a product's children stand before it; no node is used by more than all references so far, 65,535 + 2 × 4,096 of them
+-- no node is used by more than all references so far, 65,535 + 2 × 4,096 of them
 pub record CountPre (ns s : List ℕ) (u count : ℕ) : Type 0 where
-  pub long : 24 * u ≤ length s
-  pub nodes-long : count * 5 ≤ length ns
-  pub fits : count ≤ u
+  pub nodes : NodesInRows ns u count s
   pub few : count ≤ 65535
-  pub children : (n : ℕ) → n < count → ChildrenBefore n (nodeSaid (nodeRecord ns n))
   pub uses : (m : ℕ) → getD (entries s u usesRow count) m 0 ≤ 73727
 
 -- the model's count
 pub record UsesCounted (ns s : List ℕ) (u count : ℕ) (t : List ℕ) : Type 0 where
   pub only : Only (usesRow ∷ []) u s t
-  pub uses : entries t u usesRow count ≡ countUses (map nodeOf (chunks 5 count ns)) count (entries s u usesRow count)
+  pub uses : entries t u usesRow count ≡ countUses (nodesIn count ns) count (entries s u usesRow count)

@@ -1,53 +1,42 @@
 -- Counting the uses of one node's children, and of all nodes', the last node first. Assumes nothing.
 use mathlib.Core.Path.{_≡_, refl, sym, ap, _∙_}
 use mathlib.Core.Bool.{Bool, true, false}
-use mathlib.Core.List.{List, [], _∷_, map}
-use Prim.Native.Nat.{ℕ, zero, suc, _+_, _-_, _*_, _≤_, _<_}
+use mathlib.Core.List.{List, [], _∷_}
+use Prim.Native.Nat.{ℕ, suc, _+_, _-_, _*_, _≤_, _<_}
 use native.Mathlib.Omega.{arith}
 use lib.Dec.{eqb}
 use lib.ListN.{length, getD, set, take}
 use lib.Seq.{getD-take, take-set-lt}
 use borrow.Author.Tests.{eq-eqb, ne-eqb}
-use Rattle.store.specs.Chunk.{chunks}
 use Rattle.store.specs.Row.{row, row-length}
 use Rattle.model.specs.Lists.{if_then_else_}
-use Rattle.model.specs.Program.{Node, identity, letter, product, nodeOf}
+use Rattle.model.specs.Program.{Node, identity, letter, product}
 use Rattle.model.specs.Packing.{oneUseMore, countChildren, countUses}
 use Rattle.theory.specs.Cases.{by-if, if-true, if-false}
 use Rattle.theory.specs.PackedRoots.{ChildrenBefore}
 use Rattle.layout.specs.Rows.{usesRow, entries, entries-at}
 use Rattle.layout.specs.Only.{Only, only-none, only-then}
-use Rattle.records.specs.declared.NodeRecord.{NodeRecord}
-use Rattle.records.specs.Records.{nodeRecord, nodeSaidOfKind, nodeSaid, said-product, node-said}
+use Rattle.records.specs.Records.{nodeRecord, leaf-of, product-of}
+use Rattle.records.specs.Nodes.{nodesIn, nodeHere, node-here}
 use Rattle.packing_states.specs.Counts.{more-at, countNode, countUses-bound}
+use Rattle.packing_states.specs.NodeRows.{children-here, children-under, node-in-rows}
 use Rattle.roots.specs.Links.{AddPre, Added}
 use Rattle.roots.specs.UseCounts.{UsePre, ChildrenUsed, CountPre, UsesCounted}
 
 -- ---- one node
 
--- a record that is no product's
-leaf-of : (k : ℕ) (r : NodeRecord) (uses : List ℕ) → k < 2 → countChildren (nodeSaidOfKind k r) uses ≡ uses
-unfolding countChildren nodeSaidOfKind
-leaf-of zero r uses h = refl
-leaf-of (suc zero) r uses h = refl
-leaf-of (suc (suc k)) r uses h = absurd (omega arith)
-
--- a product's
-product-of : (r : NodeRecord) → 2 ≤ r .kind → nodeSaid r ≡ product (r .a) (r .p) (r .b) (r .q)
-product-of r h = said-product r (λ e. omega arith) (λ e. omega arith)
-
 pub leaf-used : (ns s : List ℕ) (u n : ℕ) → nodeRecord ns n .kind < 2 → ChildrenUsed ns s u n s
-unfolding nodeSaid
-leaf-used ns s u n h = record {
-  only = only-none _ u s;
-  uses = by-if (λ (x : List ℕ). row s u usesRow ≡ x) _ _ _ refl (sym (leaf-of (nodeRecord ns n .kind) (nodeRecord ns n) (row s u usesRow) h));
-}
+unfolding countChildren
+leaf-used ns s u n h =
+    let uses = row s u usesRow in
+    let same = leaf-of (λ (node : Node). countChildren node uses) uses (nodeRecord ns n) h refl (λ q c. refl) in
+    record { only = only-none _ u s; uses = by-if (λ (x : List ℕ). uses ≡ x) _ _ _ refl (sym same) }
 
 pub unused : (ns s : List ℕ) (u n : ℕ) → getD (row s u usesRow) n 0 ≡ 0 → ChildrenUsed ns s u n s
 unused ns s u n e = record { only = only-none _ u s; uses = sym (if-true _ _ (eq-eqb (getD (row s u usesRow) n 0) 0 e)) }
 
 pub first-add : (ns s : List ℕ) (u n : ℕ) → UsePre ns s u n → 2 ≤ nodeRecord ns n .kind → AddPre s u (nodeRecord ns n .a)
-first-add ns s u n pre h = record { long = pre .long; node = pre .first h; uses = omega (arith, pre .first-uses h) }
+first-add ns s u n pre h = record { long = pre .node .long; node = pre .node .children h .0; uses = omega (arith, pre .uses h .0) }
 
 module _ (ns s s₁ : List ℕ) (u n : ℕ) (h : 2 ≤ nodeRecord ns n .kind) (w : Added s u (nodeRecord ns n .a) s₁) where
   pub second-add : UsePre ns s u n → AddPre s₁ u (nodeRecord ns n .b)
@@ -55,13 +44,13 @@ module _ (ns s s₁ : List ℕ) (u n : ℕ) (h : 2 ≤ nodeRecord ns n .kind) (w
       let a = nodeRecord ns n .a in
       let b = nodeRecord ns n .b in
       let long : b < length (row s u usesRow) =
-      omega (arith, pre .second h, row-length s u 24 usesRow (pre .long) (let z : usesRow < 24 = omega arith in z)) in
+      omega (arith, pre .node .children h .1, row-length s u 24 usesRow (pre .node .long) (let z : usesRow < 24 = omega arith in z)) in
       record {
-        long = omega (arith, pre .long, w .only .long);
-        node = pre .second h;
+        long = omega (arith, pre .node .long, w .only .long);
+        node = pre .node .children h .1;
         uses = rw (w .uses, more-at (row s u usesRow) a b long)
-            (by-if (λ (k : ℕ). getD (row s u usesRow) b 0 + k < 4294967295) (eqb a b) 1 0 (omega (arith, pre .second-uses h))
-            (omega (arith, pre .second-uses h)));
+            (by-if (λ (k : ℕ). getD (row s u usesRow) b 0 + k < 4294967295) (eqb a b) 1 0 (omega (arith, pre .uses h .1))
+            (omega (arith, pre .uses h .1)));
       }
 
   pub both-used : {t : List ℕ} → (getD (row s u usesRow) n 0 ≡ 0 → ⊥) → Added s₁ u (nodeRecord ns n .b) t → ChildrenUsed ns s u n t
@@ -101,14 +90,11 @@ take-node count n node uses h c =
 -- ---- all nodes
 
 module _ (ns s : List ℕ) (u count : ℕ) where
-  abbrev nodes : List Node
-  nodes = map nodeOf (chunks 5 count ns)
-
   -- the uses that nodes n and later make are counted
   pub record UsesAt (n : ℕ) (x : List ℕ) : Type 0 where
     pub most : n ≤ count
     pub only : Only (usesRow ∷ []) u s x
-    pub uses : countUses nodes n (entries x u usesRow count) ≡ countUses nodes count (entries s u usesRow count)
+    pub uses : countUses (nodesIn count ns) n (entries x u usesRow count) ≡ countUses (nodesIn count ns) count (entries s u usesRow count)
     pub small : (m : ℕ) → getD (entries x u usesRow count) m 0 ≤ 73727 + 2 * (count - n)
 
   pub uses-start : CountPre ns s u count → UsesAt count s
@@ -120,45 +106,36 @@ module _ (ns s : List ℕ) (u count : ℕ) where
   }
 
   module _ (pre : CountPre ns s u count) (n : ℕ) (x : List ℕ) (h : 0 < n) (i : UsesAt n x) where
-    abbrev node : NodeRecord
-    node = nodeRecord ns (n - 1)
-
     below : n - 1 < count
     below = omega (arith, i .most)
 
     long : 24 * u ≤ length x
-    long = omega (arith, pre .long, i .only .long)
-
-    before : 2 ≤ node .kind → (node .a < n - 1) × (node .b < n - 1)
-    before b = rw (product-of node b) at (pre .children (n - 1) below)
+    long = omega (arith, pre .nodes .long, i .only .long)
 
     few : (m : ℕ) → m < n - 1 → getD (row x u usesRow) m 0 < 4294967294
     few m b =
-        let e = entries-at x u usesRow count long (let z : usesRow < 24 = omega arith in z) (pre .fits) m (omega arith) in
+        let e = entries-at x u usesRow count long (let z : usesRow < 24 = omega arith in z) (pre .nodes .fits) m (omega arith) in
         omega (arith, e, i .small m, pre .few)
 
     pub uses-need : UsePre ns x u (n - 1)
     uses-need = record {
-      long = long;
-      record-long = omega (arith, pre .nodes-long);
-      node = omega (arith, pre .fits);
-      first = λ b. omega (arith, before b .0, pre .fits);
-      second = λ b. omega (arith, before b .1, pre .fits);
-      first-uses = λ b. few (node .a) (before b .0);
-      second-uses = λ b. few (node .b) (before b .1);
+      node = node-in-rows (pre .nodes) (n - 1) below (i .only .long);
+      uses = λ b. let under = children-under (pre .nodes) (n - 1) below b in (few _ (under .0), few _ (under .1));
     }
 
     module _ (y : List ℕ) (w : ChildrenUsed ns x u (n - 1) y) where
-      counted : entries y u usesRow count ≡ countNode (n - 1) (nodeSaid node) (entries x u usesRow count)
+      counted : entries y u usesRow count ≡ countNode (n - 1) (nodeHere ns (n - 1)) (entries x u usesRow count)
       unfolding entries
-      counted = ap (take count) (w .uses) ∙ take-node count (n - 1) (nodeSaid node) (row x u usesRow) below (pre .children (n - 1) below)
+      counted =
+          ap (take count) (w .uses)
+          ∙ take-node count (n - 1) (nodeHere ns (n - 1)) (row x u usesRow) below (children-here (pre .nodes) (n - 1) below)
 
-      counts : countUses nodes (n - 1) (entries y u usesRow count) ≡ countUses nodes n (entries x u usesRow count)
+      counts : countUses (nodesIn count ns) (n - 1) (entries y u usesRow count) ≡ countUses (nodesIn count ns) n (entries x u usesRow count)
       unfolding countUses
       counts =
           let e : n ≡ suc (n - 1) = omega arith in
-          let said = node-said count ns (n - 1) below (pre .nodes-long) in
-          rw (counted, sym said) (sym (ap (λ (k : ℕ). countUses nodes k (entries x u usesRow count)) e))
+          let here = node-here count ns (n - 1) below in
+          rw (counted, sym here) (sym (ap (λ (k : ℕ). countUses (nodesIn count ns) k (entries x u usesRow count)) e))
 
       pub uses-turn : UsesAt (n - 1) y
       uses-turn = record {
@@ -166,7 +143,7 @@ module _ (ns s : List ℕ) (u count : ℕ) where
         only = only-then (i .only) (w .only);
         uses = counts ∙ i .uses;
         small = λ m.
-            let b = countUses-bound (nodeSaid node) (entries x u usesRow count) (n - 1) (73727 + 2 * (count - n)) (i .small) m in
+            let b = countUses-bound (nodeHere ns (n - 1)) (entries x u usesRow count) (n - 1) (73727 + 2 * (count - n)) (i .small) m in
             rw counted (omega (arith, b));
       }
 

@@ -3,14 +3,14 @@ ghost use Prim.Native.Nat.{_*_, _<_, _≤_};
 ghost use lib.ListN.{length};
 ghost use Rattle.model.specs.Program.{Program};
 ghost use Rattle.records.specs.Records.{operationRecord, rowRecord};
-ghost use Rattle.packing_states.specs.Some.{Some};
+ghost use Rattle.packing_states.specs.SomeProgram.{SomeProgram};
 ghost use Rattle.roots.specs.Links.{AddPre, Added, FrontPre, InFront, NoRoot, OperationPre, RowPre, RowLinked};
 ghost use Rattle.roots.specs.Links.{RowsPre, RowsLinked, OperationsPre, OperationsLinked, LinkPre, RootsLinked};
 ghost use Rattle.roots.specs.Prepared.{PreparePre, Prepared};
 ghost use Rattle.roots.specs.UseCounts.{UsePre, ChildrenUsed, CountPre, UsesCounted};
 use layout::FIRST_ROOT;
 use layout::NEXT_ROOT;
-use layout::NONE;
+use layout::NO_AXIS;
 use layout::RELEVANT;
 use layout::ROOT_AXIS;
 use layout::ROOT_SIGN;
@@ -42,7 +42,7 @@ fn no_root(numbers: &mut [u32], u: usize, root: usize)
     requires { ⌜ (24 * u ≤ length (now numbers)) × (root < u) ⌝ }
     ensures { λ _. ⌜ NoRoot (now (numbers .entry)) u root (now (numbers .exit)) ⌝ }
 {
-    store::write(numbers, u, ROOT_AXIS, root, NONE);
+    store::write(numbers, u, ROOT_AXIS, root, NO_AXIS);
     store::write(numbers, u, ROOT_SIGN, root, 0);
 }
 
@@ -70,7 +70,7 @@ fn link_row(rows: &[u32], numbers: &mut [u32], u: usize, root: usize, r: usize)
 
 // Links the operations, the last one first, so that each node's list rises.
 fn link_operations(operations: &[u32], numbers: &mut [u32], shape: Shape)
-    requires { ⌜ Some (λ (p : Program). OperationsPre p shape (now operations) (now numbers)) ⌝ }
+    requires { ⌜ SomeProgram (λ (p : Program). OperationsPre p shape (now operations) (now numbers)) ⌝ }
     ensures { λ _. ⌜ OperationsLinked shape (now (operations .entry)) (now (numbers .entry)) (now (numbers .exit)) ⌝ }
 {
     let mut i = shape.operations;
@@ -82,7 +82,7 @@ fn link_operations(operations: &[u32], numbers: &mut [u32], shape: Shape)
 
 // Links the frame rows that are roots, the last one first.
 fn link_rows(rows: &[u32], numbers: &mut [u32], shape: Shape)
-    requires { ⌜ Some (λ (p : Program). RowsPre p shape (now rows) (now numbers)) ⌝ }
+    requires { ⌜ SomeProgram (λ (p : Program). RowsPre p shape (now rows) (now numbers)) ⌝ }
     ensures { λ _. ⌜ RowsLinked shape (now (rows .entry)) (now (numbers .entry)) (now (numbers .exit)) ⌝ }
 {
     let mut r = 2 * shape.qubits;
@@ -94,7 +94,7 @@ fn link_rows(rows: &[u32], numbers: &mut [u32], shape: Shape)
 
 // Each node's roots in root order; one use of its node for each root.
 fn link_roots(operations: &[u32], rows: &[u32], numbers: &mut [u32], shape: Shape)
-    requires { ⌜ Some (λ (p : Program). LinkPre p shape (now operations) (now rows) (now numbers)) ⌝ }
+    requires { ⌜ SomeProgram (λ (p : Program). LinkPre p shape (now operations) (now rows) (now numbers)) ⌝ }
     ensures { λ _. ⌜ RootsLinked shape (now (operations .entry)) (now (rows .entry)) (now (numbers .entry)) (now (numbers .exit)) ⌝ }
 {
     store::clear_row(numbers, shape.u, FIRST_ROOT, shape.nodes);
@@ -131,13 +131,12 @@ fn count_uses(nodes: &[u32], numbers: &mut [u32], u: usize, count: usize)
     }
 }
 
-// Everything that packing needs before its first node.
+// What packing needs before its first node, once row RELEVANT tells the relevant nodes.
 pub fn prepare(nodes: &[u32], operations: &[u32], rows: &[u32], numbers: &mut [u32], shape: Shape)
     requires { ⌜ PreparePre shape (now nodes) (now operations) (now rows) (now numbers) ⌝ }
     ensures { λ _. ⌜ Prepared shape (now (nodes .entry)) (now (operations .entry)) (now (rows .entry)) (now (numbers .entry))
         (now (numbers .exit)) ⌝ }
 {
-    mentions::relevance(nodes, operations, numbers, shape);
     link_roots(operations, rows, numbers, shape);
     count_uses(nodes, numbers, shape.u, shape.nodes);
 }

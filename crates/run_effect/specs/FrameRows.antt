@@ -94,7 +94,9 @@ module _ {W : Type 0} (word : List ℕ → W) (p : Program) where
           → map (packedRow word xs) fs ≡ map (sourceRow word p) (if b then r ∷ keep (isRoot p) rest else keep (isRoot p) rest)
           → workRow word p xs b r fs ∷ workRowsFrom word p xs rest (axesLeft b fs) ≡ sourceRow word p r ∷ map (sourceRow word p) rest
       go later false fs e = ap (λ (l : List Row). sourceRow word p r ∷ l) (later fs e)
-      go later true [] e = let z : _≡_ {A = ℕ} 0 (suc (length (map (sourceRow word p) (keep (isRoot p) rest)))) = ap length e in absurd (omega arith)
+      go later true [] e =
+          let z : _≡_ {A = ℕ} 0 (suc (length (map (sourceRow word p) (keep (isRoot p) rest)))) = ap length e in
+          absurd (omega arith)
       go later true (f ∷ fs) e = ap₂ (λ (x : Row) (l : List Row). x ∷ l) (ap (head (packedRow word xs f)) e) (later fs (ap tail e))
 
 -- ---- a row that is no root

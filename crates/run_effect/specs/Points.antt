@@ -6,7 +6,6 @@ use Prim.Native.Nat.{ℕ, _+_}
 use native.Mathlib.Omega.{arith}
 use lib.ListN.{length}
 use Rattle.pauli.specs.Word.{width}
-use Rattle.pauli.specs.Word.{identity as identityWord}
 use Rattle.model.specs.Program.{Program}
 use Rattle.model.specs.Rules.{Rules}
 use Rattle.model.specs.Roots.{rootRows}
@@ -96,7 +95,8 @@ module _ (p : Program) (fine : Fine p) (hermitian : packed p .refused ≡ false)
 
     stream-rows : pointRows (streamPass l r merging v) ≡ map (carryRow H F) (pointRows v)
     stream-rows =
-        rows-moved (packedWord l) p (carryRow H F) (v .store .axes) (streamPass l r merging v .store .axes) (p .rows) (v .rows) (streamPass l r merging v .rows)
+        rows-moved (packedWord l) p (carryRow H F) (v .store .axes) (streamPass l r merging v .store .axes) (p .rows) (v .rows)
+        (streamPass l r merging v .rows)
         (λ f i e. root-less-row p fine hermitian r reached merging F
         (absorbedBy-holds l (p .operations) r merging v (point-well p fine hermitian r reached)) f i e)
         (point-rows-length p r reached ∙ unfold rootRows in refl)
@@ -117,7 +117,8 @@ module _ (p : Program) (fine : Fine p) (hermitian : packed p .refused ≡ false)
           (same-sim H (pointOps v) (pointOps (streamPass l r merging v)) F (pointRows v)
           (streamPass-sim l (p .operations) r merging v (point-well p fine hermitian r reached))));
       kept = λ e.
-          let none : v .absorbed + passEnd l (p .operations) r merging v (point-well p fine hermitian r reached) .absorbed ≡ 0 = unfold streamPass in e in
+          let none : v .absorbed + passEnd l (p .operations) r merging v (point-well p fine hermitian r reached) .absorbed ≡ 0 =
+          unfold streamPass in e in
           stream-rows
           ∙ still (pointRows v) (absorbedBy-none l (p .operations) r merging v (point-well p fine hermitian r reached) (omega arith))
           ∙ h .kept (omega arith);
@@ -126,7 +127,8 @@ module _ (p : Program) (fine : Fine p) (hermitian : packed p .refused ≡ false)
   -- ---- a pass that rewrites segments: the store and the rows stay
 
   rewritten-keeps : (v u : Work) → u .store ≡ v .store → u .rows ≡ v .rows → u .absorbed ≡ v .absorbed
-      → Effect._≈_ H (itemOps (axisWord (packedWord l) (v .store .axes)) (barrierOp (packedWord l) (p .operations) (v .store .axes)) (u .items)) (pointOps v)
+      → Effect._≈_ H (itemOps (axisWord (packedWord l) (v .store .axes)) (barrierOp (packedWord l) (p .operations) (v .store .axes)) (u .items))
+      (pointOps v)
       → Keeps v → Keeps u
   rewritten-keeps v u e f g ops h = record {
     effect =
@@ -140,7 +142,8 @@ module _ (p : Program) (fine : Fine p) (hermitian : packed p .refused ≡ false)
       same-rows : pointRows u ≡ pointRows v
       same-rows = rw (e, f) refl
 
-      same-items : pointOps u ≡ itemOps (axisWord (packedWord l) (v .store .axes)) (barrierOp (packedWord l) (p .operations) (v .store .axes)) (u .items)
+      same-items : pointOps u
+          ≡ itemOps (axisWord (packedWord l) (v .store .axes)) (barrierOp (packedWord l) (p .operations) (v .store .axes)) (u .items)
       same-items = rw e refl
 
   module _ (v : Work) (reached : Reached l r (startOf p) v) where
@@ -167,14 +170,16 @@ module _ (p : Program) (fine : Fine p) (hermitian : packed p .refused ≡ false)
         (unfold exchangePass in (by-if (λ (x : Work). x .absorbed ≡ v .absorbed) _ _ _ refl refl))
         (subst (λ (word : ℕ → W). Effect._≈_ H (itemOps word (barrierOp (packedWord l) (p .operations) axes) (exchangePass l r v .items))
         (itemOps word (barrierOp (packedWord l) (p .operations) axes) (v .items))) (storedAxes-word l axes (well .stored))
-        (exchangePass-effect H l r v (storedAxes l axes (well .stored)) (sound (v .items) (well .items)) (barrierOp (packedWord l) (p .operations) axes))) h
+        (exchangePass-effect H l r v (storedAxes l axes (well .stored)) (sound (v .items) (well .items))
+        (barrierOp (packedWord l) (p .operations) axes))) h
 
     layering-keeps : Keeps v → Keeps (layeringPass l v)
     layering-keeps h =
         rewritten-keeps v (layeringPass l v) (unfold layeringPass in refl) (unfold layeringPass in refl) (unfold layeringPass in refl)
         (subst (λ (word : ℕ → W). Effect._≈_ H (itemOps word (barrierOp (packedWord l) (p .operations) axes) (layeringPass l v .items))
         (itemOps word (barrierOp (packedWord l) (p .operations) axes) (v .items))) (storedAxes-word l axes (well .stored))
-        (layeringPass-effect H l (barrierOp (packedWord l) (p .operations) axes) v (storedAxes l axes (well .stored)) (inside (v .items) (well .items)))) h
+        (layeringPass-effect H l (barrierOp (packedWord l) (p .operations) axes) v (storedAxes l axes (well .stored))
+        (inside (v .items) (well .items)))) h
 
   -- ---- the theorem: any passes, in any order
 

@@ -38,7 +38,8 @@ Effects p = complexSums (PackedWords.packed (width (p .qubits)))
 abbrev pub sourceEffect : (p : Program) → (ℕ → Bool) → List ℕ → Effects p .C
 sourceEffect p o ns =
     let l = width (p .qubits) in
-    effectFrom (PackedWords.packed l) o (sourceOps (packedWord l) p) (picked (PackedWords.packed l) ns (map (sourceRow (packedWord l) p) (p .rows)))
+    effectFrom (PackedWords.packed l) o (sourceOps (packedWord l) p)
+    (picked (PackedWords.packed l) ns (map (sourceRow (packedWord l) p) (p .rows)))
 
 -- that of a result: its axis words, its operations' and its rows' records; a kept row is the source's
 abbrev pub resultEffect : (p : Program) → List (List ℕ) → List (List ℕ) → List (List ℕ) → (ℕ → Bool) → List ℕ → Effects p .C
@@ -87,6 +88,7 @@ module _ (p : Program) (fine : Fine p) (hermitian : packed p .refused ≡ false)
       result = unfold resultOps in (length-map (operationResults p end) (resultOp (packedWord l) (end .store .axes)))
 
       same : SameEffect (PackedWords.packed l) (sourceOps (packedWord l) p) (map (sourceRow (packedWord l) p) (p .rows))
-          (resultOps (packedWord l) (end .store .axes) (operationResults p end)) (resultRows (packedWord l) p (end .store .axes) (rowResults p end))
+          (resultOps (packedWord l) (end .store .axes) (operationResults p end))
+          (resultRows (packedWord l) p (end .store .axes) (rowResults p end))
       same =
           rw (end-ops p fine hermitian r (packedWord l) rounds, end-rows p fine hermitian r (packedWord l) rounds ∙ end-frame) (keeps .effect)

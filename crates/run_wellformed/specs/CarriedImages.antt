@@ -96,7 +96,8 @@ module _ (l : ℕ) where
   touch-letter s t q {c} h =
       by-if (λ (u : Touched). letterImage l (u .held) q c ≡ letterImage l (s .held) q c) _ _ _ refl (touched-letter (s .held) t q h)
 
-  touchAll-letter : (s : Touched) (ts : List ℕ) (q : ℕ) {c : ℕ} → Proper c → letterImage l (touchAll l s ts .held) q c ≡ letterImage l (s .held) q c
+  touchAll-letter : (s : Touched) (ts : List ℕ) (q : ℕ) {c : ℕ} → Proper c
+      → letterImage l (touchAll l s ts .held) q c ≡ letterImage l (s .held) q c
   unfolding touchAll
   touchAll-letter s [] q h = refl
   touchAll-letter s (t ∷ ts) q h = touchAll-letter (touch l s t) ts q h ∙ touch-letter s t q h

@@ -62,7 +62,8 @@ zeros-length s = length-replicate (length s) 0
 
 -- ---- axis words
 
-words-length : (l : ℕ) (axes : List (List ℕ)) → ((a : ℕ) → a < length axes → IsWord l (wordOf axes a)) → sumOf length axes ≡ length axes * (2 * l)
+words-length : (l : ℕ) (axes : List (List ℕ)) → ((a : ℕ) → a < length axes → IsWord l (wordOf axes a))
+    → sumOf length axes ≡ length axes * (2 * l)
 unfolding sumOf
 words-length l [] h = sym (zero-mul (2 * l))
 words-length l (w ∷ axes) h =
@@ -158,7 +159,8 @@ long-enough o j s c =
     let d = neither (programShort j) _ (not-refused _ SliceShort (checkProgram j) refl (b .1) .0) .1 in
     let e = neither (ltb (length (s .words)) (limitOf o + 16 * l) || ltb (length (s .numbers)) (numbersAsked l (j .counts) (limitOf o))
     || ltb (length (s .operations)) (6 * j .counts .operations)) (ltb (length (s .rows)) (8 * j .counts .qubits)) d in
-    let f = neither (ltb (length (s .words)) (limitOf o + 16 * l) || ltb (length (s .numbers)) (numbersAsked l (j .counts) (limitOf o))) _ (e .0) in
+    let f = neither (ltb (length (s .words)) (limitOf o + 16 * l) || ltb (length (s .numbers)) (numbersAsked l (j .counts) (limitOf o))) _
+    (e .0) in
     let g = neither (ltb (length (s .words)) (limitOf o + 16 * l)) _ (f .0) in
     record {
       words = omega (arith, ltb-false (length (s .words)) (limitOf o + 16 * l) (g .0));

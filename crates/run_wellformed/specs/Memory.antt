@@ -10,10 +10,12 @@ use Rattle.model.specs.Program.{Node, identity, letter, product, PauliRef, Prog
 use Rattle.model.specs.Words.{Value, wordOf, Store, tested, intern, support}
 use Rattle.model.specs.Value.{valueAt}
 use Rattle.model.specs.Roots.{roots}
-use Rattle.model.specs.Packing.{rootsAt, Pack, useNode, useChildren, takeSlot, packRoot, packRoots, packNode, packFrom, emptyPack, valuesOf, packed}
+use Rattle.model.specs.Packing.{rootsAt, Pack, useNode, useChildren, takeSlot, packRoot, packRoots, packNode, packFrom, emptyPack, valuesOf}
+use Rattle.model.specs.Packing.{packed}
 use Rattle.model.specs.Packing.{SignedAxis}
 use Rattle.model.specs.Clifford.{Images, absorbImages, imageWords, ownImages, Touched, touch, touchAll, absorbWord}
-use Rattle.model.specs.Stream.{Pass, withLast, countMerge, setAngle, putOut, leaveZero, carryAxis, absorb, putOutRotation, carryRowsFrom, carryRows}
+use Rattle.model.specs.Stream.{Pass, withLast, countMerge, setAngle, putOut, leaveZero, carryAxis, absorb, putOutRotation, carryRowsFrom}
+use Rattle.model.specs.Stream.{carryRows}
 use Rattle.model.specs.Stream.{begin}
 use Rattle.theory.specs.Cases.{by-if}
 use Rattle.run_wellformed.specs.StreamSteps.{KeptBySteps, carryRowsFrom-by, carryRows-by}
@@ -189,7 +191,8 @@ module _ (l limit : ℕ) (positive : 0 < l) where
   slots-within p h b = omega (arith, slots-and-axes-within p h b)
 
   -- an axis is 2 × l words, a held qubit three images of 2 × l words each
-  pub images-and-axes-within : (p : Pass) → PassFits l p → p .store .peak ≤ limit → 3 * length (p .held) + length (p .store .axes) ≤ limit / (2 * l)
+  pub images-and-axes-within : (p : Pass) → PassFits l p → p .store .peak ≤ limit
+      → 3 * length (p .held) + length (p .store .axes) ≤ limit / (2 * l)
   unfolding imageWords
   images-and-axes-within p h b =
       let e = add-mul (3 * length (p .held)) (length (p .store .axes)) (2 * l) in

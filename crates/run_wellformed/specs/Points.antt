@@ -22,7 +22,8 @@ use Rattle.model.specs.Stream.{Pass, withLast, countMerge, setAngle, putOut, le
 use Rattle.model.specs.Stream.{carryRows, begin}
 use Rattle.model.specs.Exchange.{swaps}
 use Rattle.model.specs.Layering.{layerSegment}
-use Rattle.model.specs.Rounds.{Work, streamPass, exchangePass, layeringPass, mergeRound, RoundBefore, noRound, roundsFrom, closingStream, mergeRounds}
+use Rattle.model.specs.Rounds.{Work, streamPass, exchangePass, layeringPass, mergeRound, RoundBefore, noRound, roundsFrom, closingStream}
+use Rattle.model.specs.Rounds.{mergeRounds}
 use Rattle.model.specs.Rounds.{litinskiFrom}
 use Rattle.model.specs.Rounds.{litinskiRounds, passes}
 use Rattle.model.specs.Run.{itemOf, itemsFrom, startOf}
@@ -36,7 +37,8 @@ use Rattle.run_wellformed.specs.CliffordAngles.{SmallItem, Turns, TurnsI
 use Rattle.run_wellformed.specs.StreamSteps.{KeptBySteps, streamItem-by, afterItems-by, stream-by, small-kept, Absorbed, unmoved}
 use Rattle.run_wellformed.specs.StreamSteps.{absorbed-kept}
 use Rattle.run_wellformed.specs.Memory.{StoreFits, packed-store, PassFits, fits-kept, begin-fits, carryRows-fits, pass-store}
-use Rattle.run_wellformed.specs.Segments.{swaps-by, layerSegment-by, turns-merging, axes-merging, rewriteSegments-every, rewriteSegments-stops}
+use Rattle.run_wellformed.specs.Segments.{swaps-by, layerSegment-by, turns-merging, axes-merging, rewriteSegments-every}
+use Rattle.run_wellformed.specs.Segments.{rewriteSegments-stops}
 use Rattle.run_wellformed.specs.SegmentLengths.{keep-length, swaps-length, layerSegment-length, rewriteSegments-length}
 
 -- ---- a stream puts out at most as many items as it reads

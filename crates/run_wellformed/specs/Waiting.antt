@@ -16,8 +16,10 @@ use Rattle.model.specs.Rules.{Absorption, lazy, isAtOnce, Rules}
 use Rattle.model.specs.Words.{Value, wordOf, Store}
 use Rattle.model.specs.Clifford.{absorbWord, wordImage}
 use Rattle.model.specs.Items.{Rot, rot, Item, rotation, barrier, withSign, isClifford}
-use Rattle.model.specs.Stream.{Place, nowhere, at, Pass, withLast, countMerge, setAngle, putOut, setLast, clearedLast, leaveZero, canReach, angleAt}
-use Rattle.model.specs.Stream.{axisImage, imageId, carryAxis, absorb, absorbWaitingAt, absorbWaiting, absorbAllWaiting, absorbBlocking, carryRotation}
+use Rattle.model.specs.Stream.{Place, nowhere, at, Pass, withLast, countMerge, setAngle, putOut, setLast, clearedLast, leaveZero, canReach}
+use Rattle.model.specs.Stream.{angleAt}
+use Rattle.model.specs.Stream.{axisImage, imageId, carryAxis, absorb, absorbWaitingAt, absorbWaiting, absorbAllWaiting, absorbBlocking}
+use Rattle.model.specs.Stream.{carryRotation}
 use Rattle.model.specs.Stream.{mergeAt}
 use Rattle.model.specs.Stream.{putOutRotation, mergeOrPutOut, takeRotation, streamItem, stream, begin}
 use Rattle.theory.specs.Cases.{by-if, on-if, and-left, and-right}

@@ -7,7 +7,8 @@ use lib.ListN.{replicate}
 use Rattle.model.specs.declared.Strategy.the-variants.{Merge}
 use Rattle.model.specs.declared.Options.{Options}
 use Rattle.model.specs.declared.Answer.{Answer}
-use Rattle.model.specs.declared.Answer.the-variants.{Accepted, CountOutside, OptionOutside, SliceShort, BadNode, BadQubit, BadReference, BadOperation}
+use Rattle.model.specs.declared.Answer.the-variants.{Accepted, CountOutside, OptionOutside, SliceShort, BadNode, BadQubit, BadReference}
+use Rattle.model.specs.declared.Answer.the-variants.{BadOperation}
 use Rattle.model.specs.declared.Answer.the-variants.{BadOutcome, NonHermitianAxis, ExpansionLimit}
 use Rattle.model.specs.Interface.{defaultsAt, noCounters}
 use Rattle.model.specs.Program.{Job}
@@ -173,7 +174,8 @@ pub record Left : Type 0 where
     lent = record { words = replicate 29 0; numbers = replicate 361 0; operations = replicate 19 7; rows = replicate 9 7 };
   }
   -- 8: nothing is written
-  pub eight : rewriting options (job1 nodes (conditional 1 0 1 0 ∷ [])) slices ≡ record { answer = BadOutcome; counters = noCounters; lent = slices }
+  pub eight : rewriting options (job1 nodes (conditional 1 0 1 0 ∷ [])) slices
+      ≡ record { answer = BadOutcome; counters = noCounters; lent = slices }
 
 pub left-as-stated : Left
 unfolding everything

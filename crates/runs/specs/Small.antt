@@ -143,7 +143,8 @@ smallest-exchange : shown (rules 1048576 2 16 atOnce true Merge false) 8 (progra
     ≡ shows 28
     (rotated 1 1 ∷ rotated 3 1 ∷ rotated 5 1 ∷ [])
     (given+ 0 0 0 ∷ given+ 0 1 6 ∷ given+ 1 0 2 ∷ given+ 1 1 7 ∷ [])
-    ((1 ∷ 0 ∷ []) ∷ (0 ∷ 1 ∷ []) ∷ (2 ∷ 0 ∷ []) ∷ (0 ∷ 2 ∷ []) ∷ (3 ∷ 0 ∷ []) ∷ (3 ∷ 3 ∷ []) ∷ (3 ∷ 1 ∷ []) ∷ (3 ∷ 2 ∷ []) ∷ [])
+    ((1 ∷ 0 ∷ []) ∷ (0 ∷ 1 ∷ []) ∷ (2 ∷ 0 ∷ []) ∷ (0 ∷ 2 ∷ []) ∷ (3 ∷ 0 ∷ []) ∷ (3 ∷ 3 ∷ []) ∷ (3 ∷ 1 ∷ [])
+    ∷ (3 ∷ 2 ∷ []) ∷ [])
     (5 ∷ 3 ∷ 0 ∷ 1 ∷ 1 ∷ 5 ∷ 3 ∷ 0 ∷ 0 ∷ 8 ∷ 4 ∷ [])
 unfolding everything
 smallest-exchange = refl

@@ -120,7 +120,8 @@ pub record Starred : Type 0 where
   pub bucket-64 : signature (width 65) (single (width 65) 64 3) ≡ 2 ^ 32
   -- "The listing; limit 11 answers 10"
   pub listing-12 : listing (bytes "       1       3       3      12\n" ++ listed) ≡ result
-  pub listing-11 : listing (bytes "       1       3       3      11\n" ++ listed) ≡ bytes "      10       0       0       0       0       0       0       0\n"
+  pub listing-11 : listing (bytes "       1       3       3      11\n" ++ listed)
+      ≡ bytes "      10       0       0       0       0       0       0       0\n"
   -- "Z0, Z1, Z0, angles 1: lookback 1 leaves T-count 1, lookback 0 leaves 3"
   pub reach-1 : tAfter (shown (rustRules 1) 8 (two (three 2 4 2))) ≡ some 1
   pub reach-0 : tAfter (shown (rustRules 0) 8 (two (three 2 4 2))) ≡ some 3
@@ -129,7 +130,8 @@ pub record Starred : Type 0 where
   -- "Root X with phase 1 answers 9; product (X, Z) with phase 1 is Y"
   pub odd-phase : answerOf 1048576 (run (rustRules 1048576) 8 (one (rotate 1 1 1 ∷ []))) ≡ NonHermitianAxis
   pub product-y : shown (rustRules 1048576) 8 (one (rotate 3 1 1 ∷ []))
-      ≡ shows 10 (rotated 2 1 ∷ []) (kept 0 0 ∷ kept 0 1 ∷ []) (X ∷ Z ∷ Y ∷ []) (1 ∷ 1 ∷ 0 ∷ 0 ∷ 0 ∷ 1 ∷ 1 ∷ 0 ∷ 0 ∷ 1 ∷ 1 ∷ [])
+      ≡ shows 10 (rotated 2 1 ∷ []) (kept 0 0 ∷ kept 0 1 ∷ []) (X ∷ Z ∷ Y ∷ [])
+      (1 ∷ 1 ∷ 0 ∷ 0 ∷ 0 ∷ 1 ∷ 1 ∷ 0 ∷ 0 ∷ 1 ∷ 1 ∷ [])
   -- "No operations: nothing, all rows kept"
   pub nothing : shown (rustRules 1048576) 8 (one [])
       ≡ shows 0 [] (kept 0 0 ∷ kept 0 1 ∷ []) [] (0 ∷ 0 ∷ 0 ∷ 0 ∷ 0 ∷ 0 ∷ 0 ∷ 0 ∷ 0 ∷ 0 ∷ 0 ∷ [])

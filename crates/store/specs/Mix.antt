@@ -6,7 +6,8 @@ use native.Mathlib.Omega.{arith}
 use native.Mathlib.Nat.{le-of-suc-le-suc, not-suc-le-zero}
 use native.Mathlib.Numerals.{add-one}
 use mathlib.Core.List.{List, [], _∷_, _++_, append-nil}
-use lib.ListN.{length, getD, set, take, drop, replicate, length-take, length-append, length-drop, drop-of-length-le, length-replicate, getD-replicate}
+use lib.ListN.{length, getD, set, take, drop, replicate, length-take, length-append, length-drop, drop-of-length-le}
+use lib.ListN.{length-replicate, getD-replicate}
 use lib.Seq.{take-all}
 
 unfoldable pub mix : List ℕ → List ℕ → ℕ → List ℕ

@@ -36,7 +36,8 @@ module _ (H : Setting) where
       → turned H t (signedAngle (signOf s) k) ≡ signedAngle (signOf ((count t + s) % 4)) k
   turned-signed t h s i k = go t h (sign-cases s i)
     where
-      go : (t : Quarter) → odd t ≡ false → (s ≡ 0) ⊎ (s ≡ 2) → turned H t (signedAngle (signOf s) k) ≡ signedAngle (signOf ((count t + s) % 4)) k
+      go : (t : Quarter) → odd t ≡ false → (s ≡ 0) ⊎ (s ≡ 2)
+          → turned H t (signedAngle (signOf s) k) ≡ signedAngle (signOf ((count t + s) % 4)) k
       go q0 h (inl e) = rw e refl
       go q0 h (inr e) = rw e refl
       go q1 h x = absurd (true≢false h)

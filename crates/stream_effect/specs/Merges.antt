@@ -41,7 +41,8 @@ module _ (l : ℕ) (operations : List Operation) where
 
   -- ---- a merge at the place that `last` names
 
-  module _ (X : List (Op W)) (p : Pass) (j a : ℕ) (w : Well p) (split : Split (p .out) a j) (passes : Every (Passes l (p .store .axes) a) (split .back)) where
+  module _ (X : List (Op W)) (p : Pass) (j a : ℕ) (w : Well p) (split : Split (p .out) a j)
+      (passes : Every (Passes l (p .store .axes) a) (split .back)) where
     abbrev axes : List (List ℕ)
     axes = p .store .axes
 
@@ -81,7 +82,8 @@ module _ (l : ℕ) (operations : List Operation) where
         (unfold leaveZero setAngle withLast in refl)
         (follows-absorb l operations X (opsOf l operations axes (placed 0)) p a k (w .stored) (inside .0) (clifford-angle k b c) h))
       where
-        out : opsOf l operations (leaveZero j a (absorb l p a k) .store .axes) (leaveZero j a (absorb l p a k) .out) ≡ opsOf l operations axes (placed 0)
+        out : opsOf l operations (leaveZero j a (absorb l p a k) .store .axes) (leaveZero j a (absorb l p a k) .out)
+            ≡ opsOf l operations axes (placed 0)
         out =
             unfold leaveZero setAngle withLast in
             (ap (λ (x : List (List ℕ)). opsOf l operations x (set (absorb l p a k .out) j (rotation (rot a 0)))) (absorb-axes l p a k)
@@ -94,8 +96,10 @@ module _ (l : ℕ) (operations : List Operation) where
         subst (λ (is : List Item). Follows l operations X (opsOf l operations axes is) (leaveZero j a p)) (sym out)
         (follows-same l operations X (opsOf l operations axes (placed 0)) p (leaveZero j a p) (unfold leaveZero setAngle withLast in refl)
         (unfold leaveZero setAngle withLast in refl)
-        (follows-replaced l operations X (opsOf l operations axes (placed 0) ++ (turnAt l operations axes a 0 ∷ [])) (opsOf l operations axes (placed 0)) p
-        (zero-end (packed l) (wordAt l operations axes) (barrierAt l operations axes) (opsOf l operations axes (placed 0)) (wordAt l operations axes a))
+        (follows-replaced l operations X (opsOf l operations axes (placed 0) ++ (turnAt l operations axes a 0 ∷ []))
+        (opsOf l operations axes (placed 0)) p
+        (zero-end (packed l) (wordAt l operations axes) (barrierAt l operations axes) (opsOf l operations axes (placed 0))
+        (wordAt l operations axes a))
         (subst Merged e h)))
       where
         out : leaveZero j a p .out ≡ placed 0
@@ -131,7 +135,8 @@ module _ (l : ℕ) (operations : List Operation) where
   counted-follows : (X : List (Op W)) (p : Pass) (a k : ℕ) → Pending l operations X p a k → Pending l operations X (countMerge p) a k
   unfolding countMerge
   counted-follows X p a k h =
-      follows-same l operations X (opsOf l operations (p .store .axes) (p .out) ++ (turnAt l operations (p .store .axes) a k ∷ [])) p (countMerge p) refl refl h
+      follows-same l operations X (opsOf l operations (p .store .axes) (p .out) ++ (turnAt l operations (p .store .axes) a k ∷ [])) p
+      (countMerge p) refl refl h
 
   merge-follows : (X : List (Op W)) (r : Rules) (p : Pass) (j a k : ℕ) → Well p → Sound p → p .last a ≡ at j
       → canReach l (r .lookback) (p .store .axes) (p .out) j a ≡ true → Pending l operations X p a k
@@ -172,8 +177,10 @@ module _ (l : ℕ) (operations : List Operation) where
     where
       absorbed : isEven k ≡ true → S X (absorb l p a k)
       absorbed e =
-          subst (λ (x : List (List ℕ)). Follows l operations X (opsOf l operations x (absorb l p a k .out)) (absorb l p a k)) (sym (absorb-axes l p a k))
-          (unfold absorb in (follows-absorb l operations X (opsOf l operations (p .store .axes) (p .out)) p a k (w .stored) b (even-angle k z n e) h))
+          subst (λ (x : List (List ℕ)). Follows l operations X (opsOf l operations x (absorb l p a k .out)) (absorb l p a k))
+          (sym (absorb-axes l p a k))
+          (unfold absorb in
+          (follows-absorb l operations X (opsOf l operations (p .store .axes) (p .out)) p a k (w .stored) b (even-angle k z n e) h))
 
       nowhere-at : (j : ℕ) → nowhere ≡ at j → p .last a ≡ at j
       nowhere-at j e = let z : _≡_ {A = ℕ} 0 1 = cc in absurd (omega arith)

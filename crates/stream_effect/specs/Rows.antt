@@ -98,7 +98,8 @@ module _ (l : ℕ) (operations : List Operation) where
 
   pub carryRows-grows : (p : Pass) (rows : List SignedAxis) → Grows (p .store .axes) (carryRows l p rows .pass .store .axes)
   unfolding carryRows
-  carryRows-grows p rows = by-if (λ (x : Rowed). Grows (p .store .axes) (x .pass .store .axes)) _ _ _ (grows-refl _) (carryRowsFrom-grows p [] rows)
+  carryRows-grows p rows =
+      by-if (λ (x : Rowed). Grows (p .store .axes) (x .pass .store .axes)) _ _ _ (grows-refl _) (carryRowsFrom-grows p [] rows)
 
   module _ (F : Cliff (packed l)) where
     abbrev images : List (Quarter × W) → List (Quarter × W)

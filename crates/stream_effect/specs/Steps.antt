@@ -136,7 +136,8 @@ module _ (l : ℕ) (operations : List Operation) where
   absorbWaiting-follows X picks p j front (i ∷ is) e h =
       absorbWaiting-follows X picks (absorbWaitingAt l picks p j i) (suc j) (front ++ (zeroed picks i ∷ [])) is
       (omega (arith, length-append front (zeroed picks i ∷ [])))
-      (subst (λ (n : ℕ). From X (absorbWaitingAt l picks p n i) (front ++ (zeroed picks i ∷ [])) is) e (absorbWaitingAt-from X picks p front i is h))
+      (subst (λ (n : ℕ). From X (absorbWaitingAt l picks p n i) (front ++ (zeroed picks i ∷ [])) is) e
+      (absorbWaitingAt-from X picks p front i is h))
 
   -- "all are absorbed at a barrier or the end"
   pub absorbAllWaiting-follows : (X : List (Op W)) (m : Absorption) (p : Pass) → Well p → (m ≡ lazy → Waiting l p) → S X p

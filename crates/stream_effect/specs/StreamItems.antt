@@ -21,13 +21,15 @@ use Rattle.words_wellformed.specs.PassWords.{WellItem, WellPass, items-more, af
 use Rattle.words_wellformed.specs.PassWords.{absorbBlocking-well}
 use Rattle.words_wellformed.specs.PassWords.{carryRotation-well, streamItem-well, begin-well}
 use Rattle.run_wellformed.specs.CliffordAngles.{TurnsItem, withSign-turns}
-use Rattle.run_wellformed.specs.Waiting.{Waiting, absorbWaiting-axes, absorbBlocking-axes, carryRotation-waiting, streamItem-waiting, begin-waiting}
+use Rattle.run_wellformed.specs.Waiting.{Waiting, absorbWaiting-axes, absorbBlocking-axes, carryRotation-waiting, streamItem-waiting}
+use Rattle.run_wellformed.specs.Waiting.{begin-waiting}
 use Rattle.run_wellformed.specs.Waiting.{waiting-sound}
 use Rattle.effect.specs.Effect.{Op}
 use Rattle.effect.specs.Clifford.{carry, Sim, sim-push}
 use Rattle.effect.specs.Packed.{Packed, packed}
 use Rattle.items_effect.specs.Ops.{itemOp}
-use Rattle.stream_effect.specs.Follows.{wordAt, barrierAt, opsOf, turnAt, opsOf-append, opOf-grows, Follows, Streamed, Pending, begin-follows}
+use Rattle.stream_effect.specs.Follows.{wordAt, barrierAt, opsOf, turnAt, opsOf-append, opOf-grows, Follows, Streamed, Pending}
+use Rattle.stream_effect.specs.Follows.{begin-follows}
 use Rattle.stream_effect.specs.Follows.{follows-same, carried-turn, carried-barrier}
 use Rattle.stream_effect.specs.Steps.{carryAxis-follows, absorbAllWaiting-follows, carryRotation-follows}
 use Rattle.stream_effect.specs.Merges.{takeRotation-follows}
@@ -122,7 +124,8 @@ module _ (l : ℕ) (operations : List Operation) where
       (follows-same l operations X (opsOf l operations (p .store .axes) (p .out) ++ (barrierAt l operations (p .store .axes) o a s ∷ [])) p
       (putOut (barrier o a s) (withLast clearedLast p)) (unfold putOut withLast in refl) (unfold putOut withLast in refl) h)
     where
-      out : opsOf l operations (putOut (barrier o a s) (withLast clearedLast p) .store .axes) (putOut (barrier o a s) (withLast clearedLast p) .out)
+      out : opsOf l operations (putOut (barrier o a s) (withLast clearedLast p) .store .axes)
+          (putOut (barrier o a s) (withLast clearedLast p) .out)
           ≡ opsOf l operations (p .store .axes) (p .out) ++ (barrierAt l operations (p .store .axes) o a s ∷ [])
       out = unfold putOut withLast in (opsOf-append l operations (p .store .axes) (p .out) (barrier o a s ∷ []))
 
@@ -186,7 +189,8 @@ module _ (l : ℕ) (operations : List Operation) where
 
     one-follows : (X : List (Op W)) (p : Pass) (i : Item) → WellItem (Unit {0}) (length (p .store .axes)) i → Reads X p
         → S (X ++ (op (p .store .axes) i ∷ [])) (streamItem l r merging p i)
-    one-follows X p (rotation t) h k = rotation-follows r merging X p (k .well) (k .sound) (k .wait) (k .follows) t (h .0) (h .1 tt .0) (h .1 tt .1)
+    one-follows X p (rotation t) h k =
+        rotation-follows r merging X p (k .well) (k .sound) (k .wait) (k .follows) t (h .0) (h .1 tt .0) (h .1 tt .1)
     one-follows X p (barrier o a s) h k = barrier-follows r merging X p (k .well) (k .sound) (k .wait) (k .follows) o a s (h .0) (h .1 tt)
 
     streamItem-reads : (X : List (Op W)) (p : Pass) (i : Item) → WellItem (Unit {0}) (length axes) i → Reads X p

@@ -71,7 +71,8 @@ module _ (l : ℕ) (operations : List Operation) (r : Rules) (merging : Bool) (w
   absorbedBy-none e P = follows .unmoved e P
 
   -- what the pass leaves, then F, has the effect of what it was given
-  pub streamPass-sim : Sim (packed l) (opsOf l operations (w .store .axes) (w .items)) (opsOf l operations (after .store .axes) (after .items)) absorbedBy
+  pub streamPass-sim : Sim (packed l) (opsOf l operations (w .store .axes) (w .items))
+      (opsOf l operations (after .store .axes) (after .items)) absorbedBy
   unfolding absorbedBy streamPass
   streamPass-sim =
       let X = opsOf l operations (w .store .axes) (w .items) in
@@ -95,4 +96,5 @@ module _ (l : ℕ) (operations : List Operation) (r : Rules) (merging : Bool) (w
   streamPass-rows =
       carryRows-images l operations (follows .F) passEnd (w .rows) (follows .holds) (follows .unmoved) ended
       (rows-more (Unit {0}) _ _ (w .rows) (grown .longer) (well .rows))
-      ∙ ap (map (carryRow (packed l) (follows .F))) (rowsOf-grows l operations (w .store .axes) (passEnd .store .axes) grown (w .rows) (well .rows))
+      ∙ ap (map (carryRow (packed l) (follows .F)))
+      (rowsOf-grows l operations (w .store .axes) (passEnd .store .axes) grown (w .rows) (well .rows))

@@ -3,7 +3,8 @@ use mathlib.Core.Path.{_≡_, refl}
 use Rattle.model.specs.Program.{Job, nodeRecords, operationRecords, rowRecords, programOf}
 use Rattle.model.specs.Checking.{checkProgram}
 
--- 01: "Two runs .. are alike if their counts, counted records and options are equal": the jobs' part. What lies behind the counted records may differ
+-- 01: "Two runs .. are alike if their counts, counted records and options are equal": the jobs' part. What lies behind the counted records may
+-- differ
 pub record Alike (j j′ : Job) : Type 0 where
   pub counts : j′ .counts ≡ j .counts
   pub nodes : nodeRecords j′ ≡ nodeRecords j

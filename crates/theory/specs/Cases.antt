@@ -1,6 +1,6 @@
 -- Choices, case by case: `by-if` where both cases hold, `on-if` where the test's value is wanted. Assumes nothing.
-use mathlib.Core.Path.{_≡_, refl, sym}
-use mathlib.Core.Bool.{Bool, true, false, _&&_, _||_, true≢false}
+use mathlib.Core.Path.{_≡_, refl, sym, ap, _∙_}
+use mathlib.Core.Bool.{Bool, true, false, _&&_, _||_, true≢false, or-true}
 use Rattle.model.specs.Lists.{if_then_else_}
 
 -- whatever the test says
@@ -35,6 +35,10 @@ if-false x y e = rw e refl
 pub neither : (x y : Bool) → x || y ≡ false → (x ≡ false) × (y ≡ false)
 neither true y h = absurd (true≢false h)
 neither false y h = (refl, h)
+
+-- the second of two tests holds
+pub or-right : (x y : Bool) → y ≡ true → x || y ≡ true
+or-right x y e = ap (λ (b : Bool). x || b) e ∙ or-true x
 
 -- both of two tests hold
 pub and-left : (x y : Bool) → x && y ≡ true → x ≡ true

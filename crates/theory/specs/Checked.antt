@@ -10,7 +10,8 @@ use borrow.Author.Tests.{ltb-false, leb-false}
 use Rattle.store.specs.Chunk.{chunks, chunks-length}
 use Rattle.model.specs.declared.Options.{Options}
 use Rattle.model.specs.declared.Answer.{Answer}
-use Rattle.model.specs.declared.Answer.the-variants.{Accepted, CountOutside, OptionOutside, SliceShort, BadNode, BadQubit, BadReference, BadOperation}
+use Rattle.model.specs.declared.Answer.the-variants.{Accepted, CountOutside, OptionOutside, SliceShort, BadNode, BadQubit, BadReference}
+use Rattle.model.specs.declared.Answer.the-variants.{BadOperation}
 use Rattle.model.specs.declared.Answer.the-variants.{BadOutcome, NonHermitianAxis, ExpansionLimit, BadText}
 use Rattle.model.specs.Lists.{if_then_else_}
 use Rattle.model.specs.Interface.{accepts}
@@ -18,8 +19,8 @@ use Rattle.model.specs.Program.{fieldOf, Job, nodeRecords, operationRecords, ro
 use Rattle.model.specs.Program.{Operation}
 use Rattle.model.specs.Program.{operationOf, PauliRef, rowOf, Program, programOf}
 use Rattle.model.specs.Results.{noOperation, operationAt}
-use Rattle.model.specs.Checking.{Lent, andThen, badCount, badOption, checkNodeOfKind, checkNode, checkNodes, badOperation, badReference, measured}
-use Rattle.model.specs.Checking.{checkOperation, checkOperations, badRow, checkRow, checkRows, checkProgram, checking}
+use Rattle.model.specs.Checking.{Lent, andThen, badCount, badOption, badProduct, checkNodeOfKind, checkNode, checkNodes, badOperation}
+use Rattle.model.specs.Checking.{badReference, measured, checkOperation, checkOperations, badRow, checkRow, checkRows, checkProgram, checking}
 use Rattle.theory.specs.Cases.{on-if, neither}
 use Rattle.theory.specs.Every.{Every}
 use Rattle.theory.specs.PackedRoots.{ChildrenBefore, Ordered}
@@ -67,7 +68,7 @@ LeafIn q (letter x c) = (x < q) × (c ≤ 3)
 LeafIn q (product a p b r) = Unit {0}
 
 node-checked : (q i k : ℕ) (r : List ℕ) → checkNodeOfKind q i k r ≡ Accepted → ChildrenBefore i (nodeOfKind k r) × LeafIn q (nodeOfKind k r)
-unfolding checkNodeOfKind nodeOfKind
+unfolding checkNodeOfKind badProduct nodeOfKind
 node-checked q i zero r h = (tt, tt)
 node-checked q zero (suc zero) r h = absurd (not-accepted BadNode refl h)
 node-checked q (suc i) (suc zero) r h =

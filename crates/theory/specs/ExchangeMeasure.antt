@@ -10,7 +10,8 @@ use lib.ListN.{length}
 use Rattle.model.specs.Lists.{if_then_else_, sumOf}
 use Rattle.model.specs.Rules.{Rules}
 use Rattle.model.specs.Items.{Rot, rot, Item, rotation, barrier, isNonzero, dropZeroRots, Segment, endSegment, rewriteFrom, rewriteSegments}
-use Rattle.model.specs.Exchange.{mergeBack, mergeLocally, improves, Cut, starts, ends, Triple, withEnds, withStarts, triples, shareAxis, Swap, swapOf}
+use Rattle.model.specs.Exchange.{mergeBack, mergeLocally, improves, Cut, starts, ends, Triple, withEnds, withStarts, triples, shareAxis, Swap}
+use Rattle.model.specs.Exchange.{swapOf}
 use Rattle.model.specs.Exchange.{tryExchange, tryExchanges, tryTriple, runEndFrom, runEnd, Swapping, nextStart, swapStep, swapsFrom, swaps}
 use Rattle.model.specs.Rounds.{Work, exchangePass}
 use Rattle.theory.specs.Cases.{by-if}
@@ -43,7 +44,8 @@ module _ (m : ℕ → ℕ) (law : Measure m) where
   behind-no-more d n none h = tt
   behind-no-more d n (some ds) h = omega (arith, rots-cons m d ds)
 
-  mergeBack-no-more : (l : ℕ) (axes : List (List ℕ)) (done : List Rot) (r : Rot) → Below (sizeOfRots m done + m (r .angle)) (mergeBack l axes done r)
+  mergeBack-no-more : (l : ℕ) (axes : List (List ℕ)) (done : List Rot) (r : Rot)
+      → Below (sizeOfRots m done + m (r .angle)) (mergeBack l axes done r)
   unfolding mergeBack
   mergeBack-no-more l axes [] r = tt
   mergeBack-no-more l axes (d ∷ before) r =
@@ -131,7 +133,8 @@ module _ (m : ℕ → ℕ) (law : Measure m) where
       (withStarts-same (sizeOfRots m a) (sizeOfRots m c) b (starts [] a) (ends [] c) from to)
 
   module _ (l : ℕ) (axes : List (List ℕ)) (eager : Bool) where
-    tryExchange-no-more : (t : Triple) (g h trial : List Rot) → sizeOfRots m trial ≡ sizeOfRots m (t .a) + sizeOfRots m (t .b) + sizeOfRots m (t .c)
+    tryExchange-no-more : (t : Triple) (g h trial : List Rot)
+        → sizeOfRots m trial ≡ sizeOfRots m (t .a) + sizeOfRots m (t .b) + sizeOfRots m (t .c)
         → AtMost (tTriple t) (tryExchange l axes eager t g h trial)
     unfolding tryExchange
     tryExchange-no-more t g h trial e =

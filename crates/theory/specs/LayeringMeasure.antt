@@ -75,7 +75,8 @@ module _ (m : ℕ → ℕ) (law : Measure m) where
         (s .stay) + sizeOfRots m rs
     unfolding moveRotations
     moveRotations-no-more s [] = omega arith
-    moveRotations-no-more s (r ∷ rs) = omega (arith, moveRotation-no-more s r, moveRotations-no-more (moveRotation l axes s r) rs, rots-cons m r rs)
+    moveRotations-no-more s (r ∷ rs) =
+        omega (arith, moveRotation-no-more s r, moveRotations-no-more (moveRotation l axes s r) rs, rots-cons m r rs)
 
     sweepFrom-no-more : (layer : List Rot) (n : ℕ) (b : Bool) (ls : List (List Rot)) → sizeOfLayers
         (sweepFrom l axes layer n b ls .layers) ≤ sizeOfRots m layer + sizeOfLayers ls
@@ -120,7 +121,8 @@ module _ (m : ℕ → ℕ) (law : Measure m) where
     unfolding sizeOfLayers
     flatten-same ls = rots-flatten m ls
 
-    sweepsFrom-no-more : (k : ℕ) (going : Bool) (n : ℕ) (ls : List (List Rot)) → sizeOfRots m (sweepsFrom l axes k going n ls .rots) ≤ sizeOfLayers ls
+    sweepsFrom-no-more : (k : ℕ) (going : Bool) (n : ℕ) (ls : List (List Rot))
+        → sizeOfRots m (sweepsFrom l axes k going n ls .rots) ≤ sizeOfLayers ls
     unfolding sweepsFrom
     sweepsFrom-no-more zero going n ls = omega (arith, flatten-same ls)
     sweepsFrom-no-more (suc k) false n ls = omega (arith, flatten-same ls)

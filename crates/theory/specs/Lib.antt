@@ -23,6 +23,7 @@ pub mod Replies
 pub mod Limit
 pub mod AcceptedRun
 pub mod TCountCalls
+pub mod ByNode
 pub mod PlainValue
 pub mod Hermitian
 pub mod ListingCalls

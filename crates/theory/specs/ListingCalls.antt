@@ -157,7 +157,8 @@ listing-ran t a e h = go (accepts (checksOf t)) refl h
         let n : numberOf a ≡ numberOf (checksOf t) = ap numberOf (sym e ∙ if-false _ (checksOf t) f) in
         absurd (omega (arith, checks-low t))
 
-module _ (text text′ : List ℕ) (t t′ : Read) (reads : read text ≡ some t) (reads′ : read text′ ≡ some t′) (alike : Alike (t .job) (t′ .job)) where
+module _ (text text′ : List ℕ) (t t′ : Read) (reads : read text ≡ some t) (reads′ : read text′ ≡ some t′)
+    (alike : Alike (t .job) (t′ .job)) where
   same-checks : checksOf t′ ≡ checksOf t
   same-checks =
       checks-are t′ (read-limit text′ t′ reads′)
@@ -178,7 +179,8 @@ module _ (text text′ : List ℕ) (t t′ : Read) (reads : read text ≡ some t
       rw (a, b, le-ltb (t .limit) (listedRun t .peak) h, le-ltb (t′ .limit) (listedRun t′ .peak) h′)
       (rw (same-run, same-rules, alike-program (t .job) (t′ .job) alike) refl)
 
-  not-ten : t .limit ≤ t′ .limit → accepts (checksOf t) ≡ true → (listingAnswer (some t) ≡ ExpansionLimit → ⊥) → listing text′ ≡ listing text
+  not-ten : t .limit ≤ t′ .limit → accepts (checksOf t) ≡ true → (listingAnswer (some t) ≡ ExpansionLimit → ⊥)
+      → listing text′ ≡ listing text
   unfolding listing linesOf listingAnswer
   not-ten le a n =
       let h = within (t .limit) (listedRun t) (λ e. n (if-true _ (checksOf t) a ∙ e)) in

@@ -9,7 +9,8 @@ use Rattle.model.specs.declared.Strategy.{Strategy}
 use Rattle.model.specs.declared.Strategy.the-variants.{Merge, Litinski}
 use Rattle.model.specs.Lists.{if_then_else_}
 use Rattle.model.specs.Rules.{Rules}
-use Rattle.model.specs.Rounds.{Work, streamPass, layeringPass, mergeRound, RoundBefore, noRound, roundsFrom, closingStream, mergeRounds, litinskiFrom}
+use Rattle.model.specs.Rounds.{Work, streamPass, layeringPass, mergeRound, RoundBefore, noRound, roundsFrom, closingStream, mergeRounds}
+use Rattle.model.specs.Rounds.{litinskiFrom}
 use Rattle.model.specs.Rounds.{litinskiRounds, passes}
 use Rattle.theory.specs.Cases.{by-if}
 use Rattle.theory.specs.Measure.{Measure, sizeOf}

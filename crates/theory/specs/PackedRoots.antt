@@ -16,7 +16,8 @@ use Rattle.model.specs.Program.{Node, identity, letter, product, Kind, rotate, 
 use Rattle.model.specs.Words.{Value, tested}
 use Rattle.model.specs.Value.{valueAt}
 use Rattle.model.specs.Roots.{rootRows, operationRoot, roots}
-use Rattle.model.specs.Packing.{rootsAt, oneUseMore, oneUseLess, countChildren, countUses, useCounts, Pack, useNode, useChildren, takeSlot, packRoot}
+use Rattle.model.specs.Packing.{rootsAt, oneUseMore, oneUseLess, countChildren, countUses, useCounts, Pack, useNode, useChildren, takeSlot}
+use Rattle.model.specs.Packing.{packRoot}
 use Rattle.model.specs.Packing.{packRoots}
 use Rattle.model.specs.Packing.{packNode, packFrom, emptyPack, valuesOf, packed, signedAxis}
 use Rattle.model.specs.Items.{Item}
@@ -112,7 +113,8 @@ packNode-later : (l : ℕ) (rs : List PauliRef) (vs : List Value) (n : ℕ) (nod
 unfolding packNode
 packNode-later l rs vs n node p h k b =
     by-if (λ (q : Pack). getD (q .uses) k 0 ≡ getD (p .uses) k 0) _ _ _ refl
-    (packRoots-later l n _ (takeSlot l (useChildren node p)) _ k b ∙ takeSlot-later n l (useChildren node p) k b ∙ useChildren-later n node p h k b)
+    (packRoots-later l n _ (takeSlot l (useChildren node p)) _ k b ∙ takeSlot-later n l (useChildren node p) k b
+    ∙ useChildren-later n node p h k b)
 
 -- ---- roots
 
@@ -157,7 +159,8 @@ packRoots-stays l n v p (r ∷ rs) h = go (p .refused) refl (packRoots-stays l n
 
 packRoot-grows : (l n : ℕ) (v : Value) (p : Pack) (r : PauliRef) → Grows (p .store .axes) (packRoot l n v p r .store .axes)
 unfolding packRoot useNode
-packRoot-grows l n v p r = by-if (λ (q : Pack). Grows (p .store .axes) (q .store .axes)) _ _ _ (grows-refl _) (intern-grows l _ (p .store) (v .word))
+packRoot-grows l n v p r =
+    by-if (λ (q : Pack). Grows (p .store .axes) (q .store .axes)) _ _ _ (grows-refl _) (intern-grows l _ (p .store) (v .word))
 
 packRoots-grows : (l n : ℕ) (v : Value) (p : Pack) (rs : List PauliRef) → Grows (p .store .axes) (packRoots l n v p rs .store .axes)
 unfolding packRoots
@@ -217,7 +220,8 @@ packNode-stays l rs vs n node p =
         slot : takeSlot l (useChildren node p) .refused ≡ useChildren node p .refused
         slot = unfold takeSlot in (by-if (λ (q : Pack). q .refused ≡ useChildren node p .refused) _ _ _ refl refl)
 
-packFrom-stays : (l : ℕ) (rs : List PauliRef) (vs : List Value) (n : ℕ) (nodes : List Node) (p : Pack) → packFrom l rs vs n nodes p .refused ≡ false
+packFrom-stays : (l : ℕ) (rs : List PauliRef) (vs : List Value) (n : ℕ) (nodes : List Node) (p : Pack)
+    → packFrom l rs vs n nodes p .refused ≡ false
     → p .refused ≡ false
 unfolding packFrom
 packFrom-stays l rs vs n [] p h = h
@@ -286,12 +290,14 @@ module _ (l : ℕ) (rs : List PauliRef) (vs : List Value) where
 -- ---- the theorem
 
 -- where packing refused none, every root is stored and its total phase is even
-pub packed-rooted : (p : Program) → Ordered 0 (p .nodes) → packed p .refused ≡ false → (r : PauliRef) → In r (roots p) → r .node < length (p .nodes)
+pub packed-rooted : (p : Program) → Ordered 0 (p .nodes) → packed p .refused ≡ false → (r : PauliRef) → In r (roots p)
+    → r .node < length (p .nodes)
     → Rooted (packed p .store .axes) (valueAt (valuesOf p) (r .node)) r
 unfolding packed
 packed-rooted p o h r k b =
     packFrom-rooted (width (p .qubits)) (roots p) (valuesOf p) 0 (p .nodes) (emptyPack (p .nodes) (roots p)) o h r k (omega arith) (omega arith)
-    (unfold emptyPack in (le-trans (in-some r (rootsAt (r .node) (roots p)) (in-rootsAt r (roots p) k)) (counts-le (p .nodes) (roots p) (r .node) b)))
+    (unfold emptyPack in
+    (le-trans (in-some r (rootsAt (r .node) (roots p)) (in-rootsAt r (roots p) k)) (counts-le (p .nodes) (roots p) (r .node) b)))
 
 -- ---- the start's axes are in range
 

@@ -13,8 +13,10 @@ use Rattle.model.specs.Words.{Value, Store, tested, intern}
 use Rattle.model.specs.Packing.{Pack, useNode, useChildren, takeSlot, packRoot, packRoots, packNode, packFrom, packed, SignedAxis}
 use Rattle.model.specs.Clifford.{Touched, touch, touchAll, absorbWord}
 use Rattle.model.specs.Items.{Item, rotation, barrier}
-use Rattle.model.specs.Stream.{Place, nowhere, at, Pass, withLast, countMerge, setAngle, putOut, leaveZero, putOutRotation, Rowed, carryAxis, absorb}
-use Rattle.model.specs.Stream.{absorbWaitingAt, absorbWaiting, absorbAllWaiting, absorbBlocking, carryRotation, mergeAt, mergeOrPutOut, takeRotation}
+use Rattle.model.specs.Stream.{Place, nowhere, at, Pass, withLast, countMerge, setAngle, putOut, leaveZero, putOutRotation, Rowed, carryAxis}
+use Rattle.model.specs.Stream.{absorb}
+use Rattle.model.specs.Stream.{absorbWaitingAt, absorbWaiting, absorbAllWaiting, absorbBlocking, carryRotation, mergeAt, mergeOrPutOut}
+use Rattle.model.specs.Stream.{takeRotation}
 use Rattle.model.specs.Stream.{streamItem, stream, carryRowsFrom, carryRows, begin}
 use Rattle.model.specs.Rounds.{Work, streamPass, exchangePass, layeringPass, mergeRound, roundsFrom, closingStream, mergeRounds, litinskiFrom}
 use Rattle.model.specs.Rounds.{litinskiRounds}

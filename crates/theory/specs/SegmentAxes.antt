@@ -6,7 +6,8 @@ use Prim.Native.Nat.{ℕ, zero, suc, _+_}
 use lib.ListN.{length}
 use Rattle.model.specs.Lists.{if_then_else_}
 use Rattle.model.specs.Items.{Rot, Item, rotation, barrier, isNonzero, stays, dropZeroRots, Segment, endSegment, rewriteFrom, rewriteSegments}
-use Rattle.model.specs.Exchange.{mergeBack, mergeLocally, improves, Cut, starts, ends, Triple, withEnds, withStarts, triples, shareAxis, Swap, swapOf}
+use Rattle.model.specs.Exchange.{mergeBack, mergeLocally, improves, Cut, starts, ends, Triple, withEnds, withStarts, triples, shareAxis, Swap}
+use Rattle.model.specs.Exchange.{swapOf}
 use Rattle.model.specs.Exchange.{tryExchange, tryExchanges, tryTriple, runEndFrom, runEnd, Swapping, nextStart, swapStep, swapsFrom, swaps}
 use Rattle.model.specs.Layering.{mergeInto, Layers, Shift, joinLayer, joinLayers, moveRotation, moveRotations, sweepFrom, sweep, dropZeroLayers}
 use Rattle.model.specs.Layering.{sweepsFrom}
@@ -112,7 +113,8 @@ module _ (P : ℕ → Type 0) where
     tryExchange-has : (t : Triple) (g h trial : List Rot) → TripleHas t → AllHave trial → SwapHas (tryExchange l axes eager t g h trial)
     unfolding tryExchange
     tryExchange-has t g h trial k f =
-        by-if SwapHas _ _ _ (made-has t (improves l axes eager trial (t .a ++ (t .b ++ t .c))) (k .0) (k .4) (improves-has l axes eager trial _ f)) tt
+        by-if SwapHas _ _ _
+        (made-has t (improves l axes eager trial (t .a ++ (t .b ++ t .c))) (k .0) (k .4) (improves-has l axes eager trial _ f)) tt
 
     tryExchanges-has : (t : Triple) → TripleHas t → SwapHas (tryExchanges l axes eager t)
     unfolding tryExchanges
@@ -199,7 +201,8 @@ module _ (P : ℕ → Type 0) where
     joinLayer-has : (s : Layers) (r : Rot) → JoinedHas s → Has r → JoinedHas (joinLayer l axes s r)
     unfolding joinLayer
     joinLayer-has s r h k =
-        by-if JoinedHas _ _ _ (h .0, mergeInto-has (s .layer) r (h .1) k) (every-append AllHave (s .done) (s .layer ∷ []) (h .0) (h .1, tt), (k, tt))
+        by-if JoinedHas _ _ _ (h .0, mergeInto-has (s .layer) r (h .1) k)
+        (every-append AllHave (s .done) (s .layer ∷ []) (h .0) (h .1, tt), (k, tt))
 
     joinLayers-has : (s : Layers) (rs : List Rot) → JoinedHas s → AllHave rs → JoinedHas (joinLayers l axes s rs)
     unfolding joinLayers

@@ -10,7 +10,8 @@ use Rattle.model.specs.Rules.{Rules}
 use Rattle.model.specs.Items.{Rot, Item, rotation, barrier, Segment, endSegment, rewriteFrom, rewriteSegments}
 use Rattle.model.specs.Exchange.{swaps}
 use Rattle.model.specs.Layering.{layerSegment}
-use Rattle.model.specs.Rounds.{Work, streamPass, exchangePass, layeringPass, mergeRound, RoundBefore, noRound, roundsFrom, closingStream, mergeRounds}
+use Rattle.model.specs.Rounds.{Work, streamPass, exchangePass, layeringPass, mergeRound, RoundBefore, noRound, roundsFrom, closingStream}
+use Rattle.model.specs.Rounds.{mergeRounds}
 use Rattle.model.specs.Rounds.{litinskiFrom, litinskiRounds, passes}
 use Rattle.theory.specs.Cases.{by-if}
 use Rattle.theory.specs.StreamState.{barriersOf, barriersOf-append, streamPass-barriers, InRange, streamPass-range}
@@ -27,7 +28,8 @@ module _ (f : List Rot → Segment) where
   endSegment-barriers : (done : List Item) (seg : List Rot) → barriersOf (endSegment f done seg) ≡ barriersOf done
   unfolding endSegment
   endSegment-barriers done seg =
-      barriersOf-append done (map rotation (f seg .rots)) ∙ ap (λ (x : List ℕ). barriersOf done ++ x) (rotations-barriers (f seg .rots)) ∙ append-nil
+      barriersOf-append done (map rotation (f seg .rots)) ∙ ap (λ (x : List ℕ). barriersOf done ++ x) (rotations-barriers (f seg .rots))
+      ∙ append-nil
       (barriersOf done)
 
   rewriteFrom-barriers : (done : List Item) (seg : List Rot) (c : ℕ) (is : List Item) → barriersOf

@@ -9,7 +9,8 @@ use Rattle.model.specs.Rules.{Absorption, off, atOnce, lazy, Rules}
 use Rattle.model.specs.Items.{rot, Item, rotation, barrier, withSign, angleOf, stays, dropZeros}
 use Rattle.model.specs.Stream.{Place, nowhere, at, Pass, withLast, countMerge, setAngle, putOut, clearedLast, leaveZero, putOutRotation, angleAt}
 use Rattle.model.specs.Stream.{axisImage}
-use Rattle.model.specs.Stream.{imageId, carryAxis, absorb, absorbWaitingAt, absorbWaiting, absorbAllWaiting, absorbBlocking, carryRotation, mergeAt}
+use Rattle.model.specs.Stream.{imageId, carryAxis, absorb, absorbWaitingAt, absorbWaiting, absorbAllWaiting, absorbBlocking, carryRotation}
+use Rattle.model.specs.Stream.{mergeAt}
 use Rattle.model.specs.Stream.{mergeOrPutOut, takeRotation, streamItem, stream, begin}
 use Rattle.model.specs.Rounds.{Work, streamPass}
 use Rattle.theory.specs.Cases.{by-if}
@@ -70,7 +71,8 @@ module _ (m : ℕ → ℕ) (law : Measure m) where
 
     absorbBlocking-adds : (p : Pass) (a : ℕ) → Adds 0 p (absorbBlocking l p a)
     unfolding absorbBlocking
-    absorbBlocking-adds p a = adds-chain p (carryAxis l p a) (absorbBlocking l p a) (carryAxis-adds p a) (absorbWaiting-adds _ (carryAxis l p a) 0 _)
+    absorbBlocking-adds p a =
+        adds-chain p (carryAxis l p a) (absorbBlocking l p a) (carryAxis-adds p a) (absorbWaiting-adds _ (carryAxis l p a) 0 _)
 
     carryRotation-adds : (when : Absorption) (p : Pass) (a : ℕ) → Adds 0 p (carryRotation l when p a)
     unfolding carryRotation

@@ -16,7 +16,8 @@ use Rattle.model.specs.Clifford.{Touched, touch, touchAll, absorbWord}
 use Rattle.model.specs.Items.{Rot, rot, Item, rotation, barrier, isNonzero, stays, dropZeros}
 use Rattle.model.specs.Stream.{Place, nowhere, at, Pass, withLast, countMerge, setAngle, putOut, setLast, clearedLast, leaveZero, putOutRotation}
 use Rattle.model.specs.Stream.{Rowed}
-use Rattle.model.specs.Stream.{axisImage, imageId, carryAxis, absorb, absorbWaitingAt, absorbWaiting, absorbAllWaiting, absorbBlocking, carryRotation}
+use Rattle.model.specs.Stream.{axisImage, imageId, carryAxis, absorb, absorbWaitingAt, absorbWaiting, absorbAllWaiting, absorbBlocking}
+use Rattle.model.specs.Stream.{carryRotation}
 use Rattle.model.specs.Stream.{mergeAt}
 use Rattle.model.specs.Stream.{mergeOrPutOut, takeRotation, streamItem, stream, carryRowsFrom, carryRows, begin}
 use Rattle.model.specs.Rounds.{Work, streamPass}
@@ -135,7 +136,8 @@ cleared p q a s g e f = record {
   where
     go : (b j : ℕ) → (if eqb b a then nowhere else p .last b) ≡ at j → p .last b ≡ at j
     go b j =
-        on-if (λ (x : Place). x ≡ at j → p .last b ≡ at j) (eqb b a) nowhere (p .last b) (λ e h. let z : _≡_ {A = ℕ} 0 1 = cc in absurd (omega arith))
+        on-if (λ (x : Place). x ≡ at j → p .last b ≡ at j) (eqb b a) nowhere (p .last b)
+        (λ e h. let z : _≡_ {A = ℕ} 0 1 = cc in absurd (omega arith))
         (λ e h. h)
 
 -- ---- the steps
@@ -299,7 +301,8 @@ after-kept : (more : List ℕ) (p q r : Pass) → Kept p q → Stepped more q r 
 after-kept more p q r k t = record {
   sound = t .sound;
   grow = grows-trans (k .grow) (t .grow);
-  barriers = t .barriers ∙ ap (λ (x : List ℕ). x ++ more) (sym (barriersOf-shapes (q .out)) ∙ ap barriersOf (k .shaped) ∙ barriersOf-shapes (p .out));
+  barriers =
+      t .barriers ∙ ap (λ (x : List ℕ). x ++ more) (sym (barriersOf-shapes (q .out)) ∙ ap barriersOf (k .shaped) ∙ barriersOf-shapes (p .out));
 }
 
 module _ (l : ℕ) where
@@ -463,7 +466,8 @@ module _ (l : ℕ) where
 
   carryRows-grows : (p : Pass) (rows : List SignedAxis) → Grows (p .store .axes) (carryRows l p rows .pass .store .axes)
   unfolding carryRows
-  carryRows-grows p rows = by-if (λ (x : Rowed). Grows (p .store .axes) (x .pass .store .axes)) _ _ _ (grows-refl _) (carryRowsFrom-grows p [] rows)
+  carryRows-grows p rows =
+      by-if (λ (x : Rowed). Grows (p .store .axes) (x .pass .store .axes)) _ _ _ (grows-refl _) (carryRowsFrom-grows p [] rows)
 
 -- the work's axes are in range
 abbrev pub InRange : Work → Type 0

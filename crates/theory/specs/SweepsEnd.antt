@@ -56,7 +56,8 @@ module _ (l : ℕ) (axes : List (List ℕ)) where
         less = λ e f. late (moveRotation l axes s r .moved) refl e f;
       }
         where
-          late : (t : Bool) → moveRotation l axes s r .moved ≡ t → moveRotations l axes (moveRotation l axes s r) rs .moved ≡ true → s .moved ≡ false
+          late : (t : Bool) → moveRotation l axes s r .moved ≡ t → moveRotations l axes (moveRotation l axes s r) rs .moved ≡ true
+              → s .moved ≡ false
               → length (moveRotations l axes (moveRotation l axes s r) rs .stay) < length (s .stay) + suc (length rs)
           late true g e f = omega (arith, a .less g f, b .stays)
           late false g e f = omega (arith, a .stays, b .less e g)
@@ -81,7 +82,8 @@ module _ (l : ℕ) (axes : List (List ℕ)) where
     where
       go : (q : Shift) → Fell (record { layer = layer; stay = []; merged = m; moved = b }) q (length next)
           → (let z = sweepFrom l axes (q .stay) (q .merged) (q .moved) ls in sumOf length (z .layers) ≤ length (q .stay) + sumOf length ls)
-          → (let z = sweepFrom l axes (q .stay) (q .merged) (q .moved) ls in Lower (q .moved) (z .moved) (height (z .layers)) (height (q .stay ∷ ls)))
+          → (let z = sweepFrom l axes (q .stay) (q .merged) (q .moved) ls in
+          Lower (q .moved) (z .moved) (height (z .layers)) (height (q .stay ∷ ls)))
           → (let z = sweepFrom l axes (q .stay) (q .merged) (q .moved) ls in
           Lower b (z .moved) (sumOf length (z .layers) + height (z .layers)) (length next + sumOf length ls + height (next ∷ ls)))
       go q f size h = record { le = omega (arith, f .stays, h .le); lt = λ e g. late (q .moved) refl e g }
@@ -114,14 +116,17 @@ module _ (l : ℕ) (axes : List (List ℕ)) where
   zeros-small : (ls : List (List Rot)) → Small (map dropZeroRots ls) ls
   unfolding sumOf height
   zeros-small [] = record { size = le-refl _; high = le-refl _ }
-  zeros-small (layer ∷ ls) = let h = zeros-small ls in record { size = omega (arith, dropped layer, h .size); high = omega (arith, h .size, h .high) }
+  zeros-small (layer ∷ ls) =
+      let h = zeros-small ls in
+      record { size = omega (arith, dropped layer, h .size); high = omega (arith, h .size, h .high) }
 
   keep-small : (f : List Rot → Bool) (ls : List (List Rot)) → Small (keep f ls) ls
   unfolding keep sumOf height
   keep-small f [] = record { size = le-refl _; high = le-refl _ }
   keep-small f (layer ∷ ls) =
       let h = keep-small f ls in
-      by-if (λ (x : List (List Rot)). Small x (layer ∷ ls)) _ _ _ (record { size = omega (arith, h .size); high = omega (arith, h .size, h .high) })
+      by-if (λ (x : List (List Rot)). Small x (layer ∷ ls)) _ _ _
+      (record { size = omega (arith, h .size); high = omega (arith, h .size, h .high) })
       (record { size = omega (arith, h .size); high = omega (arith, h .high) })
 
   dropZeroLayers-height : (ls : List (List Rot)) → height (dropZeroLayers ls) ≤ height ls

@@ -60,4 +60,5 @@ no-more-with-more-rounds o o′ j j′ s s′ alike e h a a′ =
     let c : rewriting o′ j′ s′ .counters ≡ countersOf (rulesOf o) (programOf j) (finishOf (rulesOf o) (o′ .rounds) (programOf j))
     = accepted-counters o′ j′ s′ a′ ∙ rw (e, alike-program j j′ alike) refl in
     rw (c, accepted-counters o j s a)
-    (counters-rounds (rulesOf o) (programOf j) (checked-fine o j s (accepted-checks o j s a)) (accepted-hermitian o j s a) (o .rounds) (o′ .rounds) h)
+    (counters-rounds (rulesOf o) (programOf j) (checked-fine o j s (accepted-checks o j s a)) (accepted-hermitian o j s a) (o .rounds)
+    (o′ .rounds) h)

@@ -116,7 +116,8 @@ module _ (l : ℕ) (w : List ℕ) where
       letter : (i : ℕ) → i < 64 * l → Dec (acts l w i ≡ 1)
           → letterAt l (multiplyImages l [] w (asValue (identity l)) (support l w) .word) i ≡ letterAt l w i
       letter i b (yes e) =
-          support-each l w (λ q. letterAt l (multiplyImages l [] w (asValue (identity l)) (support l w) .word) q ≡ letterAt l w q) (all .laid) i b e
+          support-each l w (λ q. letterAt l (multiplyImages l [] w (asValue (identity l)) (support l w) .word) q ≡ letterAt l w q)
+          (all .laid) i b e
       letter i b (no n) =
           all .others i b (support-all l w (λ q. q ≡ i → ⊥) (λ q k e f. n (rw f at e)))
           ∙ identity-letter l i ∙ sym (idle (letterAt l w i) n)

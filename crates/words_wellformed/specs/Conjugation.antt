@@ -140,7 +140,8 @@ module _ (l : ℕ) (b : List ℕ) (k : ℕ) (quarters : IsQuarters k) where
     left-turned : Turned (multiply l u v) ≡ multiply l (Turned u) v
     unfolding scaled multiply
     left-turned =
-        value-eq (left-turns (u .turns) (v .turns) _ _ _ _ (k / 2) (left-phase l b (u .word) (v .word))) (sym (xorWords-assoc b (u .word) (v .word)))
+        value-eq (left-turns (u .turns) (v .turns) _ _ _ _ (k / 2) (left-phase l b (u .word) (v .word)))
+        (sym (xorWords-assoc b (u .word) (v .word)))
 
     right-turned : symplectic l b (u .word) ≡ 0 → Turned (multiply l u v) ≡ multiply l u (Turned v)
     unfolding scaled multiply

@@ -89,7 +89,8 @@ pub plain-signed : (l : ℕ) (Angles : Type 0) (w : List ℕ) → IsWord l w →
 plain-signed l Angles w h = record { word = h; sign = λ a. no-sign }
 
 -- the product of two that commute
-pub multiply-signed : (l : ℕ) (Angles : Type 0) (u v : Value) → SignedWord l Angles u → SignedWord l Angles v → symplectic l (u .word) (v .word) ≡ 0
+pub multiply-signed : (l : ℕ) (Angles : Type 0) (u v : Value) → SignedWord l Angles u → SignedWord l Angles v
+    → symplectic l (u .word) (v .word) ≡ 0
     → SignedWord l Angles (multiply l u v)
 unfolding multiply
 multiply-signed l Angles u v a b h = record {
@@ -121,7 +122,8 @@ module _ (l : ℕ) (b : List ℕ) (k : ℕ) where
   absorbImage-commuting p h = if-true _ _ (ap not (anticommutes-none l b (p .word) h))
 
   -- images commute or anticommute as before
-  pub absorbImage-symplectic : (p q : Value) → symplectic l (absorbImage l b k p .word) (absorbImage l b k q .word) ≡ symplectic l (p .word) (q .word)
+  pub absorbImage-symplectic : (p q : Value)
+      → symplectic l (absorbImage l b k p .word) (absorbImage l b k q .word) ≡ symplectic l (p .word) (q .word)
   unfolding if_then_else_
   absorbImage-symplectic p q = ap₂ (symplectic l) (absorbImage-word p) (absorbImage-word q) ∙ go (eqb k 4)
     where
@@ -204,7 +206,8 @@ own-image l q (suc (suc zero)) h = refl
 own-image l q (suc (suc (suc zero))) h = refl
 own-image l q (suc (suc (suc (suc c)))) h = absurd (omega arith)
 
-letterImage-touched : (l : ℕ) (held : List Images) (r q c : ℕ) → IsXYZ c → letterImage l (held ++ (ownImages l r ∷ [])) q c ≡ letterImage l held q c
+letterImage-touched : (l : ℕ) (held : List Images) (r q c : ℕ) → IsXYZ c
+    → letterImage l (held ++ (ownImages l r ∷ [])) q c ≡ letterImage l held q c
 unfolding letterImage
 letterImage-touched l [] r q c h =
     on-if (λ (v : Value). v ≡ asValue (single l q c)) (eqb (ownImages l r .qubit) q) (imageOf c (ownImages l r)) _
@@ -345,7 +348,8 @@ module _ (l : ℕ) (Angles : Type 0) where
   pub absorbWord-images : (t : Touched) (b : List ℕ) (k : ℕ) → IsWord l b → (Angles → IsQuarters k) → HeldImages l Angles (t .held)
       → HeldImages l Angles (absorbWord l t b k .held)
   absorbWord-images t b k word quarters s = record {
-    each = unfold absorbWord in (every-map (QubitImages l Angles) (QubitImages l Angles) (absorbImages l b k) (absorbImages-signed b k word quarters)
+    each =
+        unfold absorbWord in (every-map (QubitImages l Angles) (QubitImages l Angles) (absorbImages l b k) (absorbImages-signed b k word quarters)
         (touchAll l t (support l b) .held)
         (touchAll-signed l Angles t (support l b) (support-all l b (λ q. q < 64 * l) (λ q h e. h)) (s .each)));
     relations = λ q c r d bq hc br hd.

@@ -11,7 +11,8 @@ use Rattle.model.specs.Program.{Node, identity, letter, product, PauliRef, Prog
 use Rattle.model.specs.Words.{Value, asValue, scaled, multiply, tested}
 use Rattle.model.specs.Value.{nodeValue, valueAt, valuesFrom, values}
 use Rattle.model.specs.Roots.{roots}
-use Rattle.model.specs.Packing.{Pack, useNode, useChildren, takeSlot, packRoot, packRoots, packNode, packFrom, rootsAt, emptyPack, valuesOf, packed}
+use Rattle.model.specs.Packing.{Pack, useNode, useChildren, takeSlot, packRoot, packRoots, packNode, packFrom, rootsAt, emptyPack, valuesOf}
+use Rattle.model.specs.Packing.{packed}
 use Rattle.theory.specs.Cases.{by-if}
 use Rattle.theory.specs.Every.{Every, every-one, every-at}
 use Rattle.theory.specs.PackedRoots.{ChildrenBefore, Ordered}
@@ -87,7 +88,8 @@ module _ (l : ℕ) where
   packRoots-stored : (n : ℕ) (v : Value) (p : Pack) (rs : List PauliRef) → ValueWord l v → Packed p → Packed (packRoots l n v p rs)
   unfolding packRoots
   packRoots-stored n v p [] h s = s
-  packRoots-stored n v p (r ∷ rs) h s = packRoots-stored n v _ rs h (by-if Packed (p .refused) p (packRoot l n v p r) s (packRoot-stored n v p r h s))
+  packRoots-stored n v p (r ∷ rs) h s =
+      packRoots-stored n v _ rs h (by-if Packed (p .refused) p (packRoot l n v p r) s (packRoot-stored n v p r h s))
 
   module _ (rs : List PauliRef) (vs : List Value) (words : Every (ValueWord l) vs) where
     packNode-stored : (n : ℕ) (node : Node) (p : Pack) → n < length vs → Packed p → Packed (packNode l rs vs n node p)

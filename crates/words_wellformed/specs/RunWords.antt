@@ -17,11 +17,13 @@ use Rattle.model.specs.Words.{Value, wordOf}
 use Rattle.model.specs.Value.{valueAt}
 use Rattle.model.specs.Roots.{rootRows, operationRoot, roots}
 use Rattle.model.specs.Packing.{valuesOf, packed, SignedAxis, signedAxis}
-use Rattle.model.specs.Items.{Rot, Item, rotation, barrier, withSign, isNonzero, stays, dropZeros, Segment, endSegment, rewriteFrom, rewriteSegments}
+use Rattle.model.specs.Items.{Rot, Item, rotation, barrier, withSign, isNonzero, stays, dropZeros, Segment, endSegment, rewriteFrom}
+use Rattle.model.specs.Items.{rewriteSegments}
 use Rattle.model.specs.Stream.{stream, begin}
 use Rattle.model.specs.Exchange.{swaps}
 use Rattle.model.specs.Layering.{layerSegment}
-use Rattle.model.specs.Rounds.{Work, streamPass, exchangePass, layeringPass, mergeRound, RoundBefore, noRound, roundsFrom, closingStream, mergeRounds}
+use Rattle.model.specs.Rounds.{Work, streamPass, exchangePass, layeringPass, mergeRound, RoundBefore, noRound, roundsFrom, closingStream}
+use Rattle.model.specs.Rounds.{mergeRounds}
 use Rattle.model.specs.Rounds.{litinskiFrom}
 use Rattle.model.specs.Rounds.{litinskiRounds, passes}
 use Rattle.model.specs.Run.{itemOf, itemsFrom, startOf}
@@ -118,7 +120,8 @@ items-angles Angles m [] h g = tt
 items-angles Angles m (rotation r ∷ is) h g = (h .0 .1 g, items-angles Angles m is (h .1) g)
 items-angles Angles m (barrier o a s ∷ is) h g = (tt, items-angles Angles m is (h .1) g)
 
-items-whole : (Angles : Type 0) (m : ℕ) (is : List Item) → Every (InPlace Angles m) is → (Angles → Every HasAngle is) → Every (WellItem Angles m) is
+items-whole : (Angles : Type 0) (m : ℕ) (is : List Item) → Every (InPlace Angles m) is → (Angles → Every HasAngle is)
+    → Every (WellItem Angles m) is
 items-whole Angles m [] h f = tt
 items-whole Angles m (rotation r ∷ is) h f = ((h .0, λ g. f g .0), items-whole Angles m is (h .1) (λ g. f g .1))
 items-whole Angles m (barrier o a s ∷ is) h f = (h .0, items-whole Angles m is (h .1) (λ g. f g .1))
@@ -182,7 +185,8 @@ module _ (l : ℕ) (r : Rules) (Angles : Type 0) (stay : Angles → AnglesStay l
     where
       placed : Every (InPlace Angles (length (layeringPass l w .store .axes))) (layeringPass l w .items)
       placed =
-          unfold layeringPass in (rewriteSegments-placed Angles _ (layerSegment l (w .store .axes)) (layerSegment-has _ l (w .store .axes)) (w .items)
+          unfold layeringPass in
+          (rewriteSegments-placed Angles _ (layerSegment l (w .store .axes)) (layerSegment-has _ l (w .store .axes)) (w .items)
           (every-weaken (WellItem Angles (length (w .store .axes))) (InPlace Angles (length (w .store .axes))) (item-place Angles _)
           (w .items) (h .items)))
 

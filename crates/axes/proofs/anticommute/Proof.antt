@@ -1,3 +1,4 @@
+-- Both words are read and compared. Assumes nothing.
 use native.Mathlib.Omega.{arith}
 use Rattle.axes.specs.View.{read-long, read-anticommute}
 use borrow.Author.Needs.{needs}

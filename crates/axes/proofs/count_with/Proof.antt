@@ -1,3 +1,4 @@
+-- An id is new exactly where it is the count. Assumes nothing.
 use Rattle.axes.specs.Intern.{count-new, count-old}
 use borrow.Author.Needs.{needs}
 use Rattle.axes.proofs.count_with.Statement.{statement}

@@ -21,8 +21,8 @@ returns c = let f = c .before in stores-old _ _ _ _ _ _ _ (f .find .ensures) (f 
 mul-n : tie.Need-mul-n
 mul-n c = search needs
 
-mul-end : tie.Need-mul-end
-mul-end c = search needs
+axis-at-requires : tie.Need-axis-at-requires
+axis-at-requires c κs = search needs
 
 add-if2 : tie.Need-add-if2
 add-if2 c = search needs
@@ -35,8 +35,9 @@ same-length-2 c = search needs
 
 returns-2 : tie.Need-returns-2
 returns-2 c =
-    let f = c .before .before in
-    stores-full _ _ _ _ _ _ _ (f .find .ensures) (f .before .word-at .ensures) (c .before .if1 .left) (c .if2 .taken)
+    let end = c .before in
+    let f = end .before .before in
+    stores-full _ _ _ _ _ _ _ (f .find .ensures) (f .before .word-at .ensures) (end .axis-at .ensures) (end .before .if1 .left) (c .if2 .taken)
 
 copy-within-requires : tie.Need-copy-within-requires
 copy-within-requires c κs = record { source = omega arith; target = omega arith; apart = inr (omega arith) }
@@ -46,9 +47,12 @@ same-length-3 c = search needs
 
 returns-3 : tie.Need-returns-3
 returns-3 c =
-    let f = c .before .before .before .before .before .before in
-    stores-new _ _ _ _ _ _ _ (f .find .ensures) (f .before .word-at .ensures) _ (omega arith) (omega arith)
-    (c .before .before .copy-within .ensures)
+    let copy = c .before .before in
+    let room = copy .before .before in
+    let end = room .before in
+    let f = end .before .before in
+    stores-new _ _ _ _ _ _ _ (f .find .ensures) (f .before .word-at .ensures) (end .axis-at .ensures) (end .before .if1 .left)
+    _ (room .if2 .left) (copy .copy-within .ensures)
 
 pub intern-spec : {M : Type 1} → statement M
 intern-spec =
@@ -59,7 +63,7 @@ intern-spec =
     same-length
     returns
     mul-n
-    mul-end
+    axis-at-requires
     add-if2
     add-if2-2
     same-length-2

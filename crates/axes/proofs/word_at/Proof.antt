@@ -1,3 +1,4 @@
+-- A word is a part of the store. Assumes nothing.
 use Rattle.store.specs.Part.{part-cut}
 use borrow.Author.Needs.{needs}
 use Rattle.axes.proofs.word_at.Statement.{statement}

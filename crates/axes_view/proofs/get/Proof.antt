@@ -48,6 +48,7 @@ use denote.Triple.Walked.{says, needs, Stays, stay-none, walkOf, goes-none, Walk
 use denote.Exit.{yes}
 use denote.Triple.Clauses.{ensured, lasts}
 use Rattle.model.specs.Words.{wordOf}
+use Rattle.layout.specs.Words.{axisPlace}
 use Rattle.axes.specs.View.{axesOf}
 use Rattle.axes_view.specs.declared.Axes.{Axes}
 use Rattle.axes_view.proofs.Axes as T
@@ -74,11 +75,11 @@ module _ {M : Type 1} (𝓤 : URA M) (H : Heap 𝓤) (A : Atoms 𝓤) (mem : Mem
   AxisOf = tripleOf 𝓤 H A step.signature (step.spec 𝓤 H A mem run)
 
 module _ {M : Type 1} (𝓤 : URA M) (H : Heap 𝓤) (A : Atoms 𝓤) (W : Given 𝓤 H A) (mem : Memory → SProp 𝓤) (run : Routine
-    → Fun 𝓤) (κ : Lft) (q : Share) (d : Axes) (i : ℕ) (fi : i < 2 ^ 64) (within : i * (2 * d .l) + 2 * d .l ≤ length (now (d .words))) where
+    → Fun 𝓤) (κ : Lft) (q : Share) (d : Axes) (i : ℕ) (fi : i < 2 ^ 64) (within : axisPlace (d .l) i + 2 * d .l ≤ length (now (d .words))) where
   abbrev mach : Val
   mach = T′.lowered d
 
-  -- the machine value of src
+  -- the machine value of a's words
   abbrev v : Val
   v = sliceVal (d .words .ptr) (length (d .words .now))
 
@@ -122,7 +123,7 @@ module _ {M : Type 1} (𝓤 : URA M) (H : Heap 𝓤) (A : Atoms 𝓤) (W : Given
   to = (((κ, tt), (q, tt), tt, args, passed), tt)
 
   -- the callee's part lies in the slice
-  inside : id * (2 * width) + 2 * width ≤ length (now (d .words))
+  inside : axisPlace width id + 2 * width ≤ length (now (d .words))
   inside = omega (arith, within)
 
   id-fits : id < 2 ^ 64
@@ -142,7 +143,7 @@ module _ {M : Type 1} (𝓤 : URA M) (H : Heap 𝓤) (A : Atoms 𝓤) (W : Given
       (LL.copy D (T′.the-copy (namedLft 1 0 tt (κ, tt))) 𝓤 H A W .twice d (mach ∷ [])) $ split ! $
       use1 W (given (mach ∷ [] ≡ mach ∷ []) (‵ (all-own (D .parts) L vd))) (own-open 𝓤 H A W D L vd mach) $
       learn ! (λ _. use1 W (‵ (ownAt (D .parts) L 0 (d .words)) ⊛ ‵ (rest (D .parts) L 0 vd)) (own-out 𝓤 H A W (D .parts) L 0 vd) $ split ! $
-      -- [what src owns; what at owns; what the struct owns; the token]
+      -- [what a's words own; what a's l owns; what the struct owns; the token]
       move ! (1 ∷ []) $ drop ! $ nothing ! $ owned ! usize (Is usize) (uint-makes 𝓤 H A W w64) width _ (refl, fits) $ fjoin ! $
       owned ! usize (Is usize) (uint-makes 𝓤 H A W w64) id _ (refl, id-fits) $ fjoin ! $ move ! (1 ∷ 0 ∷ []) $ fjoin ! $
       move ! (2 ∷ 0 ∷ []) $ use2 W (raw (AxisOf 𝓤 H A mem run .pre to)) asked $ frame ! $ done !)

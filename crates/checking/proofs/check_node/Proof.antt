@@ -1,8 +1,9 @@
 -- Kind by kind; node 0 is the identity. Assumes nothing.
 use mathlib.Core.Path.{_≡_, sym, _∙_}
 use Prim.Native.Nat.{ℕ, _≤_, _<_}
+use Rattle.model.specs.Checking.{badProduct}
 use Rattle.theory.specs.Cases.{if-true, if-false}
-use Rattle.checking.specs.Nodes.{node-identity, node-first, node-product, node-unknown, badProduct}
+use Rattle.checking.specs.Nodes.{node-identity, node-first, node-product, node-unknown}
 use native.Mathlib.Omega.{arith}
 use borrow.Author.Needs.{needs}
 use Rattle.checking.proofs.check_node.Statement.{statement}

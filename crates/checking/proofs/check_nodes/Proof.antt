@@ -3,7 +3,7 @@ use mathlib.Core.Path.{_≡_, sym, ap, _∙_}
 use Prim.Native.Nat.{_-_, _≤_}
 use lib.ListN.{length-take, length-drop}
 use Rattle.model.specs.Program.{records}
-use Rattle.model.specs.Checking.{checkNode, checkNodes}
+use Rattle.model.specs.Checking.{checkNodes}
 use Rattle.checking.specs.Walk.{recordsFrom, from-first, walk-next, walk-stop, walk-end, nodes-walk}
 use native.Mathlib.Omega.{arith}
 use borrow.Author.Needs.{needs}
@@ -45,7 +45,7 @@ number-of-requires c κs = search needs
 
 returns : tie.Need-returns Inv-loop μ-loop
 returns c =
-    sym (c .before .before .before .before .before .loop .inv .1 ∙ walk-stop 5 (checkNode _) (checkNodes _) (nodes-walk _) _ _ _ _ (omega arith)
+    sym (c .before .before .before .before .before .loop .inv .1 ∙ walk-stop (nodes-walk _ _) _ _ _ (omega arith)
     (c .before .before .check-node .ensures) (λ h. c .if1 .taken (c .before .number-of .ensures ∙ h)))
 
 add-i : tie.Need-add-i Inv-loop μ-loop
@@ -57,12 +57,12 @@ loop-less c = omega arith
 loop-again : tie.Need-loop-again Inv-loop μ-loop
 loop-again c = (
   omega arith,
-  c .before .before .before .before .before .loop .inv .1 ∙ walk-next 5 (checkNode _) (checkNodes _) (nodes-walk _) _ _ _ _ (omega arith)
+  c .before .before .before .before .before .loop .inv .1 ∙ walk-next (nodes-walk _ _) _ _ _ (omega arith)
       (c .before .before .check-node .ensures) (sym (c .before .number-of .ensures) ∙ c .if1 .left),
 )
 
 returns-2 : tie.Need-returns-2 Inv-loop μ-loop
-returns-2 c = sym (c .before .loop .inv .1 ∙ walk-end 5 (checkNode _) (checkNodes _) (nodes-walk _) _ _ _ (omega arith))
+returns-2 c = sym (c .before .loop .inv .1 ∙ walk-end (nodes-walk _ _) _ _ (omega arith))
 
 pub check-nodes-spec : {M : Type 1} → statement M
 check-nodes-spec =

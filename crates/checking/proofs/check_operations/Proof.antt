@@ -5,8 +5,8 @@ use Prim.Native.Nat.{_-_, _≤_}
 use lib.ListN.{length-take, length-drop}
 use Rattle.model.specs.Program.{records}
 use Rattle.model.specs.Checking.{checkOperations}
-use Rattle.checking.specs.Walk.{recordsFrom}
-use Rattle.checking.specs.Outcomes.{seenBy, operations-first, operations-next, operations-stop, operations-end}
+use Rattle.checking.specs.Walk.{recordsFrom, walk-next, walk-stop, walk-end}
+use Rattle.checking.specs.Outcomes.{seenBy, operations-first, operations-walk}
 use native.Mathlib.Omega.{arith}
 use borrow.Author.Needs.{needs}
 use Rattle.checking.proofs.check_operations.Statement.{statement}
@@ -49,7 +49,7 @@ number-of-requires c κs = search needs
 
 returns : tie.Need-returns Inv-loop μ-loop
 returns c =
-    sym (c .before .before .before .before .before .loop .inv .1 ∙ operations-stop _ _ _ _ _ (omega arith)
+    sym (c .before .before .before .before .before .loop .inv .1 ∙ walk-stop (operations-walk _ _) _ _ _ (omega arith)
     (c .before .before .check-operation .ensures) (λ h. c .if1 .taken (c .before .number-of .ensures ∙ h)))
 
 add-i : tie.Need-add-i Inv-loop μ-loop
@@ -61,12 +61,12 @@ loop-less c = omega arith
 loop-again : tie.Need-loop-again Inv-loop μ-loop
 loop-again c = (
   omega arith,
-  c .before .before .before .before .before .loop .inv .1 ∙ operations-next _ _ _ _ _ (omega arith)
+  c .before .before .before .before .before .loop .inv .1 ∙ walk-next (operations-walk _ _) _ _ _ (omega arith)
       (c .before .before .check-operation .ensures) (sym (c .before .number-of .ensures) ∙ c .if1 .left),
 )
 
 returns-2 : tie.Need-returns-2 Inv-loop μ-loop
-returns-2 c = sym (c .before .loop .inv .1 ∙ operations-end _ _ _ _ (omega arith))
+returns-2 c = sym (c .before .loop .inv .1 ∙ walk-end (operations-walk _ _) _ _ (omega arith))
 
 pub check-operations-spec : {M : Type 1} → statement M
 check-operations-spec =

@@ -3,7 +3,7 @@ use mathlib.Core.Path.{_≡_, sym, ap, _∙_}
 use Prim.Native.Nat.{_-_, _≤_}
 use lib.ListN.{length-take, length-drop}
 use Rattle.model.specs.Program.{records}
-use Rattle.model.specs.Checking.{checkRow, checkRows}
+use Rattle.model.specs.Checking.{checkRows}
 use Rattle.checking.specs.Walk.{recordsFrom, from-first, walk-next, walk-stop, walk-end, rows-walk}
 use native.Mathlib.Omega.{arith}
 use borrow.Author.Needs.{needs}
@@ -45,7 +45,7 @@ number-of-requires c κs = search needs
 
 returns : tie.Need-returns Inv-loop μ-loop
 returns c =
-    sym (c .before .before .before .before .before .loop .inv .1 ∙ walk-stop 4 (checkRow _) (checkRows _) (rows-walk _) _ _ _ _ (omega arith)
+    sym (c .before .before .before .before .before .loop .inv .1 ∙ walk-stop (rows-walk _ _) _ _ _ (omega arith)
     (c .before .before .check-row .ensures) (λ h. c .if1 .taken (c .before .number-of .ensures ∙ h)))
 
 add-i : tie.Need-add-i Inv-loop μ-loop
@@ -57,12 +57,12 @@ loop-less c = omega arith
 loop-again : tie.Need-loop-again Inv-loop μ-loop
 loop-again c = (
   omega arith,
-  c .before .before .before .before .before .loop .inv .1 ∙ walk-next 4 (checkRow _) (checkRows _) (rows-walk _) _ _ _ _ (omega arith)
+  c .before .before .before .before .before .loop .inv .1 ∙ walk-next (rows-walk _ _) _ _ _ (omega arith)
       (c .before .before .check-row .ensures) (sym (c .before .number-of .ensures) ∙ c .if1 .left),
 )
 
 returns-2 : tie.Need-returns-2 Inv-loop μ-loop
-returns-2 c = sym (c .before .loop .inv .1 ∙ walk-end 4 (checkRow _) (checkRows _) (rows-walk _) _ _ _ (omega arith))
+returns-2 c = sym (c .before .loop .inv .1 ∙ walk-end (rows-walk _ _) _ _ (omega arith))
 
 pub check-rows-spec : {M : Type 1} → statement M
 check-rows-spec =

@@ -1,8 +1,7 @@
 -- The model's order of refusals. Assumes nothing.
-use mathlib.Core.Path.{sym, ap₂, _∙_}
-use mathlib.Core.Bool.{Bool, _||_}
-use Rattle.model.specs.Checking.{checking}
-use Rattle.theory.specs.Cases.{if-true, if-false, neither}
+use mathlib.Core.Path.{sym, _∙_}
+use Rattle.theory.specs.Cases.{neither}
+use Rattle.checking.specs.Whole.{count-refused, option-refused, slice-refused, program-decides}
 use borrow.Author.Needs.{needs}
 use Rattle.checking.proofs.checking.Statement.{statement}
 use Rattle.checking.proofs.checking.Tie as tie
@@ -11,53 +10,45 @@ bad-count-requires : tie.Need-bad-count-requires
 bad-count-requires c κs = search needs
 
 returns : tie.Need-returns
-unfolding checking
-returns c = sym (if-true _ _ (sym (c .before .bad-count .ensures) ∙ c .if1 .taken))
+returns c = count-refused _ _ _ (c .before .bad-count .ensures) (c .if1 .taken)
 
 bad-option-requires : tie.Need-bad-option-requires
 bad-option-requires c κs = search needs
 
 returns-2 : tie.Need-returns-2
-unfolding checking
 returns-2 c =
-    sym (if-false _ _ (sym (c .before .before .before .bad-count .ensures) ∙ c .before .before .if1 .left) ∙ if-true _ _
-    (sym (c .before .bad-option .ensures) ∙ c .if2 .taken))
+    let counts = c .before .before in
+    option-refused _ _ _ (counts .before .bad-count .ensures) (counts .if1 .left) (c .before .bad-option .ensures) (c .if2 .taken)
 
 program-short-requires : tie.Need-program-short-requires
-program-short-requires c κs = sym (c .before .before .before .bad-count .ensures) ∙ c .before .before .if1 .left
+program-short-requires c κs = let counts = c .before .before in sym (counts .before .bad-count .ensures) ∙ counts .if1 .left
 
 lent-short-requires : tie.Need-lent-short-requires
-lent-short-requires c κs = (
-  sym (c .before .before .before .before .bad-count .ensures) ∙ c .before .before .before .if1 .left,
-  sym
-      (c .before .before .bad-option .ensures) ∙ c .before .if2 .left,
-)
+lent-short-requires c κs =
+    let options = c .before in
+    let counts = options .before .before in
+    (sym (counts .before .bad-count .ensures) ∙ counts .if1 .left, sym (options .before .bad-option .ensures) ∙ options .if2 .left)
 
 returns-3 : tie.Need-returns-3
-unfolding checking
 returns-3 c =
-    sym (if-false _ _ (sym (c .before .before .before .before .before .before .bad-count .ensures)
-    ∙ c .before .before .before .before .before .if1 .left) ∙ if-false _ _ (sym (c .before .before .before .before .bad-option .ensures)
-    ∙ c .before .before .before .if2 .left) ∙ if-true _ _ (sym
-    (ap₂ (λ (x y : Bool). x || y) (c .before .before .program-short .ensures) (c .before .lent-short .ensures)) ∙ c .if3 .taken))
+    let options = c .before .before .before in
+    let counts = options .before .before in
+    slice-refused _ _ _ (counts .before .bad-count .ensures) (counts .if1 .left) (options .before .bad-option .ensures) (options .if2 .left)
+    (c .before .before .program-short .ensures) (c .before .lent-short .ensures) (c .if3 .taken)
 
 check-program-requires : tie.Need-check-program-requires
 check-program-requires c κs =
-    let n = neither _ (c .before .lent-short .result) (c .if3 .left) in (
-      sym (c .before .before .before .before .before .before .bad-count .ensures)
-          ∙ c .before .before .before .before .before .if1 .left,
-      sym (c .before .before .program-short .ensures) ∙ n .0,
-    )
+    let counts = c .before .before .before .before .before in
+    let n = neither _ (c .before .lent-short .result) (c .if3 .left) in
+    (sym (counts .before .bad-count .ensures) ∙ counts .if1 .left, sym (c .before .before .program-short .ensures) ∙ n .0)
 
 returns-4 : tie.Need-returns-4
-unfolding checking
 returns-4 c =
-    c .check-program .ensures ∙ sym
-    (if-false _ _ (sym (c .before .before .before .before .before .before .before .bad-count .ensures)
-    ∙ c .before .before .before .before .before .before .if1 .left) ∙ if-false _ _ (sym
-    (c .before .before .before .before .before .bad-option .ensures) ∙ c .before .before .before .before .if2 .left) ∙ if-false _ _ (sym
-    (ap₂ (λ (x y : Bool). x || y) (c .before .before .before .program-short .ensures) (c .before .before .lent-short .ensures))
-    ∙ c .before .if3 .left))
+    let slices = c .before in
+    let options = slices .before .before .before in
+    let counts = options .before .before in
+    program-decides _ _ _ (counts .before .bad-count .ensures) (counts .if1 .left) (options .before .bad-option .ensures) (options .if2 .left)
+    (slices .before .before .program-short .ensures) (slices .before .lent-short .ensures) (slices .if3 .left) (c .check-program .ensures)
 
 pub checking-spec : {M : Type 1} → statement M
 checking-spec =

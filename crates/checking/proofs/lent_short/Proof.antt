@@ -6,44 +6,34 @@ use Rattle.layout.specs.Bounds.{counts-fit, limit-fits}
 use Rattle.layout.specs.Shape.{shapeOf, rowLength, sized-by}
 use Rattle.checking.proofs.lent_short.Statement.{statement}
 use Rattle.checking.proofs.lent_short.Tie as tie
-use Rattle.checking.proofs.lent_short.Reads as reads
-use Rattle.checking.proofs.lent_short.Lts as lts
-use Rattle.layout.proofs.shape_of.Reads as shape-of-reads
 
--- src/lib.rt:66:9
 shape-of-requires : tie.Need-shape-of-requires
 shape-of-requires c κs = let p = c .before .before .before .before .pre in (p .0, limit-fits _ (p .1))
 
--- src/lib.rt:67:34
 mul-result : tie.Need-mul-result
 mul-result c =
     let p = c .before .before .before .before .before .before .pre in
     let z = sized-by _ _ (p .0) (limit-fits _ (p .1)) (c .before .shape-of .ensures) in
     omega arith
 
--- src/lib.rt:67:20
 add-result : tie.Need-add-result
 add-result c =
     let p = c .before .before .before .before .before .before .before .pre in
     let z = sized-by _ _ (p .0) (limit-fits _ (p .1)) (c .before .before .shape-of .ensures) in
     omega arith
 
--- src/lib.rt:68:28
 mul-result-2 : tie.Need-mul-result-2
 mul-result-2 c =
     let p = c .before .before .before .before .before .before .before .before .pre in
     let z = sized-by _ _ (p .0) (limit-fits _ (p .1)) (c .before .before .before .shape-of .ensures) in
     omega arith
 
--- src/lib.rt:69:31
 mul-result-3 : tie.Need-mul-result-3
 mul-result-3 c = let f = counts-fit _ (c .before .before .before .before .before .before .before .before .before .pre .0) in omega arith
 
--- src/lib.rt:70:25
 mul-result-4 : tie.Need-mul-result-4
 mul-result-4 c = let f = counts-fit _ (c .before .before .before .before .before .before .before .before .before .before .pre .0) in omega arith
 
--- src/lib.rt:54:1
 returns : tie.Need-returns
 unfolding lentShort wordsAsked numbersAsked shapeOf rowLength
 returns c = rw (c .before .before .before .before .before .shape-of .ensures) refl

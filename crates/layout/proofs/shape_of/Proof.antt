@@ -10,11 +10,9 @@ use Rattle.layout.proofs.shape_of.Reads as reads
 use Rattle.layout.proofs.shape_of.Lts as lts
 use Rattle.pauli.proofs.width.Reads as width-reads
 
--- src/lib.rt:60:9
 width-requires : tie.Need-width-requires
 width-requires c κs = search needs
 
--- src/lib.rt:67:12
 add-t4 : tie.Need-add-t4
 add-t4 c =
     let b = bounds _ _ _ (c .before .before .pre .0) (c .before .before .pre .1) (c .before .width .ensures) in
@@ -25,31 +23,24 @@ known : (c : lts.After-struct-known2 (width-reads.Asked, width-reads.Learnt) rea
     → Bounds (c .before .before .before .args .c) (c .before .before .before .args .limit) (c .before .before .width .result)
 known c = bounds _ _ _ (c .before .before .before .pre .0) (c .before .before .before .pre .1) (c .before .before .width .ensures)
 
--- src/lib.rt:67:37
 mul-t5 : tie.Need-mul-t5
 mul-t5 c = let b = known c in omega arith
 
--- src/lib.rt:67:12
 add-t6 : tie.Need-add-t6
 add-t6 c = let b = known c in omega arith
 
--- src/lib.rt:67:61
 mul-t7 : tie.Need-mul-t7
 mul-t7 c = let b = known c in omega arith
 
--- src/lib.rt:67:52
 div-t8 : tie.Need-div-t8
 div-t8 c = let b = known c in omega arith
 
--- src/lib.rt:67:12
 add-t9 : tie.Need-add-t9
 add-t9 c = let b = known c in omega arith
 
--- src/lib.rt:67:12
 add-t10 : tie.Need-add-t10
 add-t10 c = let b = known c in omega arith
 
--- src/lib.rt:56:1
 returns : tie.Need-returns
 unfolding shapeOf rowLength
 returns c = rw (c .before .before .width .ensures) refl

@@ -1,7 +1,7 @@
 -- Unmarked, the identity, a letter, a product: what is written in each case. Assumes nothing.
 use Prim.Native.Nat.{_-_}
 use Rattle.mentions.specs.Down.{from-unmarked, from-identity, from-letter, from-product}
-use Rattle.mentions.specs.Nodes.{qubit-inside, first-inside, second-inside}
+use Rattle.mentions.specs.Nodes.{qubit-inside, children-inside}
 use native.Mathlib.Omega.{arith}
 use borrow.Author.Needs.{needs}
 use Rattle.mentions.proofs.mark_from.Statement.{statement}
@@ -35,7 +35,7 @@ write-requires : tie.Need-write-requires
 write-requires c κs =
     let x = c .before .before .before .before .before .before in
     let h = x .before .before .before .before .before .before .pre in (
-      (let l = h .numbers-long in omega arith),
+      (let l = h .node .long in omega arith),
       omega arith,
       qubit-inside h (x .node-at .result) (x .node-at .ensures) (c .before .before .if3 .taken),
     )
@@ -58,9 +58,9 @@ write-requires-2 c κs =
     let t = c .before .before in
     let x = t .before .before .before .before in
     let h = x .before .before .before .before .before .before .pre in (
-      (let l = h .numbers-long in omega arith),
+      (let l = h .node .long in omega arith),
       omega arith,
-      first-inside h (x .node-at .result) (x .node-at .ensures) (t .before .before .if2 .left) (t .if3 .left),
+      children-inside h (x .node-at .result) (x .node-at .ensures) (t .before .before .if2 .left) (t .if3 .left) .0,
     )
 
 cast-write-3 : tie.Need-cast-write-3
@@ -71,9 +71,9 @@ write-requires-3 c κs =
     let t = c .before .before .before .before .before .before .before in
     let x = t .before .before .before .before in
     let h = x .before .before .before .before .before .before .pre in (
-      (let l = h .numbers-long in let k = c .before .before .before .before .write2 .ensures .long in omega arith),
+      (let l = h .node .long in let k = c .before .before .before .before .write2 .ensures .long in omega arith),
       omega arith,
-      second-inside h (x .node-at .result) (x .node-at .ensures) (t .before .before .if2 .left) (t .if3 .left),
+      children-inside h (x .node-at .result) (x .node-at .ensures) (t .before .before .if2 .left) (t .if3 .left) .1,
     )
 
 same-length-4 : tie.Need-same-length-4

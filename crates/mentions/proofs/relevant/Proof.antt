@@ -1,6 +1,6 @@
 -- The identity, a letter, a product: what is read in each case. Assumes nothing.
 use Prim.Native.Nat.{_-_}
-use Rattle.mentions.specs.Nodes.{qubit-inside, first-inside, second-inside}
+use Rattle.mentions.specs.Nodes.{qubit-inside, children-inside}
 use Rattle.mentions.specs.Relevant.{relevant-identity, relevant-letter, relevant-first, relevant-second}
 use native.Mathlib.Omega.{arith}
 use borrow.Author.Needs.{needs}
@@ -22,7 +22,7 @@ read-requires : tie.Need-read-requires
 read-requires c κs =
     let x = c .before .before .before .before .before in
     let h = x .before .before .before .pre in
-    ((let l = h .numbers-long in omega arith), omega arith, qubit-inside h (x .node-at .result) (x .node-at .ensures) (c .before .if2 .taken))
+    ((let l = h .node .long in omega arith), omega arith, qubit-inside h (x .node-at .result) (x .node-at .ensures) (c .before .if2 .taken))
 
 returns-2 : tie.Need-returns-2
 returns-2 c =
@@ -37,9 +37,9 @@ read-requires-2 c κs =
     let t = c .before in
     let x = t .before .before .before .before in
     let h = x .before .before .before .pre in (
-      (let l = h .numbers-long in omega arith),
+      (let l = h .node .long in omega arith),
       omega arith,
-      first-inside h (x .node-at .result) (x .node-at .ensures) (t .before .before .if1 .left) (t .if2 .left),
+      children-inside h (x .node-at .result) (x .node-at .ensures) (t .before .before .if1 .left) (t .if2 .left) .0,
     )
 
 returns-3 : tie.Need-returns-3
@@ -56,9 +56,9 @@ read-requires-3 c κs =
     let t = c .before .before .before .before in
     let x = t .before .before .before .before in
     let h = x .before .before .before .pre in (
-      (let l = h .numbers-long in omega arith),
+      (let l = h .node .long in omega arith),
       omega arith,
-      second-inside h (x .node-at .result) (x .node-at .ensures) (t .before .before .if1 .left) (t .if2 .left),
+      children-inside h (x .node-at .result) (x .node-at .ensures) (t .before .before .if1 .left) (t .if2 .left) .1,
     )
 
 returns-4 : tie.Need-returns-4

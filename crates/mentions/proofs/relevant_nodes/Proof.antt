@@ -37,7 +37,7 @@ cast-write c = tt
 write-requires : tie.Need-write-requires Inv-loop μ-loop
 write-requires c κs =
     let h = c .before .before .before .before .before .before .before .pre in
-    ((let l = h .numbers-long in omega arith), omega arith, (let l = h .fits in omega arith))
+    ((let l = h .nodes .long in omega arith), omega arith, (let l = h .nodes .fits in omega arith))
 
 add-n : tie.Need-add-n Inv-loop μ-loop
 add-n c = omega arith

@@ -1,9 +1,11 @@
 -- The loop is before node n's turn. Assumes nothing.
 use mathlib.Core.Path.{_∙_}
 use Prim.Native.Nat.{_-_, _<_}
+use Rattle.layout.specs.Only.{Only}
 use Rattle.packing.specs.Holding.{Left}
 use Rattle.packing.specs.Turns.{left-then}
-use Rattle.packing.specs.Packing.{AtNode, first-node, node-turn, next-node, granted-prepared, pack-axes, pack-odd, pack-full}
+use Rattle.packing.specs.Packing.{AtNode, first-node, node-turn, next-node, preparedRows, prepared-rows, granted-prepared}
+use Rattle.packing.specs.Packing.{pack-axes, pack-odd, pack-limit}
 use native.Mathlib.Omega.{arith}
 use borrow.Author.Needs.{needs}
 use Rattle.packing.proofs.pack.Statement.{statement}
@@ -15,24 +17,50 @@ Inv-loop ns os rs ws₀ xs₀ z st₀ n₀ end ws xs st n = AtNode z ns os rs ws
 abbrev μ-loop : tie.MeasureT-loop
 μ-loop ns os rs ws₀ xs₀ z st₀ n₀ end ws xs st n = z .nodes - n
 
+relevance-requires : tie.Need-relevance-requires Inv-loop μ-loop
+relevance-requires c κs =
+    let s = c .before .before .before .before .before .before in
+    let p = s .pre in
+    record { sized = p .granted .sized; rows = s .args .rows .now; given = p .given; numbers-long = p .granted .numbers-long }
+
+-- where the function starts, from where `relevance` has been called
+abbrev start : tie.After-relevance Inv-loop μ-loop → tie.Start Inv-loop μ-loop
+start c = c .before .before .before .before .before .before .before
+
 prepare-requires : tie.Need-prepare-requires Inv-loop μ-loop
 prepare-requires c κs =
-    let p = c .before .before .before .before .before .before .pre in
-    record { sized = p .granted .sized; given = p .given; numbers-long = p .granted .numbers-long }
+    let v = c .before .before .before in
+    let p = start v .pre in
+    record {
+      sized = p .granted .sized;
+      given = p .given;
+      numbers-long = omega (arith, p .granted .numbers-long, v .relevance .ensures .only .long);
+      tells = v .relevance .ensures .tells (start v .args .rows .now);
+    }
+
+-- and from the loop
+abbrev first : tie.At-loop Inv-loop μ-loop → tie.Start Inv-loop μ-loop
+first c = start (c .before .before .before .before .before .before .before)
+
+-- what is written before the loop
+prepared : (c : tie.At-loop Inv-loop μ-loop) → let a = first c .args in
+    Only preparedRows (a .shape .u) (a .numbers .now) (c .before .before .before .prepare .last .1 .1 .1 .0)
+prepared c =
+    let e = c .before .before .before in
+    prepared-rows (e .before .before .before .before .relevance .ensures .only) (e .prepare .ensures .only)
 
 loop-holds : tie.Need-loop-holds Inv-loop μ-loop
 loop-holds c = let p = c .before .before .prepare .ensures in first-node (p .linked) (p .uses)
 
 -- a node is left
-below : (c : tie.In-loop Inv-loop μ-loop)
-    → c .before .loop .n < c .before .before .before .before .before .before .before .before .before .before .before .args .shape .nodes
+below : (c : tie.In-loop Inv-loop μ-loop) → c .before .loop .n < first (c .before) .args .shape .nodes
 below c = omega arith
 
 pack-node-requires : tie.Need-pack-node-requires Inv-loop μ-loop
 pack-node-requires c κs =
     let i = c .before .before in
-    let p = i .before .before .before .before .before .before .before .before .before .before .before .pre in
-    node-turn (i .before .loop .inv) (granted-prepared p (i .before .before .before .before .prepare .ensures .only)) (p .given) (below i)
+    let p = first (i .before) .pre in
+    node-turn (i .before .loop .inv) (granted-prepared p (prepared (i .before))) (p .given) (below i)
 
 enum-known-step : tie.Need-enum-known-step Inv-loop μ-loop
 enum-known-step c = search needs
@@ -42,9 +70,9 @@ enum-told c = search needs
 
 -- what the loop and the node's turn leave
 left-by : (c : tie.After-pack-node Inv-loop μ-loop)
-    → let i = c .before .before .before in
-    let a = i .before .before .before .before .before .before .before .before .before .before .before .args in
-    Left (a .shape) (a .words .now) (i .before .before .before .before .prepare .last .1 .1 .1 .0)
+    → let i = c .before .before .before .before in
+    let a = first i .args in
+    Left (a .shape) (a .words .now) (i .before .before .before .prepare .last .1 .1 .1 .0)
     (c .pack-node .last .1 .1 .1 .0) (c .pack-node .last .1 .1 .1 .1 .0)
 left-by c = left-then (c .before .before .before .before .loop .inv .left) (c .pack-node .ensures .0)
 
@@ -54,15 +82,14 @@ same-length c = left-by (c .before .before .before .before .before .before) .wor
 same-length-2 : tie.Need-same-length-2 Inv-loop μ-loop
 same-length-2 c =
     let s = c .before .before .before .before .before .before in
-    left-by s .numbers .long ∙ s .before .before .before .before .before .before .before .prepare .ensures .only .long
+    left-by s .numbers .long ∙ prepared (s .before .before .before .before) .long
 
 returns : tie.Need-returns Inv-loop μ-loop
 returns c =
     let s = c .before .before .before .before .before .before in
     let i = s .before .before .before in
-    pack-odd (i .before .before .before .before .before .before .before .before .before .before .before .pre)
-    (i .before .before .before .before .prepare .ensures .only)
-    (i .before .loop .inv) (below i) (s .pack-node .ensures .0) (s .pack-node .ensures .1 .odd (c .enum-told .given .1))
+    pack-odd (first (i .before) .pre) (prepared (i .before)) (i .before .loop .inv) (below i) (s .pack-node .ensures .0)
+    (rw (c .enum-told .given .1) at (s .pack-node .ensures .1))
 
 enum-told-2 : tie.Need-enum-told-2 Inv-loop μ-loop
 enum-told-2 c = search needs
@@ -73,18 +100,19 @@ same-length-3 c = left-by (c .before .before .before .before .before .before) .w
 same-length-4 : tie.Need-same-length-4 Inv-loop μ-loop
 same-length-4 c =
     let s = c .before .before .before .before .before .before in
-    left-by s .numbers .long ∙ s .before .before .before .before .before .before .before .prepare .ensures .only .long
+    left-by s .numbers .long ∙ prepared (s .before .before .before .before) .long
 
 returns-2 : tie.Need-returns-2 Inv-loop μ-loop
 returns-2 c =
     let s = c .before .before .before .before .before .before in
     let i = s .before .before .before in
-    pack-full (i .before .before .before .before .before .before .before .before .before .before .before .pre)
-    (i .before .before .before .before .prepare .ensures .only)
-    (i .before .loop .inv) (below i) (s .pack-node .ensures .0) (s .pack-node .ensures .1 .full (c .enum-told2 .given .1))
+    pack-limit (first (i .before) .pre) (prepared (i .before)) (i .before .loop .inv) (below i) (s .pack-node .ensures .0)
+    (rw (c .enum-told2 .given .1) at (s .pack-node .ensures .1))
 
 add-n : tie.Need-add-n Inv-loop μ-loop
-add-n c = search needs
+add-n c =
+    let i = c .before .before .before .before .before .before .before .before .before .before in
+    omega (arith, below i, first (i .before) .pre .granted .sized .nodes)
 
 loop-less : tie.Need-loop-less Inv-loop μ-loop
 loop-less c = omega (arith, below (c .before .before .before .before .before .before .before .before .before .before))
@@ -93,19 +121,18 @@ loop-again : tie.Need-loop-again Inv-loop μ-loop
 loop-again c =
     let s = c .before .before .before .before .before .before .before in
     let i = s .before .before .before in
-    next-node (i .before .loop .inv) (below i) (s .pack-node .ensures .0) (s .pack-node .ensures .1 .next _ (c .before .step .given .1))
+    next-node (i .before .loop .inv) (below i) (s .pack-node .ensures .0) (rw (c .before .step .given .1) at (s .pack-node .ensures .1))
 
 same-length-5 : tie.Need-same-length-5 Inv-loop μ-loop
 same-length-5 c = c .before .loop .inv .left .words .long
 
 same-length-6 : tie.Need-same-length-6 Inv-loop μ-loop
-same-length-6 c = c .before .loop .inv .left .numbers .long ∙ c .before .before .before .before .prepare .ensures .only .long
+same-length-6 c = c .before .loop .inv .left .numbers .long ∙ prepared (c .before) .long
 
 returns-3 : tie.Need-returns-3 Inv-loop μ-loop
 returns-3 c =
     let a = c .before .loop .inv in
-    pack-axes (c .before .before .before .before .before .before .before .before .before .before .before .pre)
-    (c .before .before .before .before .prepare .ensures .only) a (omega (arith, a .count))
+    pack-axes (first (c .before) .pre) (prepared (c .before)) a (omega (arith, a .count))
 
 pub pack-spec : {M : Type 1} → statement M
 pack-spec =
@@ -113,6 +140,7 @@ pack-spec =
     (tie.spec
     Inv-loop
     μ-loop
+    relevance-requires
     prepare-requires
     loop-holds
     pack-node-requires

@@ -1,16 +1,9 @@
 -- The node is not used, or it is placed and its roots are packed. Assumes nothing.
-use mathlib.Core.Path.{_≡_, refl, sym, ap, _∙_}
-use mathlib.Core.Logic.{⊎-elim}
-use Prim.Native.Nat.{ℕ}
-use native.Mathlib.Omega.{arith}
+use mathlib.Core.Path.{refl}
 use borrow.Author.Needs.{needs}
-use denote.Enum.Declared.{tagOf}
-use Rattle.packing.specs.declared.Slots.{Slots}
-use Rattle.packing.specs.declared.Step.the-variants.{Next}
 use Rattle.packing.specs.Holding.{Left}
 use Rattle.packing.specs.Turns.{left-then}
-use Rattle.packing.specs.NodeTurn.{uses-there, node-there, turn-unused, place-there, turn-full, roots-there, turn-roots}
-use Rattle.packing.proofs.Step.{the-type}
+use Rattle.packing.specs.NodeTurn.{uses-there, node-there, turn-unused, place-there, turn-limit, roots-there, turn-roots}
 use Rattle.packing.proofs.pack_node.Statement.{statement}
 use Rattle.packing.proofs.pack_node.Tie as tie
 
@@ -35,25 +28,21 @@ place-node-requires c κs =
 enum-known-placed : tie.Need-enum-known-placed
 enum-known-placed c = search needs
 
+enum-told : tie.Need-enum-told
+enum-told c = search needs
+
 same-length-2 : tie.Need-same-length-2
-same-length-2 c = c .before .before .before .before .before .place-node .ensures .0 .words .long
+same-length-2 c = c .before .before .before .before .before .before .place-node .ensures .0 .words .long
 
 same-length-3 : tie.Need-same-length-3
-same-length-3 c = c .before .before .before .before .before .place-node .ensures .0 .numbers .long
-
--- the node got no slot
-not-next : (c : tie.At-match-keys2) (t : Slots) → c .before .before .before .before .before .place-node .result ≡ Next t → ⊥
-not-next c t e =
-    let r = c .before .before .before .before .before .place-node .result in
-    let tag : tagOf the-type (Next t) ≡ tagOf the-type r = ap (tagOf the-type) (sym e) in
-    ⊎-elim (λ w. let z : _≡_ {A = ℕ} 0 1 = tag ∙ w in omega arith) (λ w. let z : _≡_ {A = ℕ} 0 2 = tag ∙ w in omega arith) (c .match .keys2)
+same-length-3 c = c .before .before .before .before .before .before .place-node .ensures .0 .numbers .long
 
 returns-2 : tie.Need-returns-2
 returns-2 c =
-    let s = c .before .before .before .before .before in
+    let s = c .before .before .before .before .before .before in
     let e = s .before .before .before .before in
-    turn-full (e .before .before .before .before .before .before .before .before .pre) (e .before .read .ensures) (e .if1 .left)
-    (s .before .before .before .node-at .ensures) (s .place-node .ensures .0) (s .place-node .ensures .1) (not-next c)
+    turn-limit (e .before .before .before .before .before .before .before .before .pre) (e .before .read .ensures) (e .if1 .left)
+    (s .before .before .before .node-at .ensures) (s .place-node .ensures .0) (s .place-node .ensures .1) (c .enum-told .given .1)
 
 pack-roots-requires : tie.Need-pack-roots-requires
 pack-roots-requires c κs =
@@ -85,7 +74,7 @@ returns-3 c =
     let e = s .before .before .before .before in
     turn-roots (e .before .before .before .before .before .before .before .before .pre) (e .before .read .ensures) (e .if1 .left)
     (s .before .before .before .node-at .ensures) (s .place-node .ensures .0) (s .place-node .ensures .1)
-    (r .before .before .before .before .placed .given .1) (r .pack-roots .ensures .0) (r .pack-roots .ensures .1)
+    (r .before .before .before .before .placed .given .1) (r .pack-roots .result) (r .pack-roots .ensures .0) (r .pack-roots .ensures .1)
 
 pub pack-node-spec : {M : Type 1} → statement M
 pack-node-spec =
@@ -97,6 +86,7 @@ pack-node-spec =
     node-at-requires
     place-node-requires
     enum-known-placed
+    enum-told
     same-length-2
     same-length-3
     returns-2

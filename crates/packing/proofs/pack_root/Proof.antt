@@ -1,15 +1,15 @@
 -- A root that is odd is refused; else its word is interned, its axis and sign are written, and its node's use is given up. Assumes nothing.
 use native.Mathlib.Omega.{arith}
 use borrow.Author.Needs.{needs}
-use Rattle.packing.specs.RootLaws.{reference-in, held-pre, held-small, intern-pre}
+use Rattle.packing.specs.RootLaws.{reference-in, node-held, held-small, intern-pre}
 use Rattle.packing.specs.Turns.{left-none}
 use Rattle.packing.specs.RootTurn.{l-small, slots-small, axes-small, id-small}
-use Rattle.packing.specs.RootTurn.{root-odd, left-full, root-full, root-release, root-left, root-next}
+use Rattle.packing.specs.RootTurn.{root-odd, left-limit, root-limit, root-release, root-left, root-next}
 use Rattle.packing.proofs.pack_root.Statement.{statement}
 use Rattle.packing.proofs.pack_root.Tie as tie
 
 held-requires : tie.Need-held-requires
-held-requires c κs = held-pre (c .before .before .before .pre .it)
+held-requires c κs = node-held (c .before .before .before .pre .it)
 
 add-sign : tie.Need-add-sign
 add-sign c = omega (arith, held-small (c .before .before .before .before .before .pre .it) (c .before .held .ensures))
@@ -48,8 +48,8 @@ returns-2 c =
     let i = c .before .before .before .before in
     let held = i .before .before .before .before .before .before in
     let full = c .enum-told .given .1 in (
-      left-full (held .before .before .before .before .pre .it) (held .held .ensures) (i .intern .ensures) full,
-      λ p h. root-full h (held .held .ensures) (i .intern .ensures) (i .before .before .before .before .if1 .left) full,
+      left-limit (held .before .before .before .before .pre .it) (held .held .ensures) (i .intern .ensures) full,
+      λ p h. root-limit h (held .held .ensures) (i .intern .ensures) (i .before .before .before .before .if1 .left) full,
     )
 
 cast-write : tie.Need-cast-write

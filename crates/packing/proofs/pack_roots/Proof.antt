@@ -4,17 +4,17 @@ use Prim.Native.Nat.{suc, _+_, _-_, _*_}
 use Rattle.packing.specs.Holding.{Left}
 use Rattle.packing.specs.Turns.{left-then}
 use Rattle.packing.specs.RootsLoop.{Along, referencesLeft, first-there, along-first, phase-there, root-there, next-there}
-use Rattle.packing.specs.RootsLoop.{along-next, next-later, along-odd, along-full, along-end}
+use Rattle.packing.specs.RootsLoop.{along-next, next-later, along-odd, along-limit, along-end}
 use native.Mathlib.Omega.{arith}
 use borrow.Author.Needs.{needs}
 use Rattle.packing.proofs.pack_roots.Statement.{statement}
 use Rattle.packing.proofs.pack_roots.Tie as tie
 
 abbrev Inv-loop : tie.InvT-loop
-Inv-loop os rs ws₀ xs₀ z n first link₀ ws xs st link = Along z first n os rs ws₀ xs₀ ws xs st link
+Inv-loop os rs ws₀ xs₀ z n placed link₀ ws xs st link = Along z placed n os rs ws₀ xs₀ ws xs st link
 
 abbrev μ-loop : tie.MeasureT-loop
-μ-loop os rs ws₀ xs₀ z n first link₀ ws xs st link = referencesLeft (z .operations + 2 * z .qubits) link
+μ-loop os rs ws₀ xs₀ z n placed link₀ ws xs st link = referencesLeft (z .operations + 2 * z .qubits) link
 
 read-requires : tie.Need-read-requires Inv-loop μ-loop
 read-requires c κs = first-there (c .before .before .before .before .before .pre)
@@ -33,7 +33,8 @@ sub-root : tie.Need-sub-root Inv-loop μ-loop
 sub-root c = omega arith
 
 reference-phase-requires : tie.Need-reference-phase-requires Inv-loop μ-loop
-reference-phase-requires c κs = phase-there (c .before .loop .inv) (linked c) (c .before .before .before .before .before .before .before .before .pre)
+reference-phase-requires c κs =
+    phase-there (c .before .loop .inv) (linked c) (c .before .before .before .before .before .before .before .before .pre)
 
 pack-root-requires : tie.Need-pack-root-requires Inv-loop μ-loop
 pack-root-requires c κs =
@@ -79,14 +80,15 @@ returns-2 : tie.Need-returns-2 Inv-loop μ-loop
 returns-2 c =
     let s = c .before .before .before .before .before .before in
     let i = s .before .before .before .before in
-    along-full (i .before .loop .inv) (linked i) (s .before .before .before .reference-phase .ensures) (s .pack-root .ensures .0)
+    along-limit (i .before .loop .inv) (linked i) (s .before .before .before .reference-phase .ensures) (s .pack-root .ensures .0)
     (s .pack-root .ensures .1) (c .enum-told2 .given .1)
 
 read-requires-2 : tie.Need-read-requires-2 Inv-loop μ-loop
 read-requires-2 c κs =
     let s = c .before .before .before .before .before .before .before .before in
     let i = s .before .before .before .before in
-    next-there (i .before .loop .inv) (linked i) (i .before .before .before .before .before .before .before .before .pre) (s .pack-root .ensures .0)
+    next-there (i .before .loop .inv) (linked i) (i .before .before .before .before .before .before .before .before .pre)
+    (s .pack-root .ensures .0)
 
 cast-next-2 : tie.Need-cast-next-2 Inv-loop μ-loop
 cast-next-2 c = search needs

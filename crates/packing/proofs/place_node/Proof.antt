@@ -1,7 +1,7 @@
 -- The needs of each call, and how the turn ends, from the steps of specs/Place.antt. Assumes nothing.
 use mathlib.Core.Path.{sym, _∙_}
 use borrow.Author.Needs.{needs}
-use Rattle.packing.specs.Place.{evaluate-pre, children-pre, take-pre, keep-pre, place-next, left-next, place-full, left-full}
+use Rattle.packing.specs.Place.{evaluate-pre, children-pre, take-pre, keep-pre, place-next, left-next, place-limit, left-limit}
 use Rattle.packing.proofs.place_node.Statement.{statement}
 use Rattle.packing.proofs.place_node.Tie as tie
 
@@ -59,8 +59,8 @@ returns-2 c =
     let t = c .before .before in
     let r = t .before .before .before .before in
     let e = r .before .before .before .before in (
-      left-full (e .before .before .before .before .before .pre .it) (e .evaluate .ensures) (r .release-children .ensures),
-      λ p h. place-full h (e .evaluate .ensures) (r .release-children .ensures) (sym (t .take-slot .ensures) ∙ c .enum-told .given .1),
+      left-limit (e .before .before .before .before .before .pre .it) (e .evaluate .ensures) (r .release-children .ensures),
+      λ p h. place-limit h (e .evaluate .ensures) (r .release-children .ensures) (sym (t .take-slot .ensures) ∙ c .enum-told .given .1),
     )
 
 pub place-node-spec : {M : Type 1} → statement M

@@ -4,19 +4,15 @@ use Rattle.packing_exports.specs.Calls.{check-number}
 use Rattle.packing_exports.proofs.werdutxa_check.Statement.{statement}
 use Rattle.packing_exports.proofs.werdutxa_check.Tie as tie
 
--- src/lib.rt:34:9
 defaults-requires : tie.Need-defaults-requires
 defaults-requires c κs = search needs
 
--- src/lib.rt:32:9
 checking-requires : tie.Need-checking-requires
 checking-requires c κs = search needs
 
--- src/lib.rt:43:5
 number-of-requires : tie.Need-number-of-requires
 number-of-requires c κs = search needs
 
--- src/lib.rt:9:1
 returns : tie.Need-returns
 returns c = check-number _ _ _ (c .before .before .defaults .ensures) (c .before .checking .ensures) (c .number-of .ensures)
 

@@ -1,57 +1,59 @@
 -- Both children's words are within the limit, so the product's place, behind it, meets neither. Assumes nothing.
 use Prim.Native.Nat.{_<_}
-use Rattle.packing.specs.ValueLaws.{from-two, stored-pre, phases-small, evaluated-product}
+use Rattle.records.specs.Records.{product-kind}
+use Rattle.packing.specs.ValueLaws.{stored-pre, phases-small, evaluated-product}
 use native.Mathlib.Omega.{arith}
 use borrow.Author.Needs.{needs}
 use Rattle.packing.proofs.values.evaluate_product.Statement.{statement}
 use Rattle.packing.proofs.values.evaluate_product.Tie as tie
-use Rattle.packing.proofs.values.evaluate_product.Reads as reads
-use Rattle.packing.proofs.values.evaluate_product.Lts as lts
-use Rattle.packing.proofs.values.held.Reads as held-reads
-use Rattle.product.proofs.product_in.Reads as product-in-reads
 
 -- the phases that are summed are small
-small : (f : lts.After-product-in (held-reads.Asked, held-reads.Learnt, product-in-reads.Asked, product-in-reads.Learnt) reads.Pre reads.Post)
-    → (f .product-in .result .0 < 4) × (f .before .before .before .before .held .result .phase < 4) × (f .before .before .held2 .result .phase < 4)
+small : (f : tie.After-product-in)
+    → let b = f .before .before .before in
+    (f .product-in .result .0 < 4) × (b .before .before .held .result .phase < 4) × (b .held2 .result .phase < 4)
 small f =
-    let p = f .before .before .before .before .before .before .before .before .pre in
-    let a = f .before .before .before .before .held .ensures in
-    phases-small _ _ (p .0) (from-two (p .1)) a (f .before .before .held2 .ensures) (f .product-in .ensures)
+    let b = f .before .before .before in
+    let p = b .before .before .before .before .before .before .pre in
+    phases-small _ _ _ (p .0) (product-kind _ .0 (p .1)) (b .before .before .held .ensures) (b .held2 .ensures) (f .product-in .ensures)
 
 cast-held : tie.Need-cast-held
 cast-held c = search needs
 
 held-requires : tie.Need-held-requires
-held-requires c κs = let p = c .before .before .before .pre in p .0 .first (from-two (p .1))
+held-requires c κs = let p = c .before .before .before .pre in p .0 .first (product-kind _ .0 (p .1))
 
 cast-held-2 : tie.Need-cast-held-2
 cast-held-2 c = search needs
 
 held-requires-2 : tie.Need-held-requires-2
-held-requires-2 c κs = let p = c .before .before .before .before .before .pre in p .0 .second (from-two (p .1))
+held-requires-2 c κs = let p = c .before .before .before .before .before .pre in p .0 .second (product-kind _ .0 (p .1))
+
+scratch-at-requires : tie.Need-scratch-at-requires
+scratch-at-requires c κs = search needs
 
 product-in-requires : tie.Need-product-in-requires
 product-in-requires c κs =
-    let p = c .before .before .before .before .before .before .before .pre in
-    stored-pre _ _ (p .0) (from-two (p .1)) (c .before .before .before .held .ensures) (c .before .held2 .ensures)
+    let b = c .before .before in
+    let p = b .before .before .before .before .before .before .pre in
+    stored-pre _ _ _ (p .0) (product-kind _ .0 (p .1)) (b .before .before .held .ensures) (b .held2 .ensures) (c .before .scratch-at .ensures)
 
-cast-t11 : tie.Need-cast-t11
-cast-t11 c = search needs
+cast-t12 : tie.Need-cast-t12
+cast-t12 c = search needs
 
-add-t12 : tie.Need-add-t12
-add-t12 c = omega (arith, small (c .before .before .before .before))
-
-add-t14 : tie.Need-add-t14
-add-t14 c = omega (arith, small (c .before .before .before .before .before))
+add-t13 : tie.Need-add-t13
+add-t13 c = omega (arith, small (c .before .before .before .before))
 
 add-t15 : tie.Need-add-t15
-add-t15 c = omega (arith, small (c .before .before .before .before .before .before))
+add-t15 c = omega (arith, small (c .before .before .before .before .before))
 
-add-t17 : tie.Need-add-t17
-add-t17 c = omega (arith, small (c .before .before .before .before .before .before .before))
+add-t16 : tie.Need-add-t16
+add-t16 c = omega (arith, small (c .before .before .before .before .before .before))
 
-cast-t19 : tie.Need-cast-t19
-cast-t19 c = search needs
+add-t18 : tie.Need-add-t18
+add-t18 c = omega (arith, small (c .before .before .before .before .before .before .before))
+
+cast-t20 : tie.Need-cast-t20
+cast-t20 c = search needs
 
 same-length : tie.Need-same-length
 same-length c = search needs
@@ -59,9 +61,10 @@ same-length c = search needs
 returns : tie.Need-returns
 returns c =
     let f = c .before .before .before .before .before .before .before in
-    let p = f .before .before .before .before .before .before .before .before .pre .1 in
-    let a = f .before .before .before .before .held .ensures in
-    evaluated-product _ _ (p .0) (p .1) a (f .before .before .held2 .ensures) (f .product-in .ensures)
+    let b = f .before .before .before in
+    let p = b .before .before .before .before .before .before .pre .1 in
+    evaluated-product _ _ _ (p .0) (p .1) (b .before .before .held .ensures) (b .held2 .ensures) (f .before .before .scratch-at .ensures)
+    (f .product-in .ensures)
 
 pub evaluate-product-spec : {M : Type 1} → statement M
 evaluate-product-spec =
@@ -71,12 +74,13 @@ evaluate-product-spec =
     held-requires
     cast-held-2
     held-requires-2
+    scratch-at-requires
     product-in-requires
-    cast-t11
-    add-t12
-    add-t14
+    cast-t12
+    add-t13
     add-t15
-    add-t17
-    cast-t19
+    add-t16
+    add-t18
+    cast-t20
     same-length
     returns)

@@ -4,6 +4,9 @@ use borrow.Author.Needs.{needs}
 use Rattle.packing.proofs.values.keep.Statement.{statement}
 use Rattle.packing.proofs.values.keep.Tie as tie
 
+scratch-at-requires : tie.Need-scratch-at-requires
+scratch-at-requires c κs = search needs
+
 slot-at-requires : tie.Need-slot-at-requires
 slot-at-requires c κs = search needs
 
@@ -11,7 +14,10 @@ mul-copy-within : tie.Need-mul-copy-within
 mul-copy-within c = search needs
 
 copy-within-requires : tie.Need-copy-within-requires
-copy-within-requires c κs = keep-apart (c .before .before .before .before .before .pre) _ (c .before .before .slot-at .ensures)
+copy-within-requires c κs =
+    let s = c .before .before in
+    let o = s .before in
+    keep-apart (o .before .before .before .pre) _ _ (o .scratch-at .ensures) (s .slot-at .ensures)
 
 cast-write : tie.Need-cast-write
 cast-write c = search needs
@@ -35,14 +41,16 @@ returns : tie.Need-returns
 returns c =
     let g = c .before .before in
     let f = g .before .before .before .before .before .before .before .before .before in
-    let p = f .before .before .before .before .before .before .pre in
+    let s = f .before .before .before in
+    let o = s .before in
     let w = g .before .before .before .before .before .write .ensures in
-    kept p _ (f .before .before .before .slot-at .ensures) (f .copy-within .ensures) w (g .write2 .ensures)
+    kept (o .before .before .before .pre) _ _ (o .scratch-at .ensures) (s .slot-at .ensures) (f .copy-within .ensures) w (g .write2 .ensures)
 
 pub keep-spec : {M : Type 1} → statement M
 keep-spec =
     tie.close
     (tie.spec
+    scratch-at-requires
     slot-at-requires
     mul-copy-within
     copy-within-requires

@@ -1,5 +1,5 @@
 -- Three cases: a free slot, none within the limit, or a new one. Assumes nothing.
-use Rattle.packing.specs.ValueLaws.{taken-free, taken-full, taken-new}
+use Rattle.packing.specs.ValueLaws.{taken-free, taken-limit, taken-new}
 use borrow.Author.Needs.{needs}
 use Rattle.packing.proofs.values.take_slot.Statement.{statement}
 use Rattle.packing.proofs.values.take_slot.Tie as tie
@@ -32,7 +32,7 @@ add-if2-2 : tie.Need-add-if2-2
 add-if2-2 c = search needs
 
 returns-2 : tie.Need-returns-2
-returns-2 c = taken-full _ _ _ (c .before .before .before .before .before .if1 .left) (c .if2 .taken)
+returns-2 c = taken-limit _ _ _ (c .before .before .before .before .before .if1 .left) (c .if2 .taken)
 
 add-t10 : tie.Need-add-t10
 add-t10 c = search needs

@@ -1,5 +1,6 @@
 -- What Checking grants by accepting. Assumes nothing.
-use Rattle.packing_main.specs.Passed.{answered, sizes, accepted}
+use Rattle.packing.specs.Checked.{answered, checked-sizes, checked-pack}
+use native.Mathlib.Omega.{arith}
 use borrow.Author.Needs.{needs}
 use Rattle.packing_main.proofs.job.check_and_pack.Statement.{statement}
 use Rattle.packing_main.proofs.job.check_and_pack.Tie as tie
@@ -24,13 +25,22 @@ returns c = search needs
 
 shape-of-requires : tie.Need-shape-of-requires
 shape-of-requires c κs =
-    sizes _ _ _ (answered _ _ _ (c .before .before .checking .ensures) (c .before .number-of .ensures) (c .if1 .left))
+    checked-sizes _ _ _ (answered _ _ _ (c .before .before .checking .ensures) (c .before .number-of .ensures) (c .if1 .left))
 
 pack-requires : tie.Need-pack-requires
 pack-requires c κs =
     let d = c .before .before .before in
     rw (c .before .before .shape-of .ensures)
-    (accepted _ _ _ (answered _ _ _ (d .before .before .checking .ensures) (d .before .number-of .ensures) (d .if1 .left)))
+    (checked-pack _ _ _ (answered _ _ _ (d .before .before .checking .ensures) (d .before .number-of .ensures) (d .if1 .left)))
+
+packed-requires : tie.Need-packed-requires
+packed-requires c κs =
+    let d = c .before .before .before .before .before .before in
+    let g = pack-requires (d .before) (d .pack .lifetimes) .granted in
+    let n = g .numbers-long in
+    let r = g .sized .row in
+    let f = g .sized .few in
+    omega arith
 
 same-length-3 : tie.Need-same-length-3
 same-length-3 c = search needs
@@ -53,6 +63,7 @@ check-and-pack-spec =
     returns
     shape-of-requires
     pack-requires
+    packed-requires
     same-length-3
     same-length-4
     returns-2)

@@ -1,0 +1,46 @@
+// Jobs of the oracle: reading them, and what a job is lent. See oracle/README.md.
+ghost use Prim.Native.Nat.{_<_, _≤_};
+ghost use lib.ListN.{length};
+ghost use Rattle.jobs.specs.Within.{Within};
+use model::Counts;
+use model::Options;
+
+mod lend;
+mod read;
+
+pub use lend::Lent;
+pub use lend::part;
+pub use read::past_blanks;
+
+// A job that is read: its counts and options, what it is lent, and the place of the next job.
+pub struct Job {
+    pub counts: Counts,
+    pub options: Options,
+    pub lent: Lent,
+    pub next: usize,
+}
+
+// The place of the next job; the end, where that is not behind the job's own.
+fn behind(from: usize, next: usize, end: usize) -> usize
+    requires { ⌜ (from < end) × (next ≤ end) ⌝ }
+    ensures { λ r. ⌜ (from < r) × (r ≤ end) ⌝ }
+{
+    if from < next { next } else { end }
+}
+
+// Reads the job at a place of the input, its records into memory for all of them; words and numbers say how much room the stores have.
+pub fn read_job(s: &[u8], from: usize, records: &mut [u32], words: usize, numbers: usize) -> Job
+    requires { ⌜ from < length (now s) ⌝ }
+    ensures { λ r. ⌜ (from < r .next) × (r .next ≤ length (now (s .entry))) × Within (r .lent) (length (now (records .entry))) words numbers ⌝ }
+{
+    let h = read::read_header(s, from);
+    let size = lend::following(h, records.len());
+    let end = read::numbers(s, h.next, size.nodes + size.operations + size.rows, records);
+    let next = behind(from, past_blanks(s, end), s.len());
+    Job {
+        counts: read::counts(h),
+        options: read::options(h),
+        lent: lend::lend(h, size, records.len(), words, numbers),
+        next,
+    }
+}

@@ -1,6 +1,0 @@
--- A fact of some program: what a function demands that does not see the whole program. Assumes nothing.
-use Rattle.model.specs.Program.{Program}
-
-pub record Some (P : Program → Type 0) : Type 0 where
-  pub p : Program
-  pub it : P p
