@@ -18,7 +18,7 @@ use Rattle.axes.specs.declared.Interned.the-variants.{Id, Full}
 
 -- the words that are counted when one is stored behind n axes
 abbrev pub sumWith : ℕ → ℕ → ℕ → ℕ
-sumWith l others n = n * (2 * l) + 2 * l + others
+sumWith l others n = axisPlace l n + 2 * l + others
 
 -- what storing demands: the word stands behind the limit, or among the other words that are counted, which end at the limit
 pub record InternPre (l others limit n : ℕ) (s : List ℕ) (at : ℕ) : Type 0 where
@@ -77,11 +77,11 @@ module _ (l others limit n : ℕ) (s w : List ℕ) where
   unfolding internAnswer
   answer-full h = sym (if-true _ _ (lt-ltb limit (intern l others (untested (axesOf l n s)) w .peak) h))
 
-  pub laid-old : (id : ℕ) → id < n → laidBy (Id id) l n s w ≡ s
+  laid-old : (id : ℕ) → id < n → laidBy (Id id) l n s w ≡ s
   unfolding laidBy
   laid-old id h = if-true _ _ (lt-ltb _ _ h)
 
-  pub laid-new : (id : ℕ) → n ≤ id → laidBy (Id id) l n s w ≡ put s (axisPlace l n) w
+  laid-new : (id : ℕ) → n ≤ id → laidBy (Id id) l n s w ≡ put s (axisPlace l n) w
   unfolding laidBy
   laid-new id h = if-false _ _ (le-ltb _ _ h)
 

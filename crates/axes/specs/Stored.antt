@@ -25,7 +25,7 @@ pub record HasId (l others limit n : ℕ) (s : List ℕ) (st : Store) (w : List 
   pub id-is : id ≡ idOf (st .axes) w
   pub axes-are : axesOf l (countWith n id) t ≡ intern l others st w .axes
   pub fits : intern l others st w .peak ≤ limit
-  pub room : n * (2 * l) + others ≤ limit → countWith n id * (2 * l) + others ≤ limit
+  pub room : axisPlace l n + others ≤ limit → axisPlace l (countWith n id) + others ≤ limit
   pub long : length t ≡ length s
   pub rest : (b m : ℕ) → limit ≤ b + others → b + m ≤ length s → part t b m ≡ part s b m
 
@@ -51,7 +51,7 @@ no-id : {a : ℕ} → Full ≡ Id a → ⊥
 unfolding isFull
 no-id e = true≢false (ap isFull e)
 
-one-more : (l n : ℕ) → (n + 1) * (2 * l) ≡ n * (2 * l) + 2 * l
+one-more : (l n : ℕ) → axisPlace l (n + 1) ≡ axisPlace l n + 2 * l
 one-more l n = rw (add-one n) (omega (arith, suc-mul n (2 * l)))
 
 module _ (l others limit n : ℕ) (s : List ℕ) (at : ℕ) (pre : InternPre l others limit n s at) (st : Store)
@@ -70,7 +70,7 @@ module _ (l others limit n : ℕ) (s : List ℕ) (at : ℕ) (pre : InternPre l o
         id-is = e ∙ sym found;
         axes-are = ap (λ (c : ℕ). axesOf l c s) (sym (count-old n id (omega arith))) ∙ sym (ap (λ (x : Store). x .axes) k ∙ held);
         fits = omega (arith, ap (λ (x : Store). x .peak) k);
-        room = subst (λ (c : ℕ). c * (2 * l) + others ≤ limit) (count-old n id (omega arith));
+        room = subst (λ (c : ℕ). axisPlace l c + others ≤ limit) (count-old n id (omega arith));
         long = refl;
         rest = λ b m i j. refl;
       }
@@ -89,7 +89,7 @@ module _ (l others limit n : ℕ) (s : List ℕ) (at : ℕ) (pre : InternPre l o
             ∙ ap (λ (axes : List (List ℕ)). axes ++ (wordAt l s at ∷ [])) (sym held)
             ∙ sym (ap (λ (x : Store). x .axes) k);
         fits = omega (arith, ap (λ (x : Store). x .peak) k, sum);
-        room = λ k. subst (λ (c : ℕ). c * (2 * l) + others ≤ limit) (count-new n id f) (omega (arith, one-more l n));
+        room = λ k. subst (λ (c : ℕ). axisPlace l c + others ≤ limit) (count-new n id f) (omega (arith, one-more l n));
         long = put-length s (axisPlace l n) (wordAt l s at) (omega (arith, pre .inside));
         rest = λ b m i j. part-put-apart s (axisPlace l n) (wordAt l s at) b m (omega (arith, pre .inside)) j (inl (omega arith));
       }

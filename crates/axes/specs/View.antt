@@ -7,7 +7,7 @@ use native.Mathlib.Nat.{mul-div-cancel}
 use native.Mathlib.Omega.{arith}
 use lib.ListN.{length}
 use Rattle.store.specs.Part.{part, put, part-length}
-use Rattle.store.specs.Chunk.{chunks, chunks-length, chunks-at, chunk-in, chunks-apart, chunks-put}
+use Rattle.store.specs.Chunk.{chunks, chunks-length, chunks-at, chunks-apart, chunks-put}
 use Rattle.pauli.specs.Word.{anticommutes}
 use Rattle.model.specs.Words.{wordOf, anticommute}
 use Rattle.layout.specs.Words.{axisPlace}
@@ -22,10 +22,6 @@ wordAt l s b = part s b (2 * l)
 pub axes-length : (l n : ℕ) (s : List ℕ) → length (axesOf l n s) ≡ n
 unfolding axesOf
 axes-length l n s = chunks-length (2 * l) n s
-
--- axis a ends within the axes
-pub axis-in : (l n a : ℕ) → a < n → axisPlace l a + 2 * l ≤ axisPlace l n
-axis-in l n a h = chunk-in (2 * l) n a h
 
 pub axis-word : (l n : ℕ) (s : List ℕ) (a : ℕ) → a < n → wordOf (axesOf l n s) a ≡ wordAt l s (axisPlace l a)
 unfolding axesOf

@@ -54,7 +54,7 @@ pub fn following(h: Header, room: usize) -> Size
     }
 }
 
-// How long a slice of the program is lent: as long as it was read, or one short where the slack is 10,000 or more.
+// How long a slice of the program is lent: as long as it was read, less 1 for each 10,000 of the slack.
 fn program_length(read: usize, slack: u32) -> usize
     ensures { λ r. ⌜ r ≤ read ⌝ }
 {

@@ -12,7 +12,7 @@ use borrow.Author.Tests.{eqb-true, eqb-false}
 use Rattle.bits.specs.Bit.{zero-bit}
 use Rattle.pauli.specs.Word.{width, IsWord, symplectic}
 use Rattle.pauli.specs.Letter.{letterOf, letterAt}
-use Rattle.pauli.specs.LetterLaws.{letterMul, letter-xor, single-elsewhere, identity-letter}
+use Rattle.pauli.specs.LetterLaws.{width-holds, letterMul, letter-xor, single-elsewhere, identity-letter}
 use Rattle.model.specs.Lists.{anyOf, member}
 use Rattle.model.specs.Program.{Node, identity, letter, product, Operation, PauliRef, Program}
 use Rattle.model.specs.Words.{Value, asValue, scaled, multiply}
@@ -110,10 +110,7 @@ pub value-within : (p : Program) → Fine p → (n q : ℕ) → q < 64 * width (
 unfolding values mentions
 value-within p fine n =
     within-at (width (p .qubits)) (valuesOf p) (mentions (p .nodes)) n
-    (from-within (width (p .qubits)) (p .qubits) [] [] (p .nodes) (fits (p .qubits)) (fine .leaves) tt)
-  where
-    fits : (q : ℕ) → q ≤ 64 * width q
-    fits q = unfold width in (omega arith)
+    (from-within (width (p .qubits)) (p .qubits) [] [] (p .nodes) (width-holds (p .qubits)) (fine .leaves) tt)
 
 -- ---- rows that are no roots
 

@@ -31,7 +31,7 @@ limit-fits o h =
     ltb-false _ _ (neither others (ltb 1048576 (o .«max_packed_words»)) h .1)
 
 -- a width that 4,096 qubits have
-pub width-fits : (q w : ℕ) → q ≤ 4096 → w ≡ width q → (0 < w) × (w ≤ 64)
+width-fits : (q w : ℕ) → q ≤ 4096 → w ≡ width q → (0 < w) × (w ≤ 64)
 unfolding width
 width-fits q w h e = (omega arith, omega arith)
 

@@ -11,6 +11,7 @@ use Rattle.model.specs.declared.Counts.{Counts}
 use Rattle.model.specs.declared.Options.{Options}
 use Rattle.model.specs.declared.Answer.the-variants.{Accepted}
 use Rattle.model.specs.Program.{Job}
+use Rattle.pauli.specs.LetterLaws.{width-holds}
 use Rattle.model.specs.Checking.{Lent, badCount, wordsAsked, numbersAsked, lentShort, checking}
 use Rattle.theory.specs.Cases.{neither}
 use borrow.Author.Tests.{ltb-false}
@@ -57,14 +58,18 @@ pub record Granted (z : Shape) (ws xs : List ℕ) : Type 0 where
   pub words-long : z .limit + scratchWidths * z .l ≤ length ws
   pub numbers-long : rowCount * z .u ≤ length xs
 
+-- stores as long
+pub granted-same : {z : Shape} {ws xs ws′ xs′ : List ℕ} → Granted z ws xs → length ws′ ≡ length ws → length xs′ ≡ length xs
+    → Granted z ws′ xs′
+granted-same g a b = record {
+  sized = g .sized;
+  words-long = omega (arith, g .words-long);
+  numbers-long = omega (arith, g .numbers-long);
+}
+
 -- n words that the limit holds are no more than its div by a word's length
 words-in : (most w n : ℕ) → 0 < w → n * (2 * w) ≤ most → n ≤ most / (2 * w)
 words-in most w n h k = le-div-iff-mul-le (let p : 0 < 2 * w = omega arith in p) .1 k
-
--- the qubits have their bits
-width-holds : (q : ℕ) → q ≤ 64 * width q
-unfolding width
-width-holds q = omega arith
 
 -- refusals 1 and 2 grant the sizes
 pub sized : (c : Counts) (limit : ℕ) → badCount c ≡ false → limit ≤ 1048576 → Sized (shapeOf c limit)
@@ -91,7 +96,7 @@ pub sized-by : {z : Shape} (c : Counts) (limit : ℕ) → badCount c ≡ false �
 sized-by c limit h k e = rw e (sized c limit h k)
 
 -- refusal 3 grants the lengths
-pub granted : (c : Counts) (limit : ℕ) (s : Lent) → badCount c ≡ false → limit ≤ 1048576 → lentShort c s limit ≡ false
+granted : (c : Counts) (limit : ℕ) (s : Lent) → badCount c ≡ false → limit ≤ 1048576 → lentShort c s limit ≡ false
     → Granted (shapeOf c limit) (s .words) (s .numbers)
 unfolding shapeOf rowLength lentShort wordsAsked numbersAsked
 granted c limit s h k m =

@@ -31,7 +31,7 @@ pub slot-ends : (limit l s : ℕ) → s * (2 * l) + 2 * l ≤ limit → slotPlac
 unfolding slotPlace
 slot-ends limit l s h = omega arith
 
--- slot s is among n
+-- word s, a slot or an axis, is among n
 pub slots-le : (l s n : ℕ) → s < n → s * (2 * l) + 2 * l ≤ n * (2 * l)
 slots-le l s n h = chunk-in (2 * l) n s h
 

@@ -16,7 +16,7 @@ use Rattle.theory.specs.Checked.{LeafIn}
 use Rattle.records.specs.declared.NodeRecord.{NodeRecord}
 use Rattle.records.specs.Records.{nodeRecord, said-identity, said-letter, said-product}
 use Rattle.records.specs.Nodes.{nodesIn, nodeHere, nodes-count, node-here}
-use Rattle.layout.specs.Rows.{mark, acted, written-row}
+use Rattle.layout.specs.Rows.{rowCount, mark, acted, written-row}
 use Rattle.layout.specs.Only.{Only, only-none, only-of, only-then, only-written}
 use Rattle.packing_states.specs.NodeRows.{children-here}
 use Rattle.mentions.specs.Marks.{isSet, set-zero, set-nonzero, marked-at, someMarked, someBelow, marked-more}
@@ -109,7 +109,7 @@ module _ {ns : List ℕ} {u n : ℕ} {s : List ℕ} where
           let g = said-here ns n x here _ (said-product x i k) in
           let inside = children-inside h x here i k in
           let one = only-written (h .node .long) (omega arith) (inside .0) w in
-          let long : 24 * u ≤ length v = (let l = h .node .long in let o = one .long in omega arith) in
+          let long : rowCount * u ≤ length v = (let l = h .node .long in let o = one .long in omega arith) in
           let both = only-then one (only-written long (omega arith) (inside .1) y) in
           record {
             only = only-of (mark ∷ acted ∷ []) refl both;
@@ -168,9 +168,9 @@ down-step {ns} {u} {count} {n} {s} {t} {v} h z b m w =
     let i = n - 1 in
     let below : i < count = omega arith in
     let next : suc i ≡ n = omega arith in
-    let long : 24 * u ≤ length t = (let l = h .nodes .long in let e = m .only .long in omega arith) in
-    let wide : length (row t u acted) ≡ u = row-length t u 24 acted long (omega arith) in
-    let wide-marks : length (row t u mark) ≡ u = row-length t u 24 mark long (omega arith) in
+    let long : rowCount * u ≤ length t = (let l = h .nodes .long in let e = m .only .long in omega arith) in
+    let wide : length (row t u acted) ≡ u = row-length t u rowCount acted long (omega arith) in
+    let wide-marks : length (row t u mark) ≡ u = row-length t u rowCount mark long (omega arith) in
     let inside : i < length (nodesIn count ns) = omega (arith, nodes-count count ns) in
     let fits : i ≤ length (row t u mark) = (let f = h .nodes .fits in omega arith) in
     record {

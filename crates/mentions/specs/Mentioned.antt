@@ -10,8 +10,8 @@ use Rattle.model.specs.Program.{Node, identity, letter, product}
 use Rattle.model.specs.Value.{nodeMentions, mentionsAt, mentionsFrom, mentions}
 use Rattle.theory.specs.Lists.{any-append}
 use Rattle.theory.specs.Every.{Every, every-append, every-one}
-use Rattle.theory.specs.PackedRoots.{ChildrenBefore, Ordered}
-use Rattle.theory.specs.ByNode.{all-own}
+use Rattle.theory.specs.PackedRoots.{Ordered}
+use Rattle.theory.specs.ByNode.{OfChildren, all-own}
 use Rattle.theory.specs.Checked.{LeafIn}
 
 -- ---- tests of lists
@@ -33,12 +33,11 @@ any-flatten q f (x ∷ xs) =
 -- ---- mentions
 
 -- a node's mentions ask for its children's only
-node-same : (n : ℕ) (f g : ℕ → List ℕ) (node : Node) → ChildrenBefore n node → ((i : ℕ) → i < n → f i ≡ g i)
-    → nodeMentions f node ≡ nodeMentions g node
+node-same : (f g : ℕ → List ℕ) (node : Node) → OfChildren (λ i. f i ≡ g i) node → nodeMentions f node ≡ nodeMentions g node
 unfolding nodeMentions
-node-same n f g identity b h = refl
-node-same n f g (letter q c) b h = refl
-node-same n f g (product a p c r) b h = ap₂ _++_ (h a (b .0)) (h c (b .1))
+node-same f g identity h = refl
+node-same f g (letter q c) h = refl
+node-same f g (product a p b r) h = ap₂ _++_ (h .0) (h .1)
 
 -- what a node mentions: its qubit, or what its children mention
 pub mentions-own : (nodes : List Node) → Ordered 0 nodes → (n : ℕ) → n < length nodes

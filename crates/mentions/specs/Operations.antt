@@ -9,7 +9,7 @@ use Rattle.store.specs.Row.{row, Written}
 use Rattle.store.specs.Chunk.{chunk-in}
 use Rattle.records.specs.declared.OperationRecord.{OperationRecord}
 use Rattle.records.specs.Records.{operationRecord}
-use Rattle.layout.specs.Rows.{mark, written-row}
+use Rattle.layout.specs.Rows.{rowCount, mark, written-row}
 use Rattle.layout.specs.Only.{Only, only-none, only-then, only-written}
 use Rattle.mentions.specs.Marks.{someBelow, someMarked, marked-more}
 
@@ -19,7 +19,7 @@ nodeOfOperation os i = operationRecord os i .node
 
 -- each operation has its record, and its node an entry in a row
 pub record OperationsPre (os : List ℕ) (u count : ℕ) (xs : List ℕ) : Type 0 where
-  pub numbers-long : 24 * u ≤ length xs
+  pub numbers-long : rowCount * u ≤ length xs
   pub operations-long : count * 6 ≤ length os
   pub inside : (i : ℕ) → i < count → nodeOfOperation os i < u
 
@@ -52,7 +52,7 @@ pub marked-next : {os : List ℕ} {u count i : ℕ} {s t v : List ℕ} → Opera
 unfolding markedBy
 marked-next {os} {u} {count} {i} {s} {t} {v} h b m x here w =
     let inside = node-inside h b x here in
-    let long : 24 * u ≤ length t = (let e = m .only .long in let l = h .numbers-long in omega arith) in
+    let long : rowCount * u ≤ length t = (let e = m .only .long in let l = h .numbers-long in omega arith) in
     let e : i + 1 ≡ suc i = omega arith in
     rw e (record {
       only = only-then (m .only) (only-written long (omega arith) inside w);

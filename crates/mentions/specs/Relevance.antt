@@ -3,7 +3,7 @@ use mathlib.Core.List.{List, [], _∷_}
 use Prim.Native.Nat.{ℕ, _*_, _≤_}
 use lib.ListN.{length}
 use Rattle.layout.specs.declared.Shape.{Shape}
-use Rattle.layout.specs.Rows.{mark, acted, relevantRow}
+use Rattle.layout.specs.Rows.{rowCount, mark, acted, relevantRow}
 use Rattle.layout.specs.Only.{Only}
 use Rattle.layout.specs.Shape.{Sized}
 use Rattle.records.specs.Given.{programIn, Given}
@@ -14,7 +14,7 @@ pub record RelevancePre (z : Shape) (ns os xs : List ℕ) : Type 0 where
   pub sized : Sized z
   pub rows : List ℕ
   pub given : Given z ns os rows
-  pub numbers-long : 24 * z .u ≤ length xs
+  pub numbers-long : rowCount * z .u ≤ length xs
 
 -- the rows that it writes
 abbrev pub relevanceRows : List ℕ

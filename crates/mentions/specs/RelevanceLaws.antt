@@ -15,7 +15,7 @@ use Rattle.model.specs.Roots.{actedOn, relevant}
 use Rattle.theory.specs.Every.{Every, every-weaken}
 use Rattle.theory.specs.Checked.{LeafIn}
 use Rattle.layout.specs.declared.Shape.{Shape}
-use Rattle.layout.specs.Rows.{mark, acted}
+use Rattle.layout.specs.Rows.{rowCount, mark, acted}
 use Rattle.layout.specs.Only.{Only, only-of, only-then}
 use Rattle.records.specs.Nodes.{nodesIn}
 use Rattle.records.specs.Records.{operationSaid, operation-said}
@@ -103,7 +103,7 @@ module _ {z : Shape} {ns os s : List ℕ} (h : RelevancePre z ns os s) where
       no-act = rw kept (set-zero (row t (z .u) acted) q (clear q b))
 
       wide : z .nodes ≤ length (row t (z .u) mark)
-      wide = let l = h .numbers-long in omega (arith, row-length t (z .u) 24 mark (omega arith) (omega arith), nodes-fit)
+      wide = let l = h .numbers-long in omega (arith, row-length t (z .u) rowCount mark (omega arith) (omega arith), nodes-fit)
 
       none-marked : someMarked (z .nodes) (row t (z .u) mark) mentioned ≡ false
       unfolding someMarked
@@ -127,7 +127,7 @@ module _ {z : Shape} {ns os s a t : List ℕ} (h : RelevancePre z ns os s) (mark
   first : Only (mark ∷ []) (z .u) s a
   first = cleared-only s (z .u) mark (z .nodes) (h .numbers-long) (omega arith) (nodes-fit h) marks
 
-  first-long : 24 * z .u ≤ length a
+  first-long : rowCount * z .u ≤ length a
   first-long = let l = first .long in let k = h .numbers-long in omega arith
 
   second : Only (acted ∷ []) (z .u) a t

@@ -17,7 +17,7 @@ use Rattle.theory.specs.PackedRoots.{ChildrenBefore, Ordered}
 use Rattle.records.specs.declared.NodeRecord.{NodeRecord}
 use Rattle.records.specs.Records.{nodeRecord, said-identity, said-letter, said-product}
 use Rattle.records.specs.Nodes.{nodesIn, nodeHere, nodes-count, node-here}
-use Rattle.layout.specs.Rows.{acted, relevantRow, written-row}
+use Rattle.layout.specs.Rows.{rowCount, acted, relevantRow, written-row}
 use Rattle.layout.specs.Only.{Only, only-none, only-then, only-written}
 use Rattle.packing_states.specs.NodeRows.{children-here}
 use Rattle.mentions.specs.Marks.{isSet, set-zero, set-nonzero}
@@ -107,7 +107,7 @@ pub relevant-next : {ns : List ℕ} {u count n : ℕ} {s t w : List ℕ} → Nod
 relevant-next {ns} {u} {count} {n} {s} {t} {w} h l r b e v bit y =
     record { only = only-then (r .only) (only-written long (omega arith) inside y); tells = λ m k. go m k (ℕ-discrete m n) }
   where
-    long : 24 * u ≤ length t
+    long : rowCount * u ≤ length t
     long = let i = h .nodes .long in let j = r .only .long in omega arith
 
     inside : n < u
@@ -127,7 +127,7 @@ relevant-next {ns} {u} {count} {n} {s} {t} {w} h l r b e v bit y =
 
     go : (m : ℕ) → m < n + 1 → Dec (m ≡ n) → getD (row w u relevantRow) m 0 ≡ (if mentionsActed (nodesIn count ns) (row s u acted) m then 1 else 0)
     go m k (yes i) =
-        rw (changed, i) (getD-set-same (row t u relevantRow) n v 0 (omega (arith, row-length t u 24 relevantRow long (omega arith)))
+        rw (changed, i) (getD-set-same (row t u relevantRow) n v 0 (omega (arith, row-length t u rowCount relevantRow long (omega arith)))
         ∙ bit ∙ ap (λ (x : Bool). if x then 1 else 0) truth)
     go m k (no i) =
         rw changed (getD-set-other (row t u relevantRow) n m v 0 i ∙ r .tells m (omega arith))

@@ -60,7 +60,7 @@ lentShort c s limit =
 
 -- ---- nodes
 
--- a product's node i: its "phase is unknown, or a child is not below its product"
+-- node i, a product: its "phase is unknown, or a child is not below its product"
 unfoldable pub badProduct : ℕ → List ℕ → Bool
 badProduct i r = ltb 3 (fieldOf r 2) || ltb 3 (fieldOf r 4) || leb i (fieldOf r 1) || leb i (fieldOf r 3)
 

@@ -12,7 +12,7 @@ use Rattle.model.specs.Program.{PauliRef, Program}
 use Rattle.model.specs.Words.{Value}
 use Rattle.model.specs.Packing.{Pack}
 use Rattle.layout.specs.declared.Shape.{Shape}
-use Rattle.layout.specs.Rows.{usesRow}
+use Rattle.layout.specs.Rows.{rowCount, usesRow}
 use Rattle.records.specs.declared.NodeRecord.{NodeRecord}
 use Rattle.records.specs.Records.{nodeRecord, operationRecord, rowRecord, nodeSaid}
 use Rattle.records.specs.Given.{programIn, Given}
@@ -135,7 +135,7 @@ module _ (p : Program) (n : ℕ) (f : before p n .refused ≡ false) (u : 0 < ge
 
 module _ {z : Shape} {st : Slots} {n : ℕ} {ns os rs ws xs : List ℕ} (a : NodeAt z st n ns os rs ws xs) where
   -- its uses are in their row
-  pub uses-there : (24 * z .u ≤ length xs) × (usesRow < 24) × (n < z .u)
+  pub uses-there : (rowCount * z .u ≤ length xs) × (usesRow < rowCount) × (n < z .u)
   uses-there = let g = a .granted in (g .numbers-long, omega arith, omega (arith, a .node, g .sized .row))
 
   -- its record is there

@@ -20,7 +20,7 @@ use Rattle.layout.specs.declared.Shape.{Shape}
 use Rattle.layout.specs.Rows.{mark, acted, relevantRow, usesRow, entries}
 use Rattle.layout.specs.Only.{Only, only-then, only-of}
 use Rattle.layout.specs.Words.{KeptFrom}
-use Rattle.layout.specs.Shape.{Granted}
+use Rattle.layout.specs.Shape.{Granted, granted-same}
 use Rattle.records.specs.Given.{programIn, Given}
 use Rattle.mentions.specs.Relevance.{relevanceRows}
 use Rattle.roots.specs.Links.{linkRows}
@@ -74,14 +74,14 @@ start {p} linked uses = record {
 -- ---- the ends
 
 -- an answer's axes
-unfoldable axesIn : Packed → ℕ
-axesIn (Axes n) = n
-axesIn NonHermitianAxis = 0
-axesIn ExpansionLimit = 0
+unfoldable axesAnswered : Packed → ℕ
+axesAnswered (Axes n) = n
+axesAnswered NonHermitianAxis = 0
+axesAnswered ExpansionLimit = 0
 
 same-axes : {m n : ℕ} → Axes m ≡ Axes n → m ≡ n
-unfolding axesIn
-same-axes e = ap axesIn e
+unfolding axesAnswered
+same-axes e = ap axesAnswered e
 
 odd-no-axes : {n : ℕ} → NonHermitianAxis ≡ Axes n → ⊥
 odd-no-axes e = let z : _≡_ {A = ℕ} 9 0 = ap (λ (r : Packed). numberOf (packingAnswer r)) e in omega arith
@@ -189,11 +189,7 @@ prepared-rows a b = only-then (only-of preparedRows refl a) (only-of preparedRow
 module _ {z : Shape} {ns os rs ws xs xs₀ : List ℕ} (pre : PackPre z ns os rs ws xs) (prepared : Only preparedRows (z .u) xs xs₀) where
   -- the stores are still long enough
   pub granted-prepared : Granted z ws xs₀
-  granted-prepared = record {
-    sized = pre .granted .sized;
-    words-long = pre .granted .words-long;
-    numbers-long = omega (arith, pre .granted .numbers-long, prepared .long);
-  }
+  granted-prepared = granted-same (pre .granted) refl (prepared .long)
 
   numbers-left : {ws′ xs′ : List ℕ} → Left z ws xs₀ ws′ xs′ → Only packRows (z .u) xs xs′
   unfolding member anyOf allOf

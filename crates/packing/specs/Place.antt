@@ -14,10 +14,12 @@ use Rattle.model.specs.Program.{Node, identity, letter, product, Program}
 use Rattle.model.specs.Words.{Value, Store}
 use Rattle.model.specs.Value.{nodeValue}
 use Rattle.model.specs.Packing.{oneUseLess, Pack, useNode, useChildren, takeSlot}
+use Rattle.theory.specs.ByNode.{OfChildren}
 use Rattle.theory.specs.Checked.{Fine}
+use Rattle.theory.specs.NodeValue.{nodeValue-same, nodeValue-length}
 use Rattle.axes.specs.View.{axesOf, axes-length, axes-apart}
 use Rattle.layout.specs.declared.Shape.{Shape}
-use Rattle.layout.specs.Rows.{usesRow, firstRoot, nextRoot, nodeSlot, nodePhase, freeRow, rootAxis, rootSign, entries}
+use Rattle.layout.specs.Rows.{rowCount, usesRow, firstRoot, nextRoot, nodeSlot, nodePhase, freeRow, rootAxis, rootSign, entries}
 use Rattle.layout.specs.Only.{Only, only-then, only-of}
 use Rattle.layout.specs.Words.{slotPlace, slots-le, slot-in, slot-behind, KeptFrom, kept-then, kept-put}
 use Rattle.layout.specs.Shape.{Sized}
@@ -36,7 +38,7 @@ use Rattle.packing.specs.Values.{slotOf, phaseOf, usesOf, HeldPre, heldV
 use Rattle.packing.specs.Values.{ChildrenReleased, TakePre, taken, KeepPre, Kept}
 use Rattle.packing.specs.Holding.{SlotsHold, SignedAt, Holding, PlacedAs, turnRows, Left, PlaceAt}
 use Rattle.packing.specs.Held.{slots-fit, nodes-in, width-is, slots-in, held-pre}
-use Rattle.packing.specs.NodeValues.{OfChildren, nodeValue-same, nodeValue-length, value-own, value-turns, leaf-in}
+use Rattle.packing.specs.NodeValues.{value-own, value-turns, leaf-in}
 use Rattle.packing.specs.Release.{SlotsAre, holding-slots, count-is, free-room, slots-release}
 use Rattle.packing.specs.Keeping.{slots-scratch, slots-kept}
 use Rattle.packing.specs.Taking.{Took, took-none, took-slot}
@@ -233,7 +235,7 @@ module _ {p : Program} {z : Shape} {st : Slots} {n : ℕ} {x : NodeRecord} {ws x
   words-long : length ws′ ≡ length ws
   words-long = ap length words-are ∙ put-length ws (z .limit) word scratch-in
 
-  numbers-long : 24 * z .u ≤ length t
+  numbers-long : rowCount * z .u ≤ length t
   numbers-long = omega (arith, c .only .long, h .granted .numbers-long)
 
   -- the slots
@@ -330,7 +332,8 @@ module _ {p : Program} {z : Shape} {st : Slots} {n : ℕ} {x : NodeRecord} {ws x
           let rows = usesRow ∷ freeRow ∷ nodeSlot ∷ nodePhase ∷ [] in
           only-then (only-of rows refl (c .only)) (only-of rows refl (q .only))
 
-      same-row : (f : ℕ) → f < 24 → member f (usesRow ∷ freeRow ∷ nodeSlot ∷ nodePhase ∷ []) ≡ false → row t″ (z .u) f ≡ row xs (z .u) f
+      same-row : (f : ℕ) → f < rowCount → member f (usesRow ∷ freeRow ∷ nodeSlot ∷ nodePhase ∷ []) ≡ false
+          → row t″ (z .u) f ≡ row xs (z .u) f
       same-row f b o = numbers″ .rows f b o
 
       same-uses : row t″ (z .u) usesRow ≡ row t (z .u) usesRow
@@ -366,8 +369,8 @@ module _ {p : Program} {z : Shape} {st : Slots} {n : ℕ} {x : NodeRecord} {ws x
       held″ =
           rw (took .uses, q .slot, q .phase, same-free, words″)
           (slots-kept slots-fit′ (omega (arith, words-long, h .granted .words-long))
-          (omega (arith, row-length t (z .u) 24 nodeSlot numbers-long (omega arith), h .node, nodes-in (h .granted)))
-          (omega (arith, row-length t (z .u) 24 nodePhase numbers-long (omega arith), h .node, nodes-in (h .granted)))
+          (omega (arith, row-length t (z .u) rowCount nodeSlot numbers-long (omega arith), h .node, nodes-in (h .granted)))
+          (omega (arith, row-length t (z .u) rowCount nodePhase numbers-long (omega arith), h .node, nodes-in (h .granted)))
           turns-are refl (value-long h) (took .takes) (slots₁ .held))
 
       holding″ : Holding p z (suc n) n 0 (takeSlot (z .l) k₁) st′ ws″ t″

@@ -18,7 +18,7 @@ use Rattle.model.specs.Words.{Value}
 use Rattle.model.specs.Packing.{oneUseLess, Pack, useNode}
 use Rattle.theory.specs.Cases.{if-true, if-false}
 use Rattle.layout.specs.declared.Shape.{Shape}
-use Rattle.layout.specs.Rows.{usesRow, nodeSlot, nodePhase, freeRow, entries, entries-at}
+use Rattle.layout.specs.Rows.{rowCount, usesRow, nodeSlot, nodePhase, freeRow, entries, entries-at}
 use Rattle.packing_states.specs.States.{valueOf}
 use Rattle.packing_states.specs.Counts.{less-at, less-same}
 use Rattle.packing_states.specs.Live.{usedBelow, used-below-some, live-use}
@@ -108,7 +108,7 @@ module _ {l limit b slots free : ℕ} {value : ℕ → Value} {uses slotRow phas
 -- ---- the store
 
 -- a node's count in memory is the model's
-pub count-is : {l limit u nodes b slots free : ℕ} {value : ℕ → Value} {k : Pack} {ws xs : List ℕ} (m : ℕ) → 24 * u ≤ length xs
+pub count-is : {l limit u nodes b slots free : ℕ} {value : ℕ → Value} {k : Pack} {ws xs : List ℕ} (m : ℕ) → rowCount * u ≤ length xs
     → nodes ≤ u → m < nodes → SlotsAre l limit u nodes b slots free value k ws xs → usesOf xs u m ≡ getD (k .uses) m 0
 count-is {u = u} {nodes} {xs = xs} m long nodes-in below s =
     sym (entries-at xs u usesRow nodes long (omega arith) nodes-in m below) ∙ ap (λ (x : List ℕ). getD x m 0) (s .uses)
@@ -119,7 +119,7 @@ module _ {l limit u nodes b slots free : ℕ} {value : ℕ → Value} {k : Pack}
   pub free-room : free < slots
   free-room = omega (arith, s .all, s .live, used-below-some b m (k .uses) d used)
 
-  module _ (long : 24 * u ≤ length xs) (nodes-in : nodes ≤ u) (below : b ≤ nodes) (slots-in : slots < u)
+  module _ (long : rowCount * u ≤ length xs) (nodes-in : nodes ≤ u) (below : b ≤ nodes) (slots-in : slots < u)
       {r : ℕ} {xs′ : List ℕ} (t : Released xs u free m r xs′) where
     count : usesOf xs u m ≡ getD (k .uses) m 0
     count = count-is m long nodes-in (omega arith) s
@@ -149,7 +149,7 @@ module _ {l limit u nodes b slots free : ℕ} {value : ℕ → Value} {k : Pack}
         let c : r ≡ free + 1 = t .count ∙ ap (λ (n : ℕ). free + n) (if-true _ _ e) in
         let q : row xs′ u freeRow ≡ set (row xs u freeRow) free (getD (row xs u nodeSlot) m 0) = t .stack ∙ if-true _ _ e in
         let one-less : _≡_ {A = ℕ} (if eqb (getD (k .uses) m 0) 1 then 1 else 0) 1 = if-true _ _ (eq-eqb (getD (k .uses) m 0) 1 one) in
-        let room : free < length (row xs u freeRow) = omega (arith, free-room, row-length xs u 24 freeRow long (omega arith)) in (
+        let room : free < length (row xs u freeRow) = omega (arith, free-room, row-length xs u rowCount freeRow long (omega arith)) in (
           omega (arith, s .all, s .live, used-below-some b m (k .uses) d used),
           rw (same-slots, same-phases, q, c) (slots-freed (s .held) m d one room),
         )

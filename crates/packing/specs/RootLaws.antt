@@ -28,6 +28,7 @@ use Rattle.packing.specs.declared.ValueHeld.{ValueHeld}
 use Rattle.packing.specs.Holding.{RootAt}
 use Rattle.packing.specs.Held.{slots-fit, nodes-in, width-is, held-pre}
 use Rattle.packing.specs.Values.{HeldPre, heldAt}
+use Rattle.packing.specs.ValueLaws.{held-place, held-phase}
 use Rattle.packing.specs.NodeValues.{value-turns}
 
 -- ---- signs
@@ -67,21 +68,18 @@ module _ {p : Program} {z : Shape} {st : Slots} {n j phase : ℕ} {ws xs : List 
 
   module _ {v : ValueHeld} (e : v ≡ heldAt z xs n) where
     held-turns : v .phase ≡ valueOf p n .turns
-    unfolding heldAt
-    held-turns = ap (λ (x : ValueHeld). x .phase) e ∙ h .holding .held .turns n (omega arith) (h .used)
+    held-turns = held-phase z xs n e ∙ h .holding .held .turns n (omega arith) (h .used)
 
     pub held-small : v .phase < 4
     held-small = omega (arith, held-turns, value-turns p (h .whole .fine) n (omega (arith, h .node, h .whole .nodes)))
 
     held-word : wordAt (z .l) ws (v .at) ≡ valueOf p n .word
-    unfolding heldAt
-    held-word = ap (λ (x : ValueHeld). wordAt (z .l) ws (x .at)) e ∙ h .holding .held .word n (omega arith) (h .used)
+    held-word = ap (wordAt (z .l) ws) (held-place z xs n e) ∙ h .holding .held .word n (omega arith) (h .used)
 
     pub intern-pre : InternPre (z .l) (st .slots * (2 * z .l)) (z .limit) (st .axes) ws (v .at)
-    unfolding heldAt
     intern-pre =
         let s = getD (row xs (z .u) nodeSlot) n 0 in
-        let at : v .at ≡ slotPlace (z .limit) (z .l) s = ap (λ (x : ValueHeld). x .at) e in
+        let at : v .at ≡ slotPlace (z .limit) (z .l) s = held-place z xs n e in
         record {
           stored = omega (arith, h .holding .room);
           counted = slots-fit (h .holding);

@@ -17,13 +17,13 @@ use Rattle.theory.specs.Ids.{id-in, id-stored, intern-grows, stored-keeps, id-k
 use Rattle.axes.specs.Intern.{countWith}
 use Rattle.axes.specs.Stored.{HasId}
 use Rattle.layout.specs.declared.Shape.{Shape}
-use Rattle.layout.specs.Rows.{usesRow, nodeSlot, nodePhase, freeRow, firstRoot, nextRoot, rootAxis, rootSign, entries}
+use Rattle.layout.specs.Rows.{rowCount, usesRow, nodeSlot, nodePhase, freeRow, firstRoot, nextRoot, rootAxis, rootSign, entries}
 use Rattle.layout.specs.Only.{only-then, only-of}
 use Rattle.layout.specs.Words.{slotPlace, slot-in, slot-counted, KeptFrom}
 use Rattle.packing_states.specs.References.{referenceAt, total, isRootAt}
 use Rattle.packing_states.specs.States.{valueOf, within}
 use Rattle.packing_states.specs.ReferenceLaws.{root-is}
-use Rattle.packing_states.specs.RootRows.{RootRows, rootRows, axis-own, sign-own, axis-other, sign-other}
+use Rattle.packing_states.specs.ReferenceRows.{ReferenceRows, referenceRows, axis-own, sign-own, axis-other, sign-other}
 use Rattle.packing_states.specs.Linked.{Linked}
 use Rattle.packing.specs.declared.Slots.{Slots}
 use Rattle.packing.specs.Holding.{SignedAt, Done, Holding, Left, RootAt}
@@ -40,8 +40,8 @@ abbrev rootTurnRows : List ℕ
 rootTurnRows = usesRow ∷ freeRow ∷ rootAxis ∷ rootSign ∷ []
 
 -- they are written, then the node's use is given up
-rows-released : {u j id turns free n r : ℕ} {xs xs′ t : List ℕ} → RootRows rootRows u j id turns xs xs′ → Released xs′ u free n r t
-    → RootRows rootTurnRows u j id turns xs t
+rows-released : {u j id turns free n r : ℕ} {xs xs′ t : List ℕ} → ReferenceRows referenceRows u j id turns xs xs′ → Released xs′ u free n r t
+    → ReferenceRows rootTurnRows u j id turns xs t
 unfolding member anyOf allOf
 rows-released m r = record {
   only = only-then (only-of _ refl (m .only)) (only-of _ refl (r .only));
@@ -50,7 +50,7 @@ rows-released m r = record {
 }
 
 -- links stay: a reference that is no root is not this one
-linked-after : {p : Program} {z : Shape} {j id turns : ℕ} {xs t : List ℕ} → RootRows rootTurnRows (z .u) j id turns xs t
+linked-after : {p : Program} {z : Shape} {j id turns : ℕ} {xs t : List ℕ} → ReferenceRows rootTurnRows (z .u) j id turns xs t
     → isRootAt p j ≡ true → Linked p z xs → Linked p z t
 unfolding member anyOf
 linked-after {p} {z} {j} {id} {turns} {xs} {t} w root k = record {
@@ -84,7 +84,7 @@ has-id-kept {l} {others} {limit} {n} {s} {st} {w} {id} {t} a = record { long = a
 
 module _ {p : Program} {z : Shape} {st : Slots} {n j phase : ℕ} {ws xs : List ℕ} (h : RootAt p z st n j phase ws xs)
     {id turns : ℕ} {ws′ xs′ : List ℕ} (a : RootHasId p z st n j ws id ws′)
-    (m : RootRows rootRows (z .u) j id turns xs xs′) where
+    (m : ReferenceRows referenceRows (z .u) j id turns xs xs′) where
   same-words : (s : ℕ) → s < st .slots
       → part ws′ (slotPlace (z .limit) (z .l) s) (2 * z .l) ≡ part ws (slotPlace (z .limit) (z .l) s) (2 * z .l)
   same-words s b =
@@ -105,7 +105,7 @@ module _ {p : Program} {z : Shape} {st : Slots} {n j phase : ℕ} {ws xs : List 
         held = rw (slots, phases, stack) (slots-words same-words (h .holding .held));
       }
 
-  long-marked : 24 * z .u ≤ length xs′
+  long-marked : rowCount * z .u ≤ length xs′
   long-marked = omega (arith, m .only .long, h .granted .numbers-long)
 
   pub release-pre : ReleasePre xs′ (z .u) (st .free) n
@@ -118,7 +118,7 @@ module _ {p : Program} {z : Shape} {st : Slots} {n j phase : ℕ} {ws xs : List 
   }
 
   module _ {free : ℕ} {t : List ℕ} (r : Released xs′ (z .u) (st .free) n free t) where
-    rows : RootRows rootTurnRows (z .u) j id turns xs t
+    rows : ReferenceRows rootTurnRows (z .u) j id turns xs t
     rows = rows-released m r
 
     pub left-next : Left z ws xs ws′ t

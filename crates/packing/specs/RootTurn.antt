@@ -15,7 +15,7 @@ use Rattle.axes.specs.declared.Interned.the-variants.{Id, Full as InternedFull}
 use Rattle.layout.specs.declared.Shape.{Shape}
 use Rattle.layout.specs.Rows.{rootAxis, rootSign}
 use Rattle.packing_states.specs.States.{valueOf, within}
-use Rattle.packing_states.specs.RootRows.{RootRows, rootRows, root-rows}
+use Rattle.packing_states.specs.ReferenceRows.{ReferenceRows, referenceRows, reference-rows}
 use Rattle.packing.specs.declared.Slots.{Slots}
 use Rattle.packing.specs.declared.ValueHeld.{ValueHeld}
 use Rattle.packing.specs.declared.Step.the-variants.{Next, NonHermitianAxis, ExpansionLimit}
@@ -73,8 +73,8 @@ module _ {p : Program} {z : Shape} {st : Slots} {n j phase : ℕ} {ws xs : List 
 
         module _ {x y : List ℕ} (a : Written xs (z .u) rootAxis j id x)
             (b : Written x (z .u) rootSign j ((v .phase + phase % 4) % 4) y) where
-          written : RootRows rootRows (z .u) j id ((v .phase + phase % 4) % 4) xs y
-          written = root-rows (h .granted .numbers-long) (reference-in h) a b
+          written : ReferenceRows referenceRows (z .u) j id ((v .phase + phase % 4) % 4) xs y
+          written = reference-rows (h .granted .numbers-long) (reference-in h) a b
 
           pub root-release : ReleasePre y (z .u) (st .free) n
           root-release = release-pre h stored written

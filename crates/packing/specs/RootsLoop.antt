@@ -11,7 +11,7 @@ use Rattle.store.specs.Row.{row}
 use Rattle.model.specs.Program.{Program}
 use Rattle.model.specs.Packing.{Pack}
 use Rattle.layout.specs.declared.Shape.{Shape}
-use Rattle.layout.specs.Rows.{firstRoot, nextRoot}
+use Rattle.layout.specs.Rows.{rowCount, firstRoot, nextRoot}
 use Rattle.packing_states.specs.References.{referenceAt, total, isRootAt, rootOf, linkFrom}
 use Rattle.packing_states.specs.ReferenceLaws.{root-is, its-root, link-none, link-some}
 use Rattle.packing_states.specs.States.{within}
@@ -90,7 +90,7 @@ module _ {z : Shape} {placed : Slots} {n : ℕ} {os rs ws₀ xs₀ : List ℕ} w
   }
 
   -- the node has its first link
-  pub first-there : SomeProgram (λ p. RootsAt p z placed n os rs ws₀ xs₀) → (24 * z .u ≤ length xs₀) × (firstRoot < 24) × (n < z .u)
+  pub first-there : SomeProgram (λ p. RootsAt p z placed n os rs ws₀ xs₀) → (rowCount * z .u ≤ length xs₀) × (firstRoot < rowCount) × (n < z .u)
   first-there s = let g = s .it .granted in (g .numbers-long, omega arith, omega (arith, s .it .node, g .sized .row))
 
   module _ {ws xs : List ℕ} {st : Slots} {link r : ℕ} (a : Along z placed n os rs ws₀ xs₀ ws xs st link) (l : link ≡ suc r) where
@@ -127,7 +127,7 @@ module _ {z : Shape} {placed : Slots} {n : ℕ} {os rs ws₀ xs₀ : List ℕ} w
 
     -- it has its next link, whatever packing it left
     pub next-there : {ws′ xs′ : List ℕ} → SomeProgram (λ p. RootsAt p z placed n os rs ws₀ xs₀) → Left z ws xs ws′ xs′
-        → (24 * z .u ≤ length xs′) × (nextRoot < 24) × (r < z .u)
+        → (rowCount * z .u ≤ length xs′) × (nextRoot < rowCount) × (r < z .u)
     next-there s k =
         let g = granted-left (s .it .granted) (left-then (a .left) k) in
         (g .numbers-long, omega arith, omega (arith, a .at (s .p) (s .it) .some r l .reference, s .it .whole .references, g .sized .row))

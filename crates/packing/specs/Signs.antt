@@ -1,18 +1,17 @@
 -- After the last node's turn: the rows of roots' axes and signs are the model's. Assumes nothing.
 use mathlib.Core.Path.{_≡_, refl, sym, ap, _∙_}
 use mathlib.Core.Bool.{Bool, true, false}
-use mathlib.Core.List.{List, [], _∷_, map, _++_, append-nil}
-use Prim.Native.Nat.{ℕ, zero, suc, _+_, _<_}
-use native.Mathlib.Nat.{zero-add}
+use mathlib.Core.List.{List, map, _++_}
+use Prim.Native.Nat.{ℕ, _+_, _<_}
 use native.Mathlib.Omega.{arith}
 use lib.ListN.{length, getD, length-map, List·getD-map}
 use Rattle.store.specs.Row.{row}
-use Rattle.model.specs.Lists.{numbersFrom}
 use Rattle.model.specs.Program.{PauliRef, Program}
 use Rattle.model.specs.Roots.{isRoot, operationRoot}
 use Rattle.model.specs.Packing.{packed, valuesOf, SignedAxis, signedAxis}
 use Rattle.model.specs.Results.{noOperation}
 use Rattle.theory.specs.Cases.{if-true, if-false}
+use Rattle.theory.specs.Lists.{map-front, map-all}
 use Rattle.layout.specs.declared.Shape.{Shape}
 use Rattle.layout.specs.Rows.{rootAxis, rootSign}
 use Rattle.packing_states.specs.References.{noReference, referenceAt, total, isRootAt}
@@ -22,32 +21,6 @@ use Rattle.packing_states.specs.Linked.{Linked}
 use Rattle.packing_states.specs.InMemory.{Whole}
 use Rattle.packing.specs.Holding.{SignedAt}
 use Rattle.packing.specs.Packed.{signsIn, rowSign, signsOf}
-
--- ---- numbers by f, a list's elements by g
-
-module _ {A B : Type 0} (f : ℕ → B) (g : A → B) (d : A) where
-  -- the numbers in front are the list's places
-  map-front : (xs : List A) (i m t : ℕ) → t ≡ length xs + m → ((k : ℕ) → k < length xs → f (k + i) ≡ g (getD xs k d))
-      → map f (numbersFrom i t) ≡ map g xs ++ map f (numbersFrom (length xs + i) m)
-  unfolding numbersFrom
-  map-front [] i m t e h = let z : t ≡ m = omega arith in rw (z, zero-add i) refl
-  map-front (x ∷ xs) i m zero e h = absurd (omega arith)
-  map-front (x ∷ xs) i m (suc t) e h = go (map-front xs (suc i) m t (omega arith) later)
-    where
-      later : (k : ℕ) → k < length xs → f (k + suc i) ≡ g (getD xs k d)
-      later k b = let e : suc k + i ≡ k + suc i = omega arith in rw e at (h (suc k) (omega arith))
-
-      here : f i ≡ g x
-      here = rw zero-add at (h 0 (omega arith))
-
-      go : map f (numbersFrom (suc i) t) ≡ map g xs ++ map f (numbersFrom (length xs + suc i) m)
-          → f i ∷ map f (numbersFrom (suc i) t) ≡ g x ∷ (map g xs ++ map f (numbersFrom (suc (length xs) + i) m))
-      go ih = let e : suc (length xs) + i ≡ length xs + suc i = omega arith in rw (here, ih, e) refl
-
-  -- all of them are
-  map-all : (xs : List A) (i : ℕ) → ((k : ℕ) → k < length xs → f (k + i) ≡ g (getD xs k d)) → map f (numbersFrom i (length xs)) ≡ map g xs
-  unfolding numbersFrom
-  map-all xs i h = map-front xs i 0 (length xs) (omega arith) h ∙ append-nil (map g xs)
 
 -- ---- reference by reference
 

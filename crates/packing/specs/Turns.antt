@@ -1,11 +1,10 @@
 -- What no turn, and two turns, leave of both stores. Assumes nothing.
 use mathlib.Core.List.{List}
 use Prim.Native.Nat.{ℕ}
-use native.Mathlib.Omega.{arith}
 use Rattle.layout.specs.declared.Shape.{Shape}
 use Rattle.layout.specs.Only.{only-none, only-then}
 use Rattle.layout.specs.Words.{kept-none, kept-then}
-use Rattle.layout.specs.Shape.{Granted}
+use Rattle.layout.specs.Shape.{Granted, granted-same}
 use Rattle.packing.specs.Holding.{Left}
 
 -- nothing is written
@@ -19,8 +18,4 @@ left-then a b = record { words = kept-then (a .words) (b .words); numbers = only
 
 -- the stores stay as long as refusal 3 asks
 pub granted-left : {z : Shape} {ws xs ws′ xs′ : List ℕ} → Granted z ws xs → Left z ws xs ws′ xs′ → Granted z ws′ xs′
-granted-left g l = record {
-  sized = g .sized;
-  words-long = omega (arith, g .words-long, l .words .long);
-  numbers-long = omega (arith, g .numbers-long, l .numbers .long);
-}
+granted-left g l = granted-same g (l .words .long) (l .numbers .long)

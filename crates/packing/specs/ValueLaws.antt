@@ -14,15 +14,16 @@ use Rattle.bits.specs.Remainder.{same4}
 use Rattle.store.specs.Part.{part, put, zeros-lent}
 use Rattle.store.specs.Row.{row, Written}
 use Rattle.store.specs.Copy.{CopyPre}
-use Rattle.pauli.specs.Word.{phase, identity as identityWord}
+use Rattle.pauli.specs.Word.{identity as identityWord}
 use Rattle.pauli.specs.Letter.{single}
+use Rattle.pauli.specs.ProductLaws.{phase-lt}
 use Rattle.product.specs.Product.{StoredPre, StoredProduct}
 use Rattle.model.specs.Lists.{if_then_else_, allOf, anyOf, member}
 use Rattle.model.specs.Words.{Value, asValue, scaled, multiply}
 use Rattle.model.specs.Value.{nodeValue}
 use Rattle.theory.specs.Cases.{by-if, if-true, if-false}
 use Rattle.layout.specs.declared.Shape.{Shape}
-use Rattle.layout.specs.Rows.{usesRow, nodeSlot, nodePhase, freeRow, written-row}
+use Rattle.layout.specs.Rows.{rowCount, usesRow, nodeSlot, nodePhase, freeRow, written-row}
 use Rattle.layout.specs.Only.{Only, only-none, only-then, only-of, only-written}
 use Rattle.layout.specs.Words.{scratchPlace, slotPlace, slot-ends}
 use Rattle.records.specs.declared.NodeRecord.{NodeRecord}
@@ -98,10 +99,6 @@ turns-sum : (e a p b q : ℕ) → (e + a + p % 4 + b + q % 4) % 4 ≡ ((a + p) %
 turns-sum e a p b q =
     same4 (e + a + p % 4 + b + q % 4) ((a + p) % 4 + (b + q) % 4 + e) (p / 4 + q / 4) ((a + p) / 4 + (b + q) / 4) (omega arith)
 
-phase-small : (l : ℕ) (p q : List ℕ) → phase l p q < 4
-unfolding phase
-phase-small l p q = omega arith
-
 module _ {z : Shape} {x : NodeRecord} {ws xs : List ℕ} (a b : ValueHeld) (o : ℕ) where
   -- the words of both children, and the scratch word, for `product_in`
   pub stored-pre : EvaluatePre z x ws xs → 2 ≤ x .kind → a ≡ heldAt z xs (x .a) → b ≡ heldAt z xs (x .b) → o ≡ scratchPlace (z .limit)
@@ -116,7 +113,7 @@ module _ {z : Shape} {x : NodeRecord} {ws xs : List ℕ} (a b : ValueHeld) (o : 
   pub phases-small : {ws′ : List ℕ} {e : ℕ} → EvaluatePre z x ws xs → 2 ≤ x .kind → a ≡ heldAt z xs (x .a) → b ≡ heldAt z xs (x .b)
       → StoredProduct (z .l) ws (a .at) (b .at) o ws′ e → (e < 4) × (a .phase < 4) × (b .phase < 4)
   phases-small pre k g h s = (
-    omega (arith, s .turns, phase-small (z .l) (part ws (a .at) (2 * z .l)) (part ws (b .at) (2 * z .l))),
+    omega (arith, s .turns, phase-lt (z .l) (part ws (a .at) (2 * z .l)) (part ws (b .at) (2 * z .l))),
     omega (arith, held-phase z xs (x .a) g, pre .first-phase k),
     omega (arith, held-phase z xs (x .b) h, pre .second-phase k),
   )
@@ -159,7 +156,7 @@ module _ {s t : List ℕ} {u free n : ℕ} (k : ℕ) (pre : ReleasePre s u free 
       → Released s u free n (free + 1) v
   unfolding allOf member anyOf
   released-last {v} x e y none =
-      let long : 24 * u ≤ length t = omega (arith, pre .long, w .long) in
+      let long : rowCount * u ≤ length t = omega (arith, pre .long, w .long) in
       let one : usesOf s u n ≡ 1 = omega (arith, pre .used) in
       let f : eqb (usesOf s u n) 1 ≡ true = eq-eqb (usesOf s u n) 1 one in
       let o : Only (freeRow ∷ []) u t v = only-written long (omega arith) (pre .room) y in
@@ -255,7 +252,7 @@ module _ {z : Shape} {n s : ℕ} {ws xs : List ℕ} (pre : KeepPre z n s ws xs) 
       → Kept z n s e ws xs ws′ xs′
   unfolding allOf member anyOf
   kept {e} {ws′} {t} {xs′} o a b p q v w =
-      let long : 24 * z .u ≤ length t = omega (arith, pre .long, v .long) in
+      let long : rowCount * z .u ≤ length t = omega (arith, pre .long, v .long) in
       let c : Only (nodeSlot ∷ []) (z .u) xs t = only-written (pre .long) (omega arith) (pre .node) v in
       let d : Only (nodePhase ∷ []) (z .u) t xs′ = only-written long (omega arith) (pre .node) w in
       record {

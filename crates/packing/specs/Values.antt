@@ -10,7 +10,7 @@ use Rattle.model.specs.Lists.{if_then_else_}
 use Rattle.model.specs.Words.{Value}
 use Rattle.model.specs.Value.{nodeValue}
 use Rattle.layout.specs.declared.Shape.{Shape}
-use Rattle.layout.specs.Rows.{usesRow, nodeSlot, nodePhase, freeRow}
+use Rattle.layout.specs.Rows.{rowCount, usesRow, nodeSlot, nodePhase, freeRow}
 use Rattle.layout.specs.Only.{Only}
 use Rattle.layout.specs.Words.{scratchPlace, slotPlace}
 use Rattle.records.specs.declared.NodeRecord.{NodeRecord}
@@ -32,7 +32,7 @@ phaseOf z xs n = getD (row xs (z .u) nodePhase) n 0
 
 -- node n has a slot within the limit
 pub record HeldPre (z : Shape) (xs : List ℕ) (n : ℕ) : Type 0 where
-  pub long : 24 * z .u ≤ length xs
+  pub long : rowCount * z .u ≤ length xs
   pub node : n < z .u
   pub slot : slotOf z xs n * (2 * z .l) + 2 * z .l ≤ z .limit
 
@@ -52,7 +52,7 @@ heldValue z ws xs n = record {
 -- a product's two children are held, with phases 0 to 3; a letter's qubit has its bit
 pub record EvaluatePre (z : Shape) (x : NodeRecord) (ws xs : List ℕ) : Type 0 where
   pub scratch : z .limit + 2 * z .l ≤ length ws
-  pub long : 24 * z .u ≤ length xs
+  pub long : rowCount * z .u ≤ length xs
   pub few : z .l ≤ 64
   pub limit : z .limit ≤ 1048576
   pub qubit : x .kind ≡ 1 → x .a < 64 * z .l
@@ -77,7 +77,7 @@ usesOf s u n = getD (row s u usesRow) n 0
 
 -- node n is used, and its slot has room among the free ones
 pub record ReleasePre (s : List ℕ) (u free n : ℕ) : Type 0 where
-  pub long : 24 * u ≤ length s
+  pub long : rowCount * u ≤ length s
   pub node : n < u
   pub room : free < u
   pub u-small : u ≤ 1187839
@@ -92,7 +92,7 @@ pub record Released (s : List ℕ) (u free n r : ℕ) (t : List ℕ) : Type 0 wh
 
 -- both children are used; the second still is where the first is given up
 pub record ChildrenPre (s : List ℕ) (u free : ℕ) (x : NodeRecord) : Type 0 where
-  pub long : 24 * u ≤ length s
+  pub long : rowCount * u ≤ length s
   pub u-small : u ≤ 1187839
   pub room : 2 ≤ x .kind → free + 1 < u
   pub first : 2 ≤ x .kind → x .a < u
@@ -113,7 +113,7 @@ pub record ChildrenReleased (s : List ℕ) (u free : ℕ) (x : NodeRecord) (r : 
 
 -- slots and axes are within the limit, and their numbers fit
 pub record TakePre (z : Shape) (xs : List ℕ) (st : Slots) : Type 0 where
-  pub long : 24 * z .u ≤ length xs
+  pub long : rowCount * z .u ≤ length xs
   pub free : st .free ≤ z .u
   pub limit : z .limit ≤ 1048576
   pub few : z .l ≤ 64
@@ -138,7 +138,7 @@ taken z xs st =
 -- slot s is within the limit
 pub record KeepPre (z : Shape) (n s : ℕ) (ws xs : List ℕ) : Type 0 where
   pub scratch : z .limit + 2 * z .l ≤ length ws
-  pub long : 24 * z .u ≤ length xs
+  pub long : rowCount * z .u ≤ length xs
   pub node : n < z .u
   pub slot : s * (2 * z .l) + 2 * z .l ≤ z .limit
   pub small : s < z .u

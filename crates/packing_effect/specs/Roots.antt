@@ -3,11 +3,12 @@ use mathlib.Core.Path.{_≡_, refl, sym, _∙_, ap, ap₂}
 use mathlib.Core.Logic.{inl, inr, ⊎-elim}
 use mathlib.Core.Bool.{true, false}
 use mathlib.Core.List.{List, [], _∷_, _++_, map}
-use Prim.Native.Nat.{ℕ, _+_, _*_, _%_, _≤_, _<_}
+use Prim.Native.Nat.{ℕ, _+_, _*_, _%_, _<_}
 use native.Mathlib.Omega.{arith}
 use lib.ListN.{length, replicate}
 use Rattle.store.specs.Equal.{same-true}
 use Rattle.pauli.specs.Word.{width, isIdentity, identity}
+use Rattle.pauli.specs.LetterLaws.{width-holds}
 use Rattle.model.specs.Lists.{isOdd}
 use Rattle.model.specs.Program.{PauliRef, Program}
 use Rattle.model.specs.Words.{Value, scaled, wordOf}
@@ -31,10 +32,6 @@ in-left r (x ∷ xs) ys k = ⊎-elim (λ (e : x ≡ r). inl e) (λ (y : In r xs)
 in-right : (r : PauliRef) (xs ys : List PauliRef) → In r ys → In r (xs ++ ys)
 in-right r [] ys k = k
 in-right r (x ∷ xs) ys k = inr (in-right r xs ys k)
-
-wide-enough : (q : ℕ) → q ≤ 64 * width q
-unfolding width
-wide-enough q = omega arith
 
 -- a root as packing leaves it
 abbrev pub rootAxis : Program → PauliRef → SignedAxis
@@ -72,7 +69,7 @@ module _ (p : Program) (fine : Fine p) (kept : packed p .refused ≡ false) wher
     unfolding isIdentity scaled
     root-identity e =
         let w = wordOf axes (rootAxis p r .axis) in
-        let plain = plain-length l (p .nodes) (fine .ordered) (p .qubits) (wide-enough (p .qubits)) (fine .leaves) (r .node) inside in
+        let plain = plain-length l (p .nodes) (fine .ordered) (p .qubits) (width-holds (p .qubits)) (fine .leaves) (r .node) inside in
         let long : length w ≡ 2 * l = ap (λ (x : List ℕ). length x) root-word ∙ plain in
         same-true w (replicate (length w) 0) e ∙ ap (λ (n : ℕ). replicate n 0) long
 

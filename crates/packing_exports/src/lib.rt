@@ -1,4 +1,4 @@
-// Checking and packing for the benchmark and comparison of oracle/bench: no part of 01's interface.
+// Checking and packing for oracle/ours, the runs against the Rust, and through it the benchmark: no part of 01's interface.
 // The options are Rust's defaults at a word limit. In C a slice is a pointer and a length, and `&mut usize` a pointer.
 ghost use mathlib.Core.Path.{_≡_};
 ghost use mathlib.Core.Bool.{false};

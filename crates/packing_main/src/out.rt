@@ -1,6 +1,7 @@
 // What is printed of a job.
 ghost use Prim.Native.Nat.{_+_, _*_, _≤_};
 ghost use lib.ListN.{length};
+ghost use Rattle.layout.specs.Rows.{rowCount};
 use layout::NO_AXIS;
 use layout::ROOT_AXIS;
 use layout::ROOT_SIGN;
@@ -32,7 +33,7 @@ fn reference(axis: u32, sign: u32) {
 }
 
 fn references(numbers: &[u32], u: usize, count: usize)
-    requires { ⌜ (24 * u ≤ length (now numbers)) × (count ≤ u) ⌝ }
+    requires { ⌜ (rowCount * u ≤ length (now numbers)) × (count ≤ u) ⌝ }
 {
     for j in 0..count {
         reference(
@@ -74,7 +75,7 @@ fn axes(words: &[u64], count: usize, n: usize) {
 
 // A job that is packed.
 fn accepted(words: &[u64], numbers: &[u32], shape: Shape, count: usize)
-    requires { ⌜ (24 * shape .u ≤ length (now numbers)) × (shape .operations + 2 * shape .qubits ≤ shape .u) ⌝ }
+    requires { ⌜ (rowCount * shape .u ≤ length (now numbers)) × (shape .operations + 2 * shape .qubits ≤ shape .u) ⌝ }
     requires { ⌜ 2 * shape .l ≤ 128 ⌝ }
 {
     pair(0, count as u64);
@@ -85,7 +86,7 @@ fn accepted(words: &[u64], numbers: &[u32], shape: Shape, count: usize)
 
 // What packing comes to.
 pub fn packed(p: Packed, words: &[u64], numbers: &[u32], shape: Shape)
-    requires { ⌜ (24 * shape .u ≤ length (now numbers)) × (shape .operations + 2 * shape .qubits ≤ shape .u) ⌝ }
+    requires { ⌜ (rowCount * shape .u ≤ length (now numbers)) × (shape .operations + 2 * shape .qubits ≤ shape .u) ⌝ }
     requires { ⌜ 2 * shape .l ≤ 128 ⌝ }
 {
     let Packed::Axes(count) = p else {

@@ -50,7 +50,7 @@ less-at uses a c =
     (λ e. omega (arith, less-other uses a c (λ z. eqb-false a c e (sym z))))
 
 -- as many entries as before
-pub more-length : (uses : List ℕ) (a : ℕ) → length (oneUseMore a uses) ≡ length uses
+more-length : (uses : List ℕ) (a : ℕ) → length (oneUseMore a uses) ≡ length uses
 unfolding oneUseMore
 more-length uses a = length-set uses a _
 

@@ -25,7 +25,7 @@ module _ (z : Shape) (ns os rs : List ℕ) where
   unfolding programIn programOf
   operations-count = records-length operationOf 6 (z .operations) os
 
-  pub rows-count : length (programIn z ns os rs .rows) ≡ 2 * z .qubits
+  rows-count : length (programIn z ns os rs .rows) ≡ 2 * z .qubits
   unfolding programIn programOf
   rows-count = records-length rowOf 4 (2 * z .qubits) rs
 

@@ -7,7 +7,7 @@ pub mod Owed
 pub mod Uses
 pub mod Live
 pub mod Linked
-pub mod RootRows
+pub mod ReferenceRows
 pub mod InMemory
 pub mod NodeRows
 pub mod SomeProgram

@@ -61,7 +61,7 @@ last-use x h =
     omega arith)
 
 -- a use of one below b
-pub used-below-less : (b m : ℕ) (uses : List ℕ) → m < b → 0 < getD uses m 0
+used-below-less : (b m : ℕ) (uses : List ℕ) → m < b → 0 < getD uses m 0
     → usedBelow b (oneUseLess m uses) + (if eqb (getD uses m 0) 1 then 1 else 0) ≡ usedBelow b uses
 unfolding usedBelow
 used-below-less zero m uses h u = absurd (omega arith)

@@ -10,7 +10,7 @@ use Rattle.model.specs.Program.{Program}
 use Rattle.model.specs.Roots.{relevant}
 use Rattle.theory.specs.PackedRoots.{ChildrenBefore, Ordered}
 use Rattle.layout.specs.declared.Shape.{Shape}
-use Rattle.layout.specs.Rows.{relevantRow}
+use Rattle.layout.specs.Rows.{rowCount, relevantRow}
 use Rattle.layout.specs.Shape.{Sized}
 use Rattle.records.specs.Records.{nodeRecord, product-of}
 use Rattle.records.specs.Nodes.{nodesIn, nodeHere, nodes-count, node-here}
@@ -19,14 +19,14 @@ use Rattle.packing_states.specs.Owed.{children-before}
 
 -- node n has its record; it and a product's children have their entries in a row
 pub record NodeInRows (ns : List ℕ) (u n : ℕ) (xs : List ℕ) : Type 0 where
-  pub long : 24 * u ≤ length xs
+  pub long : rowCount * u ≤ length xs
   pub record-long : n * 5 + 5 ≤ length ns
   pub node : n < u
   pub children : 2 ≤ nodeRecord ns n .kind → (nodeRecord ns n .a < u) × (nodeRecord ns n .b < u)
 
 -- so have count nodes; children stand before their products
 pub record NodesInRows (ns : List ℕ) (u count : ℕ) (xs : List ℕ) : Type 0 where
-  pub long : 24 * u ≤ length xs
+  pub long : rowCount * u ≤ length xs
   pub nodes-long : count * 5 ≤ length ns
   pub fits : count ≤ u
   pub ordered : Ordered 0 (nodesIn count ns)
@@ -53,7 +53,7 @@ abbrev pub TellsRelevant : Program → Shape → List ℕ → Type 0
 TellsRelevant p z xs = (n : ℕ) → n < z .nodes → getD (row xs (z .u) relevantRow) n 0 ≡ (if relevant p n then 1 else 0)
 
 -- the nodes of a program that Checking passed
-pub given-rows : {z : Shape} {ns os rs xs : List ℕ} → Sized z → Given z ns os rs → 24 * z .u ≤ length xs
+pub given-rows : {z : Shape} {ns os rs xs : List ℕ} → Sized z → Given z ns os rs → rowCount * z .u ≤ length xs
     → NodesInRows ns (z .u) (z .nodes) xs
 given-rows {z} {ns} {os} {rs} sized given long = record {
   long = long;

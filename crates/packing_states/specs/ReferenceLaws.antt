@@ -53,7 +53,7 @@ module _ (p : Program) where
   row-kept k = rw (le-ltb (k + (length operationRoots + 0)) (length (p .operations)) (omega (arith, operationRoots-length)), row-at k) refl
 
   -- "Roots are operations, then the frame rows"
-  pub roots-are : roots p ≡ map (referenceAt p) (keep (isRootAt p) (numbersFrom 0 (total p)))
+  roots-are : roots p ≡ map (referenceAt p) (keep (isRootAt p) (numbersFrom 0 (total p)))
   unfolding roots rootRows total references
   roots-are =
       let long = length-append operationRoots (p .rows) in

@@ -59,7 +59,7 @@ module _ (p : Program) (n : ℕ) where
       go false f ih = rw (keep-left (rootOf p n) j (numbersFrom (suc j) k) f, ← skip-reference j f) ih
 
   -- the references' turns are those of the node's roots
-  pub within-all : within p n (total p) ≡ packRoots (width (p .qubits)) n (valueOf p n) (slotted p n) (rootsAt n (roots p))
+  within-all : within p n (total p) ≡ packRoots (width (p .qubits)) n (valueOf p n) (slotted p n) (rootsAt n (roots p))
   unfolding within
   within-all = sym (rw (roots-of p n) (roots-within (total p) 0 (total p) (omega arith)))
 
@@ -108,7 +108,7 @@ module _ (p : Program) where
   unfolding packed before
   before-all = sym (from-node (length (p .nodes)) 0 (omega arith))
 
--- ---- what does not change as the turns go on
+-- ---- as the turns go on: the peak never falls, a refusal stays
 
 rising : (f : ℕ → ℕ) → ((i : ℕ) → f i ≤ f (suc i)) → (k n m : ℕ) → n + k ≡ m → f n ≤ f m
 rising f h zero n m e = let z : n ≡ m = omega arith in rw z (le-refl _)

@@ -119,7 +119,7 @@ unfolding takeSlot
 takeSlot-uses l k = by-if (λ (q : Pack). q .uses ≡ k .uses) _ _ _ refl refl
 
 -- a node that takes its slot has used its children
-pub slotted-uses : (p : Program) (n : ℕ) → slotted p n .uses ≡ useChildren (nodeAt p n) (before p n) .uses
+slotted-uses : (p : Program) (n : ℕ) → slotted p n .uses ≡ useChildren (nodeAt p n) (before p n) .uses
 unfolding slotted
 slotted-uses p n = takeSlot-uses _ (useChildren (nodeAt p n) (before p n))
 
@@ -130,7 +130,7 @@ packRoot-uses l n v k r =
     on-if (λ (q : Pack). q .refused ≡ false → q .uses ≡ oneUseLess n (k .uses)) _ _ _ (λ e f. absurd (true≢false f)) (λ e f. refl)
 
 -- a root that is packed uses its node
-pub root-uses : (p : Program) (n j : ℕ) → rootOf p n j ≡ true → within p n j .refused ≡ false → within p n (suc j) .refused ≡ false
+root-uses : (p : Program) (n j : ℕ) → rootOf p n j ≡ true → within p n j .refused ≡ false → within p n (suc j) .refused ≡ false
     → within p n (suc j) .uses ≡ oneUseLess n (within p n j .uses)
 root-uses p n j e f g =
     let step = pack-reference p n j e f in
@@ -144,11 +144,11 @@ not-yet x y h f = go (x .refused) refl
     go false e = e
 
 -- what is not refused now was not refused before
-pub not-refused-before : (p : Program) (n m : ℕ) → n ≤ m → before p m .refused ≡ false → before p n .refused ≡ false
+not-refused-before : (p : Program) (n m : ℕ) → n ≤ m → before p m .refused ≡ false → before p n .refused ≡ false
 not-refused-before p n m h f = not-yet (before p n) (before p m) (λ r. refused-before p n m r h) f
 
 -- within a node's turn too
-pub not-refused-within : (p : Program) (n j i : ℕ) → j ≤ i → within p n i .refused ≡ false → within p n j .refused ≡ false
+not-refused-within : (p : Program) (n j i : ℕ) → j ≤ i → within p n i .refused ≡ false → within p n j .refused ≡ false
 not-refused-within p n j i h f = not-yet (within p n j) (within p n i) (λ r. refused-within p n j i r h) f
 
 module _ (p : Program) (o : Ordered 0 (p .nodes)) where

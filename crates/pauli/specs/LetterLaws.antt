@@ -15,9 +15,14 @@ use Rattle.bits.specs.Digit.{Digit, off, on}
 use Rattle.bits.specs.Bit.{bit, bit-digit, bit-xor, bit-and, bit-or, bit-ext, bit-high, zero-bit, pow-bit, pow-other}
 use Rattle.bits.specs.Sum.{sumTo, sum-cong, sum-add}
 use Rattle.bits.specs.Popcount.{popcount, popcount-bits}
-use Rattle.pauli.specs.Word.{xWord, zWord, IsWord, identity, common, ν, xorWords}
+use Rattle.pauli.specs.Word.{width, xWord, zWord, IsWord, identity, common, ν, xorWords}
 use Rattle.pauli.specs.Letter.{letterOf, hasX, hasZ, letterAt, single, other, acts}
 use Rattle.pauli.specs.ProductLaws.{zeros-at, xorWords-at, xorWords-length}
+
+-- the qubits have their bits
+pub width-holds : (q : ℕ) → q ≤ 64 * width q
+unfolding width
+width-holds q = omega arith
 
 -- qubit 64 j + t is bit t of word j
 place-div : (j t : ℕ) → t < 64 → (64 * j + t) / 64 ≡ j

@@ -14,12 +14,12 @@ use Rattle.model.specs.Program.{Program}
 use Rattle.model.specs.Packing.{oneUseMore}
 use Rattle.theory.specs.Cases.{if-false}
 use Rattle.layout.specs.declared.Shape.{Shape}
-use Rattle.layout.specs.Rows.{relevantRow, usesRow, firstRoot, nextRoot, rootAxis, rootSign, noAxis, written-row}
+use Rattle.layout.specs.Rows.{rowCount, relevantRow, usesRow, firstRoot, nextRoot, rootAxis, rootSign, noAxis, written-row}
 use Rattle.layout.specs.Only.{Only, only-of, only-then, only-written}
 use Rattle.packing_states.specs.References.{referenceAt, total, isRootAt, rootOf, linkFrom}
 use Rattle.packing_states.specs.ReferenceLaws.{rootsFrom, roots-from-step, roots-from-end, link-end, link-here, link-past}
 use Rattle.packing_states.specs.Counts.{more-at}
-use Rattle.packing_states.specs.RootRows.{entry-own, entry-other, axis-own, sign-own, axis-other, sign-other}
+use Rattle.packing_states.specs.ReferenceRows.{entry-own, entry-other, axis-own, sign-own, axis-other, sign-other}
 use Rattle.roots.specs.Links.{AddPre, Added, FrontPre, frontRows, InFront, NoRoot, linkRows, RowLinked, LinksFrom}
 
 -- ---- what the writes leave
@@ -34,7 +34,7 @@ added {s} {t} {u} {n} {x} pre e w = record {
 
 module _ {s s₁ s₂ : List ℕ} {u j n x : ℕ} (pre : FrontPre s u j n)
     (w₁ : Written s u nextRoot j x s₁) (w₂ : Written s₁ u firstRoot n (j + 1) s₂) where
-  long₁ : 24 * u ≤ length s₁
+  long₁ : rowCount * u ≤ length s₁
   long₁ = omega (arith, pre .long, w₁ .long)
 
   only₁ : Only (nextRoot ∷ []) u s s₁
@@ -90,7 +90,7 @@ module _ (p : Program) (j : ℕ) where
 
 -- ---- one reference more
 
-module _ (p : Program) (z : Shape) (j : ℕ) (s t : List ℕ) (long : 24 * z .u ≤ length s) (b : j < total p) (k : total p ≤ z .u)
+module _ (p : Program) (z : Shape) (j : ℕ) (s t : List ℕ) (long : rowCount * z .u ≤ length s) (b : j < total p) (k : total p ≤ z .u)
     (f : LinksFrom p z (suc j) s) where
   -- a root
   module _ (e : isRootAt p j ≡ true) (n : ℕ) (d : referenceAt p j .node ≡ n) (h : n < z .nodes) (g : z .nodes ≤ z .u)
@@ -106,7 +106,7 @@ module _ (p : Program) (z : Shape) (j : ℕ) (s t : List ℕ) (long : 24 * z .u 
     root-uses : (m : ℕ) → m < z .nodes → getD (row t (z .u) usesRow) m 0 ≡ rootsFrom p m j
     root-uses m l =
         let step = roots-from-step p m j b in
-        let in-row : m < length (row s (z .u) usesRow) = omega (arith, row-length s (z .u) 24 usesRow long (omega arith)) in
+        let in-row : m < length (row s (z .u) usesRow) = omega (arith, row-length s (z .u) rowCount usesRow long (omega arith)) in
         rw (w .uses, more-at (row s (z .u) usesRow) n m in-row, sym (root-test p j e n m d)) (omega (arith, step, f .uses m l))
 
     root-next : (i : ℕ) → j ≤ i → i < total p → isRootAt p i ≡ true → Dec (i ≡ j)

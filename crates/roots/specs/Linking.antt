@@ -14,7 +14,7 @@ use Rattle.model.specs.Program.{Program}
 use Rattle.model.specs.Roots.{relevant, roots}
 use Rattle.theory.specs.Cases.{if-true, if-false}
 use Rattle.layout.specs.declared.Shape.{Shape}
-use Rattle.layout.specs.Rows.{relevantRow, usesRow, firstRoot, entries, entries-length, entries-at}
+use Rattle.layout.specs.Rows.{rowCount, relevantRow, usesRow, firstRoot, entries, entries-length, entries-at}
 use Rattle.layout.specs.Only.{Only, only-none, only-of, only-then}
 use Rattle.records.specs.Records.{operationRecord, rowRecord}
 use Rattle.packing_states.specs.References.{referenceAt, total, isRootAt}
@@ -29,14 +29,14 @@ use Rattle.roots.specs.LinkLaws.{link-root, link-no-root, linked-none}
 
 -- ---- other rows are written
 
-pub sizes-kept : {p : Program} {z : Shape} {s t : List ℕ} → length t ≡ length s → Sizes p z s → Sizes p z t
+sizes-kept : {p : Program} {z : Shape} {s t : List ℕ} → length t ≡ length s → Sizes p z s → Sizes p z t
 sizes-kept {p} {z} {s} {t} e a = record {
   sized = a .sized;
   long = omega (arith, a .long);
   whole = a .whole;
 }
 
-pub rows-kept : {p : Program} {z : Shape} {rs s t : List ℕ} → Only linkRows (z .u) s t → RowsIn p z rs s → RowsIn p z rs t
+rows-kept : {p : Program} {z : Shape} {rs s t : List ℕ} → Only linkRows (z .u) s t → RowsIn p z rs s → RowsIn p z rs t
 unfolding member anyOf
 rows-kept {p} {z} {rs} {s} {t} o a = record {
   long = a .long;
@@ -103,7 +103,7 @@ module _ (z : Shape) (rs s : List ℕ) where
         → LinksFrom p z (z .operations + r) y
     row-turn o f w = go (relevant p n) refl
       where
-        long : 24 * z .u ≤ length x
+        long : rowCount * z .u ≤ length x
         long = omega (arith, a .sizes .long, o .long)
 
         b : z .operations + r < total p
@@ -196,7 +196,7 @@ module _ (z : Shape) (os s : List ℕ) where
 
 -- ---- when all are linked
 
-pub all-linked : (p : Program) (z : Shape) (t : List ℕ) → Sizes p z t → LinksFrom p z 0 t → Links p z t
+all-linked : (p : Program) (z : Shape) (t : List ℕ) → Sizes p z t → LinksFrom p z 0 t → Links p z t
 all-linked p z t a f = record {
   linked = f .linked;
   uses = ext-getD 0 (entries t (z .u) usesRow (z .nodes)) (rootCounts (roots p) (z .nodes)) (long ∙ sym (rootCounts-length (roots p) (z .nodes)))
@@ -218,7 +218,7 @@ all-linked p z t a f = record {
 
 module _ (z : Shape) (os rs s s₁ s₂ : List ℕ) (some : SomeProgram (λ (p : Program). LinkPre p z os rs s))
     (e : s₁ ≡ put s (firstRoot * z .u) (replicate (z .nodes) 0)) (d : s₂ ≡ put s₁ (usesRow * z .u) (replicate (z .nodes) 0)) where
-  long : 24 * z .u ≤ length s
+  long : rowCount * z .u ≤ length s
   long = some .it .sizes .long
 
   fits : z .nodes ≤ z .u
@@ -227,7 +227,7 @@ module _ (z : Shape) (os rs s s₁ s₂ : List ℕ) (some : SomeProgram (λ (p :
   only₁ : Only (firstRoot ∷ []) (z .u) s s₁
   only₁ = cleared-only s (z .u) firstRoot (z .nodes) long (omega arith) fits e
 
-  long₁ : 24 * z .u ≤ length s₁
+  long₁ : rowCount * z .u ≤ length s₁
   long₁ = omega (arith, long, only₁ .long)
 
   only₂ : Only (usesRow ∷ []) (z .u) s₁ s₂

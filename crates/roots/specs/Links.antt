@@ -8,7 +8,7 @@ use Rattle.model.specs.Program.{Program}
 use Rattle.model.specs.Roots.{roots}
 use Rattle.model.specs.Packing.{oneUseMore}
 use Rattle.layout.specs.declared.Shape.{Shape}
-use Rattle.layout.specs.Rows.{relevantRow, usesRow, firstRoot, nextRoot, rootAxis, rootSign, noAxis, entries}
+use Rattle.layout.specs.Rows.{rowCount, relevantRow, usesRow, firstRoot, nextRoot, rootAxis, rootSign, noAxis, entries}
 use Rattle.layout.specs.Only.{Only}
 use Rattle.layout.specs.Shape.{Sized}
 use Rattle.records.specs.Records.{operationRecord, rowRecord}
@@ -16,7 +16,7 @@ use Rattle.packing_states.specs.References.{referenceAt, total}
 use Rattle.packing_states.specs.ReferenceLaws.{rootsFrom}
 use Rattle.packing_states.specs.Counts.{rootCounts}
 use Rattle.packing_states.specs.Linked.{LinkedFrom, Linked}
-use Rattle.packing_states.specs.RootRows.{RootRows, rootRows}
+use Rattle.packing_states.specs.ReferenceRows.{ReferenceRows, referenceRows}
 use Rattle.packing_states.specs.InMemory.{Whole}
 use Rattle.packing_states.specs.NodeRows.{TellsRelevant}
 
@@ -24,7 +24,7 @@ use Rattle.packing_states.specs.NodeRows.{TellsRelevant}
 
 -- the count still fits 32 bits
 pub record AddPre (s : List ℕ) (u n : ℕ) : Type 0 where
-  pub long : 24 * u ≤ length s
+  pub long : rowCount * u ≤ length s
   pub node : n < u
   pub uses : getD (row s u usesRow) n 0 < 4294967295
 
@@ -37,7 +37,7 @@ pub record Added (s : List ℕ) (u n : ℕ) (t : List ℕ) : Type 0 where
 
 -- both have their entries, and j + 1 fits 32 bits
 pub record FrontPre (s : List ℕ) (u j n : ℕ) : Type 0 where
-  pub long : 24 * u ≤ length s
+  pub long : rowCount * u ≤ length s
   pub u-small : u ≤ 1187839
   pub root : j < u
   pub node : n < u
@@ -56,7 +56,7 @@ pub record InFront (s : List ℕ) (u j n : ℕ) (t : List ℕ) : Type 0 where
 
 -- reference j, which is no root, has no axis
 abbrev pub NoRoot : List ℕ → ℕ → ℕ → List ℕ → Type 0
-NoRoot s u j t = RootRows rootRows u j noAxis 0 s t
+NoRoot s u j t = ReferenceRows referenceRows u j noAxis 0 s t
 
 -- reference i is operation i of the records
 pub record OperationPre (os s : List ℕ) (u i : ℕ) : Type 0 where
@@ -88,7 +88,7 @@ pub record LinksFrom (p : Program) (z : Shape) (j : ℕ) (t : List ℕ) : Type 0
 -- the program has these sizes, and the number store has its rows
 pub record Sizes (p : Program) (z : Shape) (s : List ℕ) : Type 0 where
   pub sized : Sized z
-  pub long : 24 * z .u ≤ length s
+  pub long : rowCount * z .u ≤ length s
   pub whole : Whole p z
 
 -- its operations are these records

@@ -6,7 +6,7 @@ use lib.ListN.{length}
 use Rattle.model.specs.Roots.{roots}
 use Rattle.model.specs.Packing.{useCounts}
 use Rattle.layout.specs.declared.Shape.{Shape}
-use Rattle.layout.specs.Rows.{usesRow, entries}
+use Rattle.layout.specs.Rows.{rowCount, usesRow, entries}
 use Rattle.layout.specs.Only.{Only}
 use Rattle.layout.specs.Shape.{Sized}
 use Rattle.records.specs.Given.{programIn, Given}
@@ -18,7 +18,7 @@ use Rattle.roots.specs.Links.{linkRows}
 pub record PreparePre (z : Shape) (ns os rs xs : List ℕ) : Type 0 where
   pub sized : Sized z
   pub given : Given z ns os rs
-  pub numbers-long : 24 * z .u ≤ length xs
+  pub numbers-long : rowCount * z .u ≤ length xs
   pub tells : TellsRelevant (programIn z ns os rs) z xs
 
 -- each node's roots are linked and each node's uses counted, as the model counts them

@@ -14,7 +14,7 @@ use Rattle.model.specs.Program.{Node, identity, letter, product}
 use Rattle.model.specs.Packing.{oneUseMore, countChildren, countUses}
 use Rattle.theory.specs.Cases.{by-if, if-true, if-false}
 use Rattle.theory.specs.PackedRoots.{ChildrenBefore}
-use Rattle.layout.specs.Rows.{usesRow, entries, entries-at}
+use Rattle.layout.specs.Rows.{rowCount, usesRow, entries, entries-at}
 use Rattle.layout.specs.Only.{Only, only-none, only-then}
 use Rattle.records.specs.Records.{nodeRecord, leaf-of, product-of}
 use Rattle.records.specs.Nodes.{nodesIn, nodeHere, node-here}
@@ -44,7 +44,7 @@ module _ (ns s s₁ : List ℕ) (u n : ℕ) (h : 2 ≤ nodeRecord ns n .kind) (w
       let a = nodeRecord ns n .a in
       let b = nodeRecord ns n .b in
       let long : b < length (row s u usesRow) =
-      omega (arith, pre .node .children h .1, row-length s u 24 usesRow (pre .node .long) (let z : usesRow < 24 = omega arith in z)) in
+      omega (arith, pre .node .children h .1, row-length s u rowCount usesRow (pre .node .long) (let z : usesRow < rowCount = omega arith in z)) in
       record {
         long = omega (arith, pre .node .long, w .only .long);
         node = pre .node .children h .1;
@@ -109,12 +109,12 @@ module _ (ns s : List ℕ) (u count : ℕ) where
     below : n - 1 < count
     below = omega (arith, i .most)
 
-    long : 24 * u ≤ length x
+    long : rowCount * u ≤ length x
     long = omega (arith, pre .nodes .long, i .only .long)
 
     few : (m : ℕ) → m < n - 1 → getD (row x u usesRow) m 0 < 4294967294
     few m b =
-        let e = entries-at x u usesRow count long (let z : usesRow < 24 = omega arith in z) (pre .nodes .fits) m (omega arith) in
+        let e = entries-at x u usesRow count long (let z : usesRow < rowCount = omega arith in z) (pre .nodes .fits) m (omega arith) in
         omega (arith, e, i .small m, pre .few)
 
     pub uses-need : UsePre ns x u (n - 1)

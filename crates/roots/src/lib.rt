@@ -2,6 +2,7 @@
 ghost use Prim.Native.Nat.{_*_, _<_, _≤_};
 ghost use lib.ListN.{length};
 ghost use Rattle.model.specs.Program.{Program};
+ghost use Rattle.layout.specs.Rows.{rowCount};
 ghost use Rattle.records.specs.Records.{operationRecord, rowRecord};
 ghost use Rattle.packing_states.specs.SomeProgram.{SomeProgram};
 ghost use Rattle.roots.specs.Links.{AddPre, Added, FrontPre, InFront, NoRoot, OperationPre, RowPre, RowLinked};
@@ -38,12 +39,12 @@ fn link(numbers: &mut [u32], u: usize, root: usize, node: usize)
 }
 
 // A frame row that is no root has no axis.
-fn no_root(numbers: &mut [u32], u: usize, root: usize)
-    requires { ⌜ (24 * u ≤ length (now numbers)) × (root < u) ⌝ }
-    ensures { λ _. ⌜ NoRoot (now (numbers .entry)) u root (now (numbers .exit)) ⌝ }
+fn no_root(numbers: &mut [u32], u: usize, reference: usize)
+    requires { ⌜ (rowCount * u ≤ length (now numbers)) × (reference < u) ⌝ }
+    ensures { λ _. ⌜ NoRoot (now (numbers .entry)) u reference (now (numbers .exit)) ⌝ }
 {
-    store::write(numbers, u, ROOT_AXIS, root, NO_AXIS);
-    store::write(numbers, u, ROOT_SIGN, root, 0);
+    store::write(numbers, u, ROOT_AXIS, reference, NO_AXIS);
+    store::write(numbers, u, ROOT_SIGN, reference, 0);
 }
 
 // Links operation i.
@@ -55,17 +56,17 @@ fn link_operation(operations: &[u32], numbers: &mut [u32], u: usize, i: usize)
     link(numbers, u, i, node);
 }
 
-// Links frame row r, the reference `root`, if its node is relevant.
-fn link_row(rows: &[u32], numbers: &mut [u32], u: usize, root: usize, r: usize)
-    requires { ⌜ RowPre (now rows) (now numbers) u root r ⌝ }
-    ensures { λ _. ⌜ RowLinked (now (numbers .entry)) u root (rowRecord (now (rows .entry)) r .node) (now (numbers .exit)) ⌝ }
+// Links frame row r, which is this reference, if its node is relevant.
+fn link_row(rows: &[u32], numbers: &mut [u32], u: usize, reference: usize, r: usize)
+    requires { ⌜ RowPre (now rows) (now numbers) u reference r ⌝ }
+    ensures { λ _. ⌜ RowLinked (now (numbers .entry)) u reference (rowRecord (now (rows .entry)) r .node) (now (numbers .exit)) ⌝ }
 {
     let node = records::row_at(rows, r).node as usize;
     if store::read(&numbers[..], u, RELEVANT, node) == 0 {
-        no_root(numbers, u, root);
+        no_root(numbers, u, reference);
         return;
     }
-    link(numbers, u, root, node);
+    link(numbers, u, reference, node);
 }
 
 // Links the operations, the last one first, so that each node's list rises.

@@ -11,10 +11,6 @@ pub record Alike (j j′ : Job) : Type 0 where
   pub operations : operationRecords j′ ≡ operationRecords j
   pub rows : rowRecords j′ ≡ rowRecords j
 
--- a job is like itself
-pub alike-refl : (j : Job) → Alike j j
-alike-refl j = record { counts = refl; nodes = refl; operations = refl; rows = refl }
-
 -- they hold one program
 pub alike-program : (j j′ : Job) → Alike j j′ → programOf j′ ≡ programOf j
 unfolding programOf

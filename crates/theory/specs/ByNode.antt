@@ -6,16 +6,27 @@ use native.Mathlib.Nat.{zero-add, add-zero}
 use native.Mathlib.Omega.{arith}
 use lib.ListN.{length, getD, length-append, List·getD-append}
 use lib.Seq.{getD-append-seam}
-use Rattle.model.specs.Program.{Node, identity}
+use Rattle.model.specs.Program.{Node, identity, letter, product}
 use Rattle.theory.specs.PackedRoots.{ChildrenBefore, Ordered}
+
+-- P holds of a node's children
+abbrev pub OfChildren : (ℕ → Type 0) → Node → Type 0
+OfChildren P identity = Unit {0}
+OfChildren P (letter q c) = Unit {0}
+OfChildren P (product a p b r) = P a × P b
+
+-- which are among those before the node
+pub children-of : {P : ℕ → Type 0} (n : ℕ) (node : Node) → ChildrenBefore n node → ((i : ℕ) → i < n → P i) → OfChildren P node
+children-of n identity b h = tt
+children-of n (letter q c) b h = tt
+children-of n (product a p c r) b h = (h a (b .0), h c (b .1))
 
 -- `of` makes a node's element from its children's, d where there is none; `from` goes on with the nodes that are left
 module _ {A : Type 0} (d : A) (of : (ℕ → A) → Node → A) (from : List A → List Node → List A)
     (from-end : (before : List A) → from before [] ≡ before)
     (from-next : (before : List A) (node : Node) (rest : List Node)
     → from before (node ∷ rest) ≡ from (before ++ (of (λ i. getD before i d) node ∷ [])) rest)
-    (same-node : (n : ℕ) (f g : ℕ → A) (node : Node) → ChildrenBefore n node → ((i : ℕ) → i < n → f i ≡ g i)
-    → of f node ≡ of g node) where
+    (same-node : (f g : ℕ → A) (node : Node) → OfChildren (λ i. f i ≡ g i) node → of f node ≡ of g node) where
   abbrev at : List A → ℕ → A
   at xs i = getD xs i d
 
@@ -23,7 +34,7 @@ module _ {A : Type 0} (d : A) (of : (ℕ → A) → Node → A) (from : List A �
   longer before node = before ++ (of (at before) node ∷ [])
 
   -- what stands already stays
-  pub from-prefix : (before : List A) (rest : List Node) (i : ℕ) → i < length before → getD (from before rest) i d ≡ getD before i d
+  from-prefix : (before : List A) (rest : List Node) (i : ℕ) → i < length before → getD (from before rest) i d ≡ getD before i d
   from-prefix before [] i h = ap (λ (xs : List A). at xs i) (from-end before)
   from-prefix before (node ∷ rest) i h =
       let x = of (at before) node in
@@ -38,11 +49,11 @@ module _ {A : Type 0} (d : A) (of : (ℕ → A) → Node → A) (from : List A �
       let x = of (at before) node in
       let long : length (longer before node) ≡ length before + 1 = length-append before (x ∷ []) in
       from-prefix (longer before node) rest (length before) (omega arith) ∙ getD-append-seam before x [] d
-      ∙ same-node (length before) (at before) (at (from (longer before node) rest)) node o
-      (λ i b. sym (from-prefix (longer before node) rest i (omega arith) ∙ List·getD-append before (x ∷ []) d i b))
+      ∙ same-node (at before) (at (from (longer before node) rest)) node (children-of (length before) node o
+      (λ i b. sym (from-prefix (longer before node) rest i (omega arith) ∙ List·getD-append before (x ∷ []) d i b)))
 
   -- so has each
-  pub from-own : (before : List A) (rest : List Node) → Ordered (length before) rest → (k : ℕ) → k < length rest
+  from-own : (before : List A) (rest : List Node) → Ordered (length before) rest → (k : ℕ) → k < length rest
       → getD (from before rest) (k + length before) d ≡ of (λ i. getD (from before rest) i d) (getD rest k identity)
   from-own before [] o k h = absurd (omega arith)
   from-own before (node ∷ rest) o zero h = rw (from-next before node rest, zero-add) (from-first before node rest (o .0))

@@ -24,6 +24,7 @@ pub mod Limit
 pub mod AcceptedRun
 pub mod TCountCalls
 pub mod ByNode
+pub mod NodeValue
 pub mod PlainValue
 pub mod Hermitian
 pub mod ListingCalls

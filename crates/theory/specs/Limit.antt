@@ -43,12 +43,6 @@ pub beyond-answer : (limit : ℕ) (r : Run) → limit < r .peak → answerOf lim
 unfolding answerOf
 beyond-answer limit r h = if-true _ _ (lt-ltb limit (r .peak) h)
 
--- an answer other than 10 is the same at every larger limit
-pub same-answer : (a b : ℕ) (r : Run) → a ≤ b → (answerOf a r ≡ ExpansionLimit → ⊥) → answerOf b r ≡ answerOf a r
-same-answer a b r le n =
-    let h = within a r n in
-    within-answer b r (le-trans h le) ∙ sym (within-answer a r h)
-
 -- ---- two calls of Rewriting
 
 -- "options are equal", but for the limit

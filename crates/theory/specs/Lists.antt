@@ -1,11 +1,11 @@
 -- Sums over lists, facts about places in them, what tests keep and count, numbers in order. Assumes nothing.
 use mathlib.Core.Path.{_≡_, refl, sym, ap, _∙_}
 use mathlib.Core.Bool.{Bool, true, false, _&&_, _||_, or-assoc}
-use mathlib.Core.List.{List, [], _∷_, _++_, map, flatten}
+use mathlib.Core.List.{List, [], _∷_, _++_, map, flatten, append-nil}
 use Prim.Native.Nat.{ℕ, zero, suc, _+_, _≤_, _<_}
 use native.Mathlib.Nat.{le-refl, zero-add}
 use native.Mathlib.Omega.{arith}
-use lib.ListN.{length, getD, drop, set, length-append}
+use lib.ListN.{length, getD, drop, set, length-append, length-map, List·getD-map}
 use Rattle.model.specs.Lists.{if_then_else_, anyOf, keep, countOf, sumOf, numbersFrom}
 use Rattle.theory.specs.Cases.{by-if, on-if, if-true, if-false}
 
@@ -80,6 +80,12 @@ module _ {A : Type 0} (f : A → Bool) (x : A) (xs : List A) where
   pub keep-left : f x ≡ false → keep f (x ∷ xs) ≡ keep f xs
   unfolding keep
   keep-left e = if-false _ _ e
+
+-- all, if it takes all
+keep-all : {A : Type 0} (xs : List A) → keep (λ x. true) xs ≡ xs
+unfolding keep if_then_else_
+keep-all [] = refl
+keep-all {A} (x ∷ xs) = ap (λ (ys : List A). x ∷ ys) (keep-all xs)
 
 -- of elements that g makes
 pub keep-map : {A B : Type 0} (f : B → Bool) (g : A → B) (xs : List A) → keep f (map g xs) ≡ map g (keep (λ x. f (g x)) xs)
@@ -174,3 +180,17 @@ module _ {A : Type 0} (g : ℕ → A) (f : ℕ → Bool) (d : A) where
           → map g (keep f (i ∷ numbersFrom (suc i) (length xs))) ≡ keep h (x ∷ xs)
       go true e ih = rw (keep-taken f i (numbersFrom (suc i) (length xs)) (here .0 ∙ e), here .1, ih, keep-taken h x xs e) refl
       go false e ih = rw (keep-left f i (numbersFrom (suc i) (length xs)) (here .0 ∙ e), ih, keep-left h x xs e) refl
+
+module _ {A B : Type 0} (f : ℕ → B) (g : A → B) (d : A) where
+  -- the numbers in front are the list's places
+  pub map-front : (xs : List A) (i m t : ℕ) → t ≡ length xs + m → ((k : ℕ) → k < length xs → f (k + i) ≡ g (getD xs k d))
+      → map f (numbersFrom i t) ≡ map g xs ++ map f (numbersFrom (length xs + i) m)
+  map-front xs i m t e h =
+      let long : length (map g xs) ≡ length xs = length-map xs g in
+      rw (keep-all (numbersFrom i t), long, keep-all (numbersFrom (length xs + i) m)) at
+      (kept-front f (λ n. true) (g d) (map g xs) i m t (omega arith) (λ k b. (refl, h k (omega arith) ∙ sym (List·getD-map g xs k d))))
+
+  -- all of them are
+  pub map-all : (xs : List A) (i : ℕ) → ((k : ℕ) → k < length xs → f (k + i) ≡ g (getD xs k d)) → map f (numbersFrom i (length xs)) ≡ map g xs
+  unfolding numbersFrom
+  map-all xs i h = map-front xs i 0 (length xs) (omega arith) h ∙ append-nil (map g xs)

@@ -63,11 +63,6 @@ module _ (m : ℕ → ℕ) where
   unfolding sizeOf
   sizeOf-append xs ys = sumOf-append _ xs ys
 
-  -- one more in front
-  pub sizeOf-cons : (i : Item) (is : List Item) → sizeOf m (i ∷ is) ≡ m (angleOf i) + sizeOf m is
-  unfolding sizeOf sumOf
-  sizeOf-cons i is = refl
-
   -- those that f takes
   pub sizeOf-keep : (f : Item → Bool) (is : List Item) → sizeOf m (keep f is) ≤ sizeOf m is
   unfolding sizeOf

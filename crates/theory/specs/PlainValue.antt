@@ -8,22 +8,15 @@ use lib.ListN.{length, getD}
 use Rattle.pauli.specs.Word.{width}
 use Rattle.model.specs.declared.Options.{Options}
 use Rattle.model.specs.declared.Answer.the-variants.{Accepted}
-use Rattle.model.specs.Program.{Job, Node, identity, letter, product, programOf}
+use Rattle.model.specs.Program.{Job, Node, identity, programOf}
 use Rattle.model.specs.Words.{Value, asValue}
 use Rattle.model.specs.Value.{nodeValue, valueAt, valuesFrom, values, plainValueWithin, plainValue}
 use Rattle.model.specs.Packing.{valuesOf}
 use Rattle.model.specs.Checking.{Lent, checking}
 use Rattle.theory.specs.PackedRoots.{ChildrenBefore, Ordered}
-use Rattle.theory.specs.ByNode.{all-own}
+use Rattle.theory.specs.ByNode.{children-of, all-own}
 use Rattle.theory.specs.Checked.{nodes-length, checked-fine}
-
--- a node's value asks for its children's only
-pub nodeValue-same : (l n : ℕ) (f g : ℕ → Value) (node : Node) → ChildrenBefore n node → ((i : ℕ) → i < n → f i ≡ g i)
-    → nodeValue l f node ≡ nodeValue l g node
-unfolding nodeValue
-nodeValue-same l n f g identity b h = refl
-nodeValue-same l n f g (letter q c) b h = refl
-nodeValue-same l n f g (product a p c r) b h = rw (h a (b .0), h c (b .1)) refl
+use Rattle.theory.specs.NodeValue.{nodeValue-same}
 
 -- a node's children stand before it
 pub ordered-at : (n : ℕ) (nodes : List Node) (k : ℕ) → Ordered n nodes → k < length nodes → ChildrenBefore (k + n) (getD nodes k identity)
@@ -47,8 +40,8 @@ module _ (l : ℕ) (nodes : List Node) (o : Ordered 0 nodes) where
   within-levels zero n h b = absurd (omega arith)
   within-levels (suc levels) n h b =
       let e : n + 0 ≡ n = add-zero n in
-      nodeValue-same l n (λ child. plainValueWithin levels l nodes child) (valueAt vs) (getD nodes n identity) (rw e at (ordered-at 0 nodes n o b))
-      (λ i c. within-levels levels i (omega arith) (omega arith))
+      nodeValue-same l (λ child. plainValueWithin levels l nodes child) (valueAt vs) (getD nodes n identity)
+      (children-of n (getD nodes n identity) (rw e at (ordered-at 0 nodes n o b)) (λ i c. within-levels levels i (omega arith) (omega arith)))
       ∙ sym (own n b)
 
   -- the plain value of a node is the value in packing's list

@@ -6,7 +6,7 @@ use native.Mathlib.Nat.{le-trans}
 use native.Mathlib.Omega.{arith}
 use lib.ListN.{length, length-append}
 use Rattle.pauli.specs.Word.{width, IsWord}
-use Rattle.pauli.specs.LetterLaws.{single-word, xorWords-word, identity-word}
+use Rattle.pauli.specs.LetterLaws.{width-holds, single-word, xorWords-word, identity-word}
 use Rattle.model.specs.Program.{Node, identity, letter, product, PauliRef, Program}
 use Rattle.model.specs.Words.{Value, asValue, scaled, multiply, tested}
 use Rattle.model.specs.Value.{nodeValue, valueAt, valuesFrom, values}
@@ -55,10 +55,7 @@ valuesFrom-length l before (node ∷ rest) =
 -- the values of a checked program's nodes are words
 pub values-words : (p : Program) → Fine p → Every (ValueWord (width (p .qubits))) (valuesOf p)
 unfolding values
-values-words p f = valuesFrom-words (width (p .qubits)) (p .qubits) [] (p .nodes) (fits (p .qubits)) (f .leaves) (f .ordered) tt
-  where
-    fits : (q : ℕ) → q ≤ 64 * width q
-    fits q = unfold width in (omega arith)
+values-words p f = valuesFrom-words (width (p .qubits)) (p .qubits) [] (p .nodes) (width-holds (p .qubits)) (f .leaves) (f .ordered) tt
 
 -- there is one for each node
 pub values-length : (p : Program) → length (valuesOf p) ≡ length (p .nodes)

@@ -1,7 +1,8 @@
 -- The loop's invariant: none of the first id axes is w. Assumes nothing.
 use Prim.Native.Nat.{_≤_, _-_}
 use Rattle.model.specs.Words.{idOf}
-use Rattle.axes.specs.View.{axesOf, axis-in}
+use Rattle.layout.specs.Words.{slots-le}
+use Rattle.axes.specs.View.{axesOf}
 use Rattle.axes.specs.Find.{id-here, id-next, id-none}
 use native.Mathlib.Omega.{arith}
 use borrow.Author.Needs.{needs}
@@ -21,7 +22,7 @@ loop-holds : tie.Need-loop-holds Inv-loop μ-loop
 loop-holds c = omega arith
 
 axis-requires : tie.Need-axis-requires Inv-loop μ-loop
-axis-requires c κs = let s = c .before .before .before .before .before in omega (arith, axis-in (s .args .l) _ _ (c .loop-test .taken))
+axis-requires c κs = let s = c .before .before .before .before .before in omega (arith, slots-le (s .args .l) _ _ (c .loop-test .taken))
 
 same-by-requires : tie.Need-same-by-requires Inv-loop μ-loop
 same-by-requires c κs = search needs

@@ -8,14 +8,14 @@ use lib.ListN.{length, getD, set}
 use lib.Seq.{getD-set-same, getD-set-other}
 use Rattle.store.specs.Row.{row, Written, row-length}
 use Rattle.model.specs.Lists.{anyOf, member, allOf}
-use Rattle.layout.specs.Rows.{rootAxis, rootSign, written-row}
+use Rattle.layout.specs.Rows.{rowCount, rootAxis, rootSign, written-row}
 use Rattle.layout.specs.Only.{Only, only-then, only-of, only-written}
 
 -- ---- one entry of row r is written
 
 module _ (xs : List ℕ) (u r j v : ℕ) {q : List ℕ} (e : q ≡ set (row xs u r) j v) where
-  pub entry-own : 24 * u ≤ length xs → r < 24 → j < u → getD q j 0 ≡ v
-  entry-own long h b = ap (λ (y : List ℕ). getD y j 0) e ∙ getD-set-same (row xs u r) j v 0 (omega (arith, row-length xs u 24 r long h))
+  pub entry-own : rowCount * u ≤ length xs → r < rowCount → j < u → getD q j 0 ≡ v
+  entry-own long h b = ap (λ (y : List ℕ). getD y j 0) e ∙ getD-set-same (row xs u r) j v 0 (omega (arith, row-length xs u rowCount r long h))
 
   pub entry-other : (i : ℕ) → i ≢ j → getD q i 0 ≡ getD (row xs u r) i 0
   entry-other i n = ap (λ (y : List ℕ). getD y i 0) e ∙ getD-set-other (row xs u r) j i v 0 n
@@ -23,19 +23,19 @@ module _ (xs : List ℕ) (u r j v : ℕ) {q : List ℕ} (e : q ≡ set (row xs u
 -- ---- the axis and the sign
 
 -- reference j's are written, and of the other rows only some change
-pub record RootRows (rs : List ℕ) (u j id turns : ℕ) (xs t : List ℕ) : Type 0 where
+pub record ReferenceRows (rs : List ℕ) (u j id turns : ℕ) (xs t : List ℕ) : Type 0 where
   pub only : Only rs u xs t
   pub axis : row t u rootAxis ≡ set (row xs u rootAxis) j id
   pub sign : row t u rootSign ≡ set (row xs u rootSign) j turns
 
-abbrev pub rootRows : List ℕ
-rootRows = rootAxis ∷ rootSign ∷ []
+abbrev pub referenceRows : List ℕ
+referenceRows = rootAxis ∷ rootSign ∷ []
 
-pub root-rows : {u j id turns : ℕ} {xs xs′ t : List ℕ} → 24 * u ≤ length xs → j < u → Written xs u rootAxis j id xs′
-    → Written xs′ u rootSign j turns t → RootRows rootRows u j id turns xs t
+pub reference-rows : {u j id turns : ℕ} {xs xs′ t : List ℕ} → rowCount * u ≤ length xs → j < u → Written xs u rootAxis j id xs′
+    → Written xs′ u rootSign j turns t → ReferenceRows referenceRows u j id turns xs t
 unfolding member anyOf allOf
-root-rows {u} {j} {id} {turns} {xs} {xs′} {t} h b a s =
-    let long : 24 * u ≤ length xs′ = omega (arith, a .long) in
+reference-rows {u} {j} {id} {turns} {xs} {xs′} {t} h b a s =
+    let long : rowCount * u ≤ length xs′ = omega (arith, a .long) in
     let x = only-written h (omega arith) b a in
     let y = only-written long (omega arith) b s in
     record {
@@ -44,11 +44,11 @@ root-rows {u} {j} {id} {turns} {xs} {xs′} {t} h b a s =
       sign = written-row long (omega arith) b s ∙ ap (λ (q : List ℕ). set q j turns) (x .rows rootSign (omega arith) refl);
     }
 
-module _ {rs : List ℕ} {u j id turns : ℕ} {xs t : List ℕ} (w : RootRows rs u j id turns xs t) where
-  pub axis-own : 24 * u ≤ length xs → j < u → getD (row t u rootAxis) j 0 ≡ id
+module _ {rs : List ℕ} {u j id turns : ℕ} {xs t : List ℕ} (w : ReferenceRows rs u j id turns xs t) where
+  pub axis-own : rowCount * u ≤ length xs → j < u → getD (row t u rootAxis) j 0 ≡ id
   axis-own long b = entry-own xs u rootAxis j id (w .axis) long (omega arith) b
 
-  pub sign-own : 24 * u ≤ length xs → j < u → getD (row t u rootSign) j 0 ≡ turns
+  pub sign-own : rowCount * u ≤ length xs → j < u → getD (row t u rootSign) j 0 ≡ turns
   sign-own long b = entry-own xs u rootSign j turns (w .sign) long (omega arith) b
 
   pub axis-other : (i : ℕ) → i ≢ j → getD (row t u rootAxis) i 0 ≡ getD (row xs u rootAxis) i 0
