@@ -17,6 +17,7 @@ use Rattle.model.specs.Packing.{oneUseLess, Pack, useNode, useChildren, takeSlo
 use Rattle.theory.specs.ByNode.{OfChildren}
 use Rattle.theory.specs.Checked.{Fine}
 use Rattle.theory.specs.NodeValue.{nodeValue-same, nodeValue-length}
+use Rattle.theory.specs.PlainValue.{children-before}
 use Rattle.axes.specs.View.{axesOf, axes-length, axes-apart}
 use Rattle.layout.specs.declared.Shape.{Shape}
 use Rattle.layout.specs.Rows.{rowCount, usesRow, firstRoot, nextRoot, nodeSlot, nodePhase, freeRow, rootAxis, rootSign, entries}
@@ -27,7 +28,6 @@ use Rattle.records.specs.declared.NodeRecord.{NodeRecord}
 use Rattle.records.specs.Records.{nodeSaid, said-letter, said-by, leaf-of, product-of}
 use Rattle.packing_states.specs.States.{nodeAt, valueOf, before, slotted}
 use Rattle.packing_states.specs.Counts.{less-at, edges-later, used-at}
-use Rattle.packing_states.specs.Owed.{children-before}
 use Rattle.packing_states.specs.Uses.{children-below, children-used}
 use Rattle.packing_states.specs.Live.{used-below-more}
 use Rattle.packing_states.specs.Linked.{linked-same}

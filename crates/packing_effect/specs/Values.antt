@@ -2,7 +2,6 @@
 use mathlib.Core.Path.{_≡_}
 use mathlib.Core.List.{List}
 use Prim.Native.Nat.{ℕ, zero, suc, _+_, _*_, _<_, _≤_}
-use native.Mathlib.Nat.{add-zero}
 use native.Mathlib.Omega.{arith}
 use lib.ListN.{length, getD}
 use Rattle.model.specs.Program.{Node, identity}
@@ -12,17 +11,16 @@ use Rattle.theory.specs.PackedRoots.{Ordered}
 use Rattle.theory.specs.ByNode.{children-of}
 use Rattle.theory.specs.Checked.{LeafIn}
 use Rattle.theory.specs.NodeValue.{nodeValue-length}
-use Rattle.theory.specs.PlainValue.{ordered-at}
+use Rattle.theory.specs.PlainValue.{children-before}
 
 module _ (l : ℕ) (nodes : List Node) (o : Ordered 0 nodes) (q : ℕ) (wide : q ≤ 64 * l) (leaves : Every (LeafIn q) nodes) where
   levels-length : (levels n : ℕ) → n < levels → n < length nodes → length (plainValueWithin levels l nodes n .word) ≡ 2 * l
   unfolding plainValueWithin
   levels-length zero n h b = absurd (omega arith)
   levels-length (suc levels) n h b =
-      let e : n + 0 ≡ n = add-zero n in
       nodeValue-length l q (λ child. plainValueWithin levels l nodes child) (getD nodes n identity) wide
       (every-at (LeafIn q) nodes identity n leaves b)
-      (children-of n (getD nodes n identity) (rw e at (ordered-at 0 nodes n o b)) (λ i c. levels-length levels i (omega arith) (omega arith)))
+      (children-of n (getD nodes n identity) (children-before nodes o n b) (λ i c. levels-length levels i (omega arith) (omega arith)))
 
   -- a node's value has l x-words and l z-words
   pub plain-length : (n : ℕ) → n < length nodes → length (plainValue l nodes n .word) ≡ 2 * l

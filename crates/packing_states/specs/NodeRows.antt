@@ -9,13 +9,13 @@ use Rattle.model.specs.Lists.{if_then_else_}
 use Rattle.model.specs.Program.{Program}
 use Rattle.model.specs.Roots.{relevant}
 use Rattle.theory.specs.PackedRoots.{ChildrenBefore, Ordered}
+use Rattle.theory.specs.PlainValue.{children-before}
 use Rattle.layout.specs.declared.Shape.{Shape}
 use Rattle.layout.specs.Rows.{rowCount, relevantRow}
 use Rattle.layout.specs.Shape.{Sized}
 use Rattle.records.specs.Records.{nodeRecord, product-of}
 use Rattle.records.specs.Nodes.{nodesIn, nodeHere, nodes-count, node-here}
 use Rattle.records.specs.Given.{nodes-in, Given}
-use Rattle.packing_states.specs.Owed.{children-before}
 
 -- node n has its record; it and a product's children have their entries in a row
 pub record NodeInRows (ns : List ℕ) (u n : ℕ) (xs : List ℕ) : Type 0 where

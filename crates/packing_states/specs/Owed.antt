@@ -12,8 +12,8 @@ use Rattle.model.specs.Lists.{if_then_else_}
 use Rattle.model.specs.Program.{Node, identity, PauliRef}
 use Rattle.model.specs.Packing.{rootsAt, countChildren, countUses, useCounts}
 use Rattle.theory.specs.Cases.{on-if, if-true, if-false}
-use Rattle.theory.specs.PackedRoots.{ChildrenBefore, Ordered}
-use Rattle.theory.specs.PlainValue.{ordered-at}
+use Rattle.theory.specs.PackedRoots.{Ordered}
+use Rattle.theory.specs.PlainValue.{children-before}
 use Rattle.packing_states.specs.Counts.{edges, edges-later, counted-at, counted-length, countNode}
 use Rattle.packing_states.specs.Counts.{rootCounts, rootCounts-at, rootCounts-length}
 
@@ -65,10 +65,6 @@ module _ (nodes : List Node) where
   owed-same xs ys m c h b = same-within xs ys c (length nodes - m) m (λ i u v. h i u (omega arith))
 
 -- ---- the count gives every node what it is owed
-
--- a node's children stand before it
-pub children-before : (nodes : List Node) → Ordered 0 nodes → (n : ℕ) → n < length nodes → ChildrenBefore n (getD nodes n identity)
-children-before nodes o n h = let e : n + 0 ≡ n = omega arith in rw e at (ordered-at 0 nodes n o h)
 
 -- the entries cover what the nodes from m on owe, and node c's own uses
 pub record Enough (nodes : List Node) (own : ℕ → ℕ) (uses : List ℕ) (m : ℕ) : Type 0 where

@@ -17,12 +17,13 @@ use Rattle.model.specs.Packing.{oneUseLess, Pack, useNode, useChildren, takeSlo
 use Rattle.theory.specs.Cases.{by-if, on-if, if-true, if-false}
 use Rattle.theory.specs.PackedRoots.{ChildrenBefore, Ordered}
 use Rattle.theory.specs.Checked.{Fine}
+use Rattle.theory.specs.PlainValue.{children-before}
 use Rattle.packing_states.specs.References.{referenceAt, total, rootOf}
 use Rattle.packing_states.specs.ReferenceLaws.{rootsFrom, roots-from-end, roots-from-step, roots-from-all, roots-from-none}
 use Rattle.packing_states.specs.States.{nodeAt, before, slotted, within}
 use Rattle.packing_states.specs.StateLaws.{skip-reference, pack-reference, before-unused, before-used, refused-before, refused-within}
 use Rattle.packing_states.specs.Counts.{less-same, less-other, less-at, edges, edges-later, used-at}
-use Rattle.packing_states.specs.Owed.{owed, owed-unused, owed-used, owed-same, children-before, counts-enough}
+use Rattle.packing_states.specs.Owed.{owed, owed-unused, owed-used, owed-same, counts-enough}
 
 -- ---- what the entries cover before reference j within node n's turn: what the nodes from m on owe, and the roots that are left
 

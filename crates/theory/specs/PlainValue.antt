@@ -18,13 +18,17 @@ use Rattle.theory.specs.ByNode.{children-of, all-own}
 use Rattle.theory.specs.Checked.{nodes-length, checked-fine}
 use Rattle.theory.specs.NodeValue.{nodeValue-same}
 
--- a node's children stand before it
-pub ordered-at : (n : ℕ) (nodes : List Node) (k : ℕ) → Ordered n nodes → k < length nodes → ChildrenBefore (k + n) (getD nodes k identity)
+-- in a list whose first node has number n, node k's children stand before it
+ordered-at : (n : ℕ) (nodes : List Node) (k : ℕ) → Ordered n nodes → k < length nodes → ChildrenBefore (k + n) (getD nodes k identity)
 ordered-at n [] k o h = absurd (omega arith)
 ordered-at n (node ∷ rest) zero o h = rw zero-add (o .0)
 ordered-at n (node ∷ rest) (suc k) o h =
     let e : k + suc n ≡ suc k + n = omega arith in
     rw e at (ordered-at (suc n) rest k (o .1) (omega arith))
+
+-- a node's children stand before it
+pub children-before : (nodes : List Node) → Ordered 0 nodes → (n : ℕ) → n < length nodes → ChildrenBefore n (getD nodes n identity)
+children-before nodes o n h = let e : n + 0 ≡ n = add-zero n in rw e at (ordered-at 0 nodes n o h)
 
 module _ (l : ℕ) (nodes : List Node) (o : Ordered 0 nodes) where
   abbrev pub vs : List Value
@@ -39,9 +43,8 @@ module _ (l : ℕ) (nodes : List Node) (o : Ordered 0 nodes) where
   unfolding plainValueWithin
   within-levels zero n h b = absurd (omega arith)
   within-levels (suc levels) n h b =
-      let e : n + 0 ≡ n = add-zero n in
       nodeValue-same l (λ child. plainValueWithin levels l nodes child) (valueAt vs) (getD nodes n identity)
-      (children-of n (getD nodes n identity) (rw e at (ordered-at 0 nodes n o b)) (λ i c. within-levels levels i (omega arith) (omega arith)))
+      (children-of n (getD nodes n identity) (children-before nodes o n b) (λ i c. within-levels levels i (omega arith) (omega arith)))
       ∙ sym (own n b)
 
   -- the plain value of a node is the value in packing's list
