@@ -14,7 +14,7 @@ use Rattle.theory.specs.Cases.{if-true, if-false}
 use Rattle.layout.specs.Words.{axisPlace}
 use Rattle.axes.specs.View.{axesOf, wordAt, axes-length}
 use Rattle.axes.specs.declared.Interned.{Interned}
-use Rattle.axes.specs.declared.Interned.the-variants.{Id, Full}
+use Rattle.axes.specs.declared.Interned.the-variants.{Id, ExpansionLimit}
 
 -- the words that are counted when one is stored behind n axes
 abbrev pub sumWith : ℕ → ℕ → ℕ → ℕ
@@ -34,12 +34,12 @@ untested axes = record { axes = axes; peak = 0 }
 
 -- refused where the sum that `intern` tests exceeds the limit
 unfoldable pub internAnswer : ℕ → ℕ → ℕ → List (List ℕ) → List ℕ → Interned
-internAnswer l others limit axes w = if ltb limit (intern l others (untested axes) w .peak) then Full else Id (idOf axes w)
+internAnswer l others limit axes w = if ltb limit (intern l others (untested axes) w .peak) then ExpansionLimit else Id (idOf axes w)
 
 -- the word store by the answer: a new word is laid behind the n axes
 unfoldable pub laidBy : Interned → ℕ → ℕ → List ℕ → List ℕ → List ℕ
 laidBy (Id id) l n s w = if ltb id n then s else put s (axisPlace l n) w
-laidBy Full l n s w = s
+laidBy ExpansionLimit l n s w = s
 
 pub record Stores (l others limit n : ℕ) (s : List ℕ) (at : ℕ) (r : Interned) (t : List ℕ) : Type 0 where
   pub answer : r ≡ internAnswer l others limit (axesOf l n s) (wordAt l s at)
@@ -73,9 +73,9 @@ module _ (l others limit n : ℕ) (s w : List ℕ) where
   unfolding internAnswer
   answer-id h = sym (if-false _ _ (le-ltb limit (intern l others (untested (axesOf l n s)) w .peak) h))
 
-  answer-full : limit < intern l others (untested (axesOf l n s)) w .peak → Full ≡ internAnswer l others limit (axesOf l n s) w
+  answer-limit : limit < intern l others (untested (axesOf l n s)) w .peak → ExpansionLimit ≡ internAnswer l others limit (axesOf l n s) w
   unfolding internAnswer
-  answer-full h = sym (if-true _ _ (lt-ltb limit (intern l others (untested (axesOf l n s)) w .peak) h))
+  answer-limit h = sym (if-true _ _ (lt-ltb limit (intern l others (untested (axesOf l n s)) w .peak) h))
 
   laid-old : (id : ℕ) → id < n → laidBy (Id id) l n s w ≡ s
   unfolding laidBy
@@ -101,10 +101,10 @@ module _ (l others limit n : ℕ) (s : List ℕ) (at id : ℕ) {p : List ℕ} (f
 
   -- a new word, behind the axes, which end at b
   module _ {b : ℕ} (end : b ≡ axisPlace l n) (new : n ≤ id) where
-    pub stores-full : limit < b + 2 * l + others → Stores l others limit n s at Full s
+    pub stores-limit : limit < b + 2 * l + others → Stores l others limit n s at ExpansionLimit s
     unfolding laidBy
-    stores-full k = record {
-      answer = answer-full l others limit n s _ (omega (arith, end, tested-new l others limit n s (wordAt l s at) (omega (arith, id-of))));
+    stores-limit k = record {
+      answer = answer-limit l others limit n s _ (omega (arith, end, tested-new l others limit n s (wordAt l s at) (omega (arith, id-of))));
       words = refl;
     }
 

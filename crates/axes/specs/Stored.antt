@@ -1,6 +1,5 @@
 -- What an answer of `intern` means for the model's store `st`, whose axes the word store holds. Assumes nothing.
 use mathlib.Core.Path.{_≡_, refl, sym, ap, _∙_, subst}
-use mathlib.Core.Bool.{Bool, true, false, true≢false}
 use mathlib.Core.List.{List, [], _∷_, _++_}
 use mathlib.Core.Logic.{inl}
 use Prim.Native.Nat.{ℕ, _+_, _*_, _≤_, _<_}
@@ -14,10 +13,10 @@ use Rattle.model.specs.Words.{idOf, Store, intern}
 use Rattle.theory.specs.Ids.{id-le}
 use Rattle.layout.specs.Words.{axisPlace}
 use Rattle.axes.specs.View.{axesOf, wordAt, axes-length, axes-put}
-use Rattle.axes.specs.Intern.{sumWith, InternPre, Stores, intern-old, intern-new, stores-old, stores-full, stores-new, stores-one}
+use Rattle.axes.specs.Intern.{sumWith, InternPre, Stores, intern-old, intern-new, stores-old, stores-limit, stores-new, stores-one}
 use Rattle.axes.specs.Intern.{countWith, count-new, count-old}
 use Rattle.axes.specs.declared.Interned.{Interned}
-use Rattle.axes.specs.declared.Interned.the-variants.{Id, Full}
+use Rattle.axes.specs.declared.Interned.the-variants.{Id, ExpansionLimit}
 
 -- what a word's id means to the caller: the axes in memory are the model's, no tested sum exceeds the limit,
 -- axes and the other words still fit in it, and the words that are counted, and those behind the limit, are as they were
@@ -34,22 +33,10 @@ pub record NoRoom (l others limit : ℕ) (s : List ℕ) (st : Store) (w : List �
   pub exceeds : limit < intern l others st w .peak
   pub kept : t ≡ s
 
--- the answer's id, and whether there is none
-unfoldable idIn : Interned → ℕ
-idIn (Id id) = id
-idIn Full = 0
-
-unfoldable isFull : Interned → Bool
-isFull (Id id) = false
-isFull Full = true
-
-same-id : {a b : ℕ} → Id a ≡ Id b → a ≡ b
-unfolding idIn
-same-id e = ap idIn e
-
-no-id : {a : ℕ} → Full ≡ Id a → ⊥
-unfolding isFull
-no-id e = true≢false (ap isFull e)
+-- what an answer of `intern` means
+abbrev pub InternedAs : ℕ → ℕ → ℕ → ℕ → List ℕ → Store → List ℕ → Interned → List ℕ → Type 0
+InternedAs l others limit n s st w (Id id) t = HasId l others limit n s st w id t
+InternedAs l others limit n s st w ExpansionLimit t = NoRoom l others limit s st w t
 
 one-more : (l n : ℕ) → axisPlace l (n + 1) ≡ axisPlace l n + 2 * l
 one-more l n = rw (add-one n) (omega (arith, suc-mul n (2 * l)))
@@ -94,37 +81,27 @@ module _ (l others limit n : ℕ) (s : List ℕ) (at : ℕ) (pre : InternPre l o
         rest = λ b m i j. part-put-apart s (axisPlace l n) (wordAt l s at) b m (omega (arith, pre .inside)) j (inl (omega arith));
       }
 
-  full : idOf (axesOf l n s) (wordAt l s at) ≡ n → limit < sumWith l others n → NoRoom l others limit s st (wordAt l s at) s
-  full e h =
+  none : idOf (axesOf l n s) (wordAt l s at) ≡ n → limit < sumWith l others n → NoRoom l others limit s st (wordAt l s at) s
+  none e h =
       let k = intern-new l others st (wordAt l s at) (omega (arith, count, found)) in
       let sum : sumWith l others (length (st .axes)) ≡ sumWith l others n = ap (sumWith l others) count in
       record { exceeds = omega (arith, ap (λ (x : Store). x .peak) k, sum); kept = refl }
 
-  pub has-id : (r : Interned) (t : List ℕ) → Stores l others limit n s at r t → st .peak ≤ limit → (id : ℕ) → r ≡ Id id
-      → HasId l others limit n s st (wordAt l s at) id t
-  has-id r t h p id e = go (decLt (idOf (axesOf l n s) (wordAt l s at)) n) (decLt limit (sumWith l others n))
+  pub interned-is : {r : Interned} {t : List ℕ} → Stores l others limit n s at r t → st .peak ≤ limit
+      → InternedAs l others limit n s st (wordAt l s at) r t
+  interned-is {r} {t} h p = go (decLt (idOf (axesOf l n s) (wordAt l s at)) n) (decLt limit (sumWith l others n))
     where
-      go : Dec (idOf (axesOf l n s) (wordAt l s at) < n) → Dec (limit < sumWith l others n)
-          → HasId l others limit n s st (wordAt l s at) id t
-      go (yes a) d =
-          let u = stores-one h (stores-old l others limit n s at _ refl refl a) in
-          subst (HasId l others limit n s st (wordAt l s at) id) (sym (u .1))
-          (let f : id ≡ idOf (axesOf l n s) (wordAt l s at) = same-id (sym e ∙ u .0) in old p id f (omega arith))
-      go (no a) (yes b) = absurd (no-id (sym (stores-one h (stores-full l others limit n s at _ refl refl refl (omega arith) b) .0) ∙ e))
-      go (no a) (no b) =
-          let u = stores-one h (stores-new l others limit n s at _ refl refl refl (omega arith) _ (omega arith) refl) in
-          let f : id ≡ idOf (axesOf l n s) (wordAt l s at) = same-id (sym e ∙ u .0) in
-          subst (HasId l others limit n s st (wordAt l s at) id) (sym (u .1))
-          (new p id f (omega (arith, id-le (axesOf l n s) (wordAt l s at), axes-length l n s)) (omega arith))
+      -- there is one answer
+      so : {q : Interned} {u : List ℕ} → Stores l others limit n s at q u → InternedAs l others limit n s st (wordAt l s at) q u
+          → InternedAs l others limit n s st (wordAt l s at) r t
+      so k m = let e = stores-one h k in rw (e .0, e .1) m
 
-  pub no-room : (r : Interned) (t : List ℕ) → Stores l others limit n s at r t → r ≡ Full → NoRoom l others limit s st (wordAt l s at) t
-  no-room r t h e = go (decLt (idOf (axesOf l n s) (wordAt l s at)) n) (decLt limit (sumWith l others n))
-    where
-      go : Dec (idOf (axesOf l n s) (wordAt l s at) < n) → Dec (limit < sumWith l others n) → NoRoom l others limit s st (wordAt l s at) t
-      go (yes a) d = absurd (no-id (sym e ∙ stores-one h (stores-old l others limit n s at _ refl refl a) .0))
+      last : (idOf (axesOf l n s) (wordAt l s at) < n → ⊥) → idOf (axesOf l n s) (wordAt l s at) ≡ n
+      last a = omega (arith, id-le (axesOf l n s) (wordAt l s at), axes-length l n s)
+
+      go : Dec (idOf (axesOf l n s) (wordAt l s at) < n) → Dec (limit < sumWith l others n)
+          → InternedAs l others limit n s st (wordAt l s at) r t
+      go (yes a) d = so (stores-old l others limit n s at _ refl refl a) (old p _ refl a)
+      go (no a) (yes b) = so (stores-limit l others limit n s at _ refl refl refl (omega arith) b) (none (last a) b)
       go (no a) (no b) =
-          absurd (no-id (sym e ∙ stores-one h (stores-new l others limit n s at _ refl refl refl (omega arith) _ (omega arith) refl) .0))
-      go (no a) (yes b) =
-          let u = stores-one h (stores-full l others limit n s at _ refl refl refl (omega arith) b) in
-          subst (NoRoom l others limit s st (wordAt l s at)) (sym (u .1))
-          (full (omega (arith, id-le (axesOf l n s) (wordAt l s at), axes-length l n s)) b)
+          so (stores-new l others limit n s at _ refl refl refl (omega arith) _ (omega arith) refl) (new p _ refl (last a) (omega arith))

@@ -15,7 +15,7 @@ use store::copy_within;
 // Whether a word has an id: the limit may refuse a new one.
 pub enum Interned {
     Id(usize),
-    Full,
+    ExpansionLimit,
 }
 
 // The word at a place, inside the store.
@@ -98,7 +98,7 @@ pub fn intern(
     let n = 2 * l;
     let end = layout::axis_at(l, count);
     if limit < end + n + others {
-        return Interned::Full;
+        return Interned::ExpansionLimit;
     }
     copy_within(words, at, end, n);
     Interned::Id(id)

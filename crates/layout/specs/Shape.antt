@@ -34,6 +34,10 @@ shapeOf c limit = record {
   u = rowLength c (width (c .qubits)) limit;
 }
 
+-- u is at most 65,535 + 65,535 + 2 × 4,096 + 1,048,576 + 1: the domain's largest counts and limit
+abbrev pub longestRow : ℕ
+longestRow = 1187839
+
 -- sizes within the domain
 pub record Sized (z : Shape) : Type 0 where
   pub qubits : z .qubits ≤ 4096
@@ -49,8 +53,7 @@ pub record Sized (z : Shape) : Type 0 where
   pub row : z .nodes + z .operations + 2 * z .qubits < z .u
   -- so have as many words as the limit holds
   pub words-row : (n : ℕ) → n * (2 * z .l) ≤ z .limit → n < z .u
-  -- 65,535 + 65,535 + 2 × 4,096 + 1,048,576 + 1: the domain's largest counts and limit
-  pub u-small : z .u ≤ 1187839
+  pub u-small : z .u ≤ longestRow
 
 -- the work stores as long as refusal 3 asks
 pub record Granted (z : Shape) (ws xs : List ℕ) : Type 0 where

@@ -4,6 +4,7 @@ pub mod Phases
 pub mod Holding
 pub mod Held
 pub mod Packed
+pub mod Answers
 pub mod Checked
 pub mod Turns
 pub mod Release

@@ -14,9 +14,9 @@ use Rattle.model.specs.Packing.{withStore, withRefusal, useNode, packRoot}
 use Rattle.theory.specs.Cases.{if-true, if-false}
 use Rattle.axes.specs.View.{wordAt}
 use Rattle.axes.specs.Intern.{InternPre, Stores}
-use Rattle.axes.specs.Stored.{HasId, has-id, NoRoom, no-room}
+use Rattle.axes.specs.Stored.{HasId, NoRoom, InternedAs, interned-is}
 use Rattle.axes.specs.declared.Interned.{Interned}
-use Rattle.axes.specs.declared.Interned.the-variants.{Id, Full}
+use Rattle.axes.specs.declared.Interned.the-variants.{Id, ExpansionLimit}
 use Rattle.layout.specs.declared.Shape.{Shape}
 use Rattle.layout.specs.Rows.{nodeSlot}
 use Rattle.layout.specs.Words.{slotPlace, slot-in, slot-counted}
@@ -117,14 +117,13 @@ module _ {p : Program} {z : Shape} {st : Slots} {n j phase : ℕ} {ws xs : List 
 
   module _ {v : ValueHeld} (e : v ≡ heldAt z xs n) {r : Interned} {ws′ : List ℕ}
       (s : Stores (z .l) (st .slots * (2 * z .l)) (z .limit) (st .axes) ws (v .at) r ws′) where
-    pub root-has-id : {id : ℕ} → r ≡ Id id → RootHasId p z st n j ws id ws′
-    root-has-id {id} q =
-        subst (λ (w : List ℕ). HasId (z .l) (st .slots * (2 * z .l)) (z .limit) (st .axes) ws (within p n j .store) w id ws′)
-        (held-word e)
-        (has-id _ _ _ _ ws (v .at) (intern-pre e) (within p n j .store) (sym (h .holding .axes)) r ws′ s (h .holding .fits) id q)
+    stored-as : InternedAs (z .l) (st .slots * (2 * z .l)) (z .limit) (st .axes) ws (within p n j .store) (valueOf p n .word) r ws′
+    stored-as =
+        subst (λ (w : List ℕ). InternedAs (z .l) (st .slots * (2 * z .l)) (z .limit) (st .axes) ws (within p n j .store) w r ws′) (held-word e)
+        (interned-is _ _ _ _ ws (v .at) (intern-pre e) (within p n j .store) (sym (h .holding .axes)) s (h .holding .fits))
 
-    pub root-no-room : r ≡ Full → NoRoom (z .l) (st .slots * (2 * z .l)) (z .limit) ws (within p n j .store) (valueOf p n .word) ws′
-    root-no-room q =
-        subst (λ (w : List ℕ). NoRoom (z .l) (st .slots * (2 * z .l)) (z .limit) ws (within p n j .store) w ws′)
-        (held-word e)
-        (no-room _ _ _ _ ws (v .at) (intern-pre e) (within p n j .store) (sym (h .holding .axes)) r ws′ s q)
+    pub root-has-id : {id : ℕ} → r ≡ Id id → RootHasId p z st n j ws id ws′
+    root-has-id q = rw q at stored-as
+
+    pub root-no-room : r ≡ ExpansionLimit → NoRoom (z .l) (st .slots * (2 * z .l)) (z .limit) ws (within p n j .store) (valueOf p n .word) ws′
+    root-no-room q = rw q at stored-as

@@ -11,9 +11,10 @@ use Rattle.theory.specs.Ids.{id-le}
 use Rattle.axes.specs.View.{axes-length}
 use Rattle.axes.specs.Intern.{Stores, countWith}
 use Rattle.axes.specs.declared.Interned.{Interned}
-use Rattle.axes.specs.declared.Interned.the-variants.{Id, Full as InternedFull}
+use Rattle.axes.specs.declared.Interned.the-variants.{Id, ExpansionLimit as InternLimit}
 use Rattle.layout.specs.declared.Shape.{Shape}
 use Rattle.layout.specs.Rows.{rootAxis, rootSign}
+use Rattle.layout.specs.Shape.{longestRow}
 use Rattle.packing_states.specs.States.{valueOf, within}
 use Rattle.packing_states.specs.ReferenceRows.{ReferenceRows, referenceRows, reference-rows}
 use Rattle.packing.specs.declared.Slots.{Slots}
@@ -36,7 +37,7 @@ module _ {p : Program} {z : Shape} {st : Slots} {n j phase : ℕ} {ws xs : List 
   pub slots-small : st .slots * (2 * z .l) ≤ 1048576
   slots-small = omega (arith, slots-fit (h .holding), h .granted .sized .limit)
 
-  pub axes-small : st .axes < 1187839
+  pub axes-small : st .axes < longestRow
   axes-small =
       let b : st .axes * (2 * z .l) ≤ z .limit = omega (arith, h .holding .room) in
       omega (arith, h .granted .sized .words-row (st .axes) b, h .granted .sized .u-small)
@@ -51,10 +52,10 @@ module _ {p : Program} {z : Shape} {st : Slots} {n j phase : ℕ} {ws xs : List 
         (s : Stores (z .l) (st .slots * (2 * z .l)) (z .limit) (st .axes) ws (v .at) r ws′) where
       -- ---- 10
 
-      pub left-limit : r ≡ InternedFull → Left z ws xs ws′ xs
+      pub left-limit : r ≡ InternLimit → Left z ws xs ws′ xs
       left-limit q = subst (λ (w : List ℕ). Left z ws xs w xs) (sym (root-no-room h e s q .kept)) (left-none z ws xs)
 
-      pub root-limit : (((v .phase + phase % 4) % 4) % 2 ≡ 1 → ⊥) → r ≡ InternedFull
+      pub root-limit : (((v .phase + phase % 4) % 4) % 2 ≡ 1 → ⊥) → r ≡ InternLimit
           → Turned p z (suc n) n (suc j) (within p n (suc j)) ExpansionLimit ws′ xs
       unfolding useNode
       root-limit o q = rw (stored-next h (even-root h e o)) (root-no-room h e s q .exceeds)
@@ -65,7 +66,7 @@ module _ {p : Program} {z : Shape} {st : Slots} {n j phase : ℕ} {ws xs : List 
         stored : RootHasId p z st n j ws id ws′
         stored = root-has-id h e s q
 
-        pub id-small : id < 1187839
+        pub id-small : id < longestRow
         id-small =
             let long : length (within p n j .store .axes) ≡ st .axes =
             ap length (sym (h .holding .axes)) ∙ axes-length (z .l) (st .axes) ws in

@@ -18,7 +18,7 @@ use Rattle.packing.specs.declared.Slots.{Slots}
 use Rattle.packing.specs.declared.Taken.{Taken}
 use Rattle.packing.specs.declared.Taken.the-variants.{Slot, ExpansionLimit}
 use Rattle.packing.specs.Holding.{SlotsHold}
-use Rattle.packing.specs.Values.{sumWith, taken}
+use Rattle.packing.specs.Values.{slotSum, taken}
 use Rattle.packing.specs.Keeping.{Takes, takes-free, takes-new}
 
 -- ---- answers
@@ -32,20 +32,20 @@ Freed z xs st s st′ =
 -- a new one within the limit
 abbrev New : Shape → Slots → ℕ → Slots → Type 0
 New z st s st′ =
-    (st .free ≡ 0) × ((sumWith z st ≤ z .limit) × ((st .slots ≡ s) × (record { axes = st .axes; slots = st .slots + 1; free = 0 } ≡ st′)))
+    (st .free ≡ 0) × ((slotSum z st ≤ z .limit) × ((st .slots ≡ s) × (record { axes = st .axes; slots = st .slots + 1; free = 0 } ≡ st′)))
 
 -- what the answer means; without a slot none is free, and a new one exceeds the limit
 abbrev TakenAs : Shape → List ℕ → Slots → Taken → Type 0
 TakenAs z xs st (Slot s st′) = Freed z xs st s st′ ⊎ New z st s st′
-TakenAs z xs st ExpansionLimit = (st .free ≡ 0) × (z .limit < sumWith z st)
+TakenAs z xs st ExpansionLimit = (st .free ≡ 0) × (z .limit < slotSum z st)
 
 taken-is : (z : Shape) (xs : List ℕ) (st : Slots) → TakenAs z xs st (taken z xs st)
 unfolding taken
 taken-is z xs st =
     on-if (TakenAs z xs st) _ _ _ (λ e. inl (ltb-true 0 (st .free) e, (refl, refl)))
     (λ e. let none = ltb-false 0 (st .free) e in
-    on-if (TakenAs z xs st) _ _ _ (λ f. (omega arith, ltb-true (z .limit) (sumWith z st) f))
-    (λ f. inr (omega arith, (ltb-false (z .limit) (sumWith z st) f, (refl, refl)))))
+    on-if (TakenAs z xs st) _ _ _ (λ f. (omega arith, ltb-true (z .limit) (slotSum z st) f))
+    (λ f. inr (omega arith, (ltb-false (z .limit) (slotSum z st) f, (refl, refl)))))
 
 -- ---- the model
 
@@ -78,7 +78,7 @@ pub record Took (z : Shape) (n axes slots free : ℕ) (slotRow stack : List ℕ)
 module _ (z : Shape) (n : ℕ) (value : ℕ → Value) (xs ws phaseRow : List ℕ) (st : Slots) (k : Pack)
     (slots-are : k .slots ≡ st .slots) (all : k .live + st .free ≡ st .slots) (axes-are : length (k .store .axes) ≡ st .axes) where
   -- the model's sum
-  same-sum : sumWith z st ≡ (suc (k .slots) + length (k .store .axes)) * (2 * z .l)
+  same-sum : slotSum z st ≡ (suc (k .slots) + length (k .store .axes)) * (2 * z .l)
   same-sum = rw (← slots-are, ← axes-are, add-one (k .slots)) refl
 
   -- the limit refuses a new slot
@@ -110,7 +110,7 @@ module _ (z : Shape) (n : ℕ) (value : ℕ → Value) (xs ws phaseRow : List �
       uses = refl;
     })
 
-    took-new : st .free ≡ 0 → sumWith z st ≤ z .limit → Result (st .slots) (record { axes = st .axes; slots = st .slots + 1; free = 0 })
+    took-new : st .free ≡ 0 → slotSum z st ≤ z .limit → Result (st .slots) (record { axes = st .axes; slots = st .slots + 1; free = 0 })
     unfolding tested
     took-new h f =
         rw (model-new (z .l) k (omega arith)) (record {

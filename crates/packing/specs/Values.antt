@@ -13,6 +13,7 @@ use Rattle.layout.specs.declared.Shape.{Shape}
 use Rattle.layout.specs.Rows.{rowCount, usesRow, nodeSlot, nodePhase, freeRow}
 use Rattle.layout.specs.Only.{Only}
 use Rattle.layout.specs.Words.{scratchPlace, slotPlace}
+use Rattle.layout.specs.Shape.{longestRow}
 use Rattle.records.specs.declared.NodeRecord.{NodeRecord}
 use Rattle.records.specs.Records.{nodeSaid}
 use Rattle.packing.specs.declared.Slots.{Slots}
@@ -80,7 +81,7 @@ pub record ReleasePre (s : List ℕ) (u free n : ℕ) : Type 0 where
   pub long : rowCount * u ≤ length s
   pub node : n < u
   pub room : free < u
-  pub u-small : u ≤ 1187839
+  pub u-small : u ≤ longestRow
   pub used : 0 < usesOf s u n
 
 -- one use less; after the last one the slot is on top of the free slots
@@ -93,7 +94,7 @@ pub record Released (s : List ℕ) (u free n r : ℕ) (t : List ℕ) : Type 0 wh
 -- both children are used; the second still is where the first is given up
 pub record ChildrenPre (s : List ℕ) (u free : ℕ) (x : NodeRecord) : Type 0 where
   pub long : rowCount * u ≤ length s
-  pub u-small : u ≤ 1187839
+  pub u-small : u ≤ longestRow
   pub room : 2 ≤ x .kind → free + 1 < u
   pub first : 2 ≤ x .kind → x .a < u
   pub second : 2 ≤ x .kind → x .b < u
@@ -119,18 +120,18 @@ pub record TakePre (z : Shape) (xs : List ℕ) (st : Slots) : Type 0 where
   pub few : z .l ≤ 64
   pub room : st .slots * (2 * z .l) + st .axes * (2 * z .l) ≤ z .limit
   pub slots : st .slots < z .u
-  pub u-small : z .u ≤ 1187839
+  pub u-small : z .u ≤ longestRow
 
 -- "(slots with the new one + axes) × 2l"
-abbrev pub sumWith : Shape → Slots → ℕ
-sumWith z st = (st .slots + 1 + st .axes) * (2 * z .l)
+abbrev pub slotSum : Shape → Slots → ℕ
+slotSum z st = (st .slots + 1 + st .axes) * (2 * z .l)
 
 -- "a slot is freed after its last use and reused, last freed first"; for a new one the sum is tested
 unfoldable pub taken : Shape → List ℕ → Slots → Taken
 taken z xs st =
     if ltb 0 (st .free) then Slot (getD (row xs (z .u) freeRow) (st .free - 1) 0)
     (record { axes = st .axes; slots = st .slots; free = st .free - 1 })
-    else if ltb (z .limit) (sumWith z st) then ExpansionLimit
+    else if ltb (z .limit) (slotSum z st) then ExpansionLimit
     else Slot (st .slots) (record { axes = st .axes; slots = st .slots + 1; free = 0 })
 
 -- ---- keeping a value
@@ -142,7 +143,7 @@ pub record KeepPre (z : Shape) (n s : ℕ) (ws xs : List ℕ) : Type 0 where
   pub node : n < z .u
   pub slot : s * (2 * z .l) + 2 * z .l ≤ z .limit
   pub small : s < z .u
-  pub u-small : z .u ≤ 1187839
+  pub u-small : z .u ≤ longestRow
 
 -- the scratch word is copied to slot s; node n has the slot, and the phase e
 pub record Kept (z : Shape) (n s e : ℕ) (ws xs ws′ xs′ : List ℕ) : Type 0 where

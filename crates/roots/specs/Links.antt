@@ -10,7 +10,7 @@ use Rattle.model.specs.Packing.{oneUseMore}
 use Rattle.layout.specs.declared.Shape.{Shape}
 use Rattle.layout.specs.Rows.{rowCount, relevantRow, usesRow, firstRoot, nextRoot, rootAxis, rootSign, noAxis, entries}
 use Rattle.layout.specs.Only.{Only}
-use Rattle.layout.specs.Shape.{Sized}
+use Rattle.layout.specs.Shape.{longestRow, Sized}
 use Rattle.records.specs.Records.{operationRecord, rowRecord}
 use Rattle.packing_states.specs.References.{referenceAt, total}
 use Rattle.packing_states.specs.ReferenceLaws.{rootsFrom}
@@ -38,7 +38,7 @@ pub record Added (s : List ℕ) (u n : ℕ) (t : List ℕ) : Type 0 where
 -- both have their entries, and j + 1 fits 32 bits
 pub record FrontPre (s : List ℕ) (u j n : ℕ) : Type 0 where
   pub long : rowCount * u ≤ length s
-  pub u-small : u ≤ 1187839
+  pub u-small : u ≤ longestRow
   pub root : j < u
   pub node : n < u
   pub uses : getD (row s u usesRow) n 0 < 4294967295

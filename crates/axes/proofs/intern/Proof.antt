@@ -1,6 +1,6 @@
 -- Three cases: the word is stored, the limit refuses it, or it is laid behind the axes. Assumes nothing.
 use mathlib.Core.Logic.{inr}
-use Rattle.axes.specs.Intern.{stores-old, stores-full, stores-new}
+use Rattle.axes.specs.Intern.{stores-old, stores-limit, stores-new}
 use native.Mathlib.Omega.{arith}
 use borrow.Author.Needs.{needs}
 use Rattle.axes.proofs.intern.Statement.{statement}
@@ -37,7 +37,7 @@ returns-2 : tie.Need-returns-2
 returns-2 c =
     let end = c .before in
     let f = end .before .before in
-    stores-full _ _ _ _ _ _ _ (f .find .ensures) (f .before .word-at .ensures) (end .axis-at .ensures) (end .before .if1 .left) (c .if2 .taken)
+    stores-limit _ _ _ _ _ _ _ (f .find .ensures) (f .before .word-at .ensures) (end .axis-at .ensures) (end .before .if1 .left) (c .if2 .taken)
 
 copy-within-requires : tie.Need-copy-within-requires
 copy-within-requires c κs = record { source = omega arith; target = omega arith; apart = inr (omega arith) }
