@@ -1,17 +1,16 @@
 -- What an answer of `intern` means for the model's store `st`, whose axes the word store holds. Assumes nothing.
 use mathlib.Core.Path.{_≡_, refl, sym, ap, _∙_, subst}
 use mathlib.Core.List.{List, [], _∷_, _++_}
-use mathlib.Core.Logic.{inl}
-use Prim.Native.Nat.{ℕ, _+_, _*_, _≤_, _<_}
+use Prim.Native.Nat.{ℕ, _+_, _-_, _*_, _≤_, _<_}
 use native.Mathlib.Nat.{suc-mul}
 use native.Mathlib.Numerals.{add-one}
 use native.Mathlib.Decide.{decLt}
 use native.Mathlib.Omega.{arith}
 use lib.ListN.{length}
-use Rattle.store.specs.Part.{part, put, part-length, put-length, part-put-apart}
+use Rattle.store.specs.Part.{put, part-length}
 use Rattle.model.specs.Words.{idOf, Store, intern}
 use Rattle.theory.specs.Ids.{id-le}
-use Rattle.layout.specs.Words.{axisPlace}
+use Rattle.layout.specs.Words.{axisPlace, KeptFrom, kept-none, kept-put}
 use Rattle.axes.specs.View.{axesOf, wordAt, axes-length, axes-put}
 use Rattle.axes.specs.Intern.{sumWith, InternPre, Stores, intern-old, intern-new, stores-old, stores-limit, stores-new, stores-one}
 use Rattle.axes.specs.Intern.{countWith, count-new, count-old}
@@ -19,14 +18,13 @@ use Rattle.axes.specs.declared.Interned.{Interned}
 use Rattle.axes.specs.declared.Interned.the-variants.{Id, ExpansionLimit}
 
 -- what a word's id means to the caller: the axes in memory are the model's, no tested sum exceeds the limit,
--- axes and the other words still fit in it, and the words that are counted, and those behind the limit, are as they were
+-- axes and the other words still fit in it, and the other words that are counted, and those behind the limit, are as they were
 pub record HasId (l others limit n : ℕ) (s : List ℕ) (st : Store) (w : List ℕ) (id : ℕ) (t : List ℕ) : Type 0 where
   pub id-is : id ≡ idOf (st .axes) w
   pub axes-are : axesOf l (countWith n id) t ≡ intern l others st w .axes
   pub fits : intern l others st w .peak ≤ limit
   pub room : axisPlace l n + others ≤ limit → axisPlace l (countWith n id) + others ≤ limit
-  pub long : length t ≡ length s
-  pub rest : (b m : ℕ) → limit ≤ b + others → b + m ≤ length s → part t b m ≡ part s b m
+  pub kept : KeptFrom (limit - others) s t
 
 -- what a refusal means
 pub record NoRoom (l others limit : ℕ) (s : List ℕ) (st : Store) (w : List ℕ) (t : List ℕ) : Type 0 where
@@ -58,8 +56,7 @@ module _ (l others limit n : ℕ) (s : List ℕ) (at : ℕ) (pre : InternPre l o
         axes-are = ap (λ (c : ℕ). axesOf l c s) (sym (count-old n id (omega arith))) ∙ sym (ap (λ (x : Store). x .axes) k ∙ held);
         fits = omega (arith, ap (λ (x : Store). x .peak) k);
         room = subst (λ (c : ℕ). axisPlace l c + others ≤ limit) (count-old n id (omega arith));
-        long = refl;
-        rest = λ b m i j. refl;
+        kept = kept-none (limit - others) s;
       }
 
   new : st .peak ≤ limit → (id : ℕ) → id ≡ idOf (axesOf l n s) (wordAt l s at) → id ≡ n → sumWith l others n ≤ limit
@@ -77,8 +74,7 @@ module _ (l others limit n : ℕ) (s : List ℕ) (at : ℕ) (pre : InternPre l o
             ∙ sym (ap (λ (x : Store). x .axes) k);
         fits = omega (arith, ap (λ (x : Store). x .peak) k, sum);
         room = λ k. subst (λ (c : ℕ). axisPlace l c + others ≤ limit) (count-new n id f) (omega (arith, one-more l n));
-        long = put-length s (axisPlace l n) (wordAt l s at) (omega (arith, pre .inside));
-        rest = λ b m i j. part-put-apart s (axisPlace l n) (wordAt l s at) b m (omega (arith, pre .inside)) j (inl (omega arith));
+        kept = kept-put (limit - others) s (axisPlace l n) (wordAt l s at) (omega arith) (omega (arith, pre .inside));
       }
 
   none : idOf (axesOf l n s) (wordAt l s at) ≡ n → limit < sumWith l others n → NoRoom l others limit s st (wordAt l s at) s

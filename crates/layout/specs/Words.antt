@@ -1,13 +1,13 @@
 -- The word store: axes from the start, axis id at id * 2l; slots counted down from the limit; 16 * l words of scratch behind the limit.
 -- Assumes nothing.
-use mathlib.Core.Path.{_≡_, refl, _∙_}
+use mathlib.Core.Path.{_≡_, refl, sym, _∙_}
 use mathlib.Core.List.{List}
 use mathlib.Core.Logic.{_≢_, inl, inr}
 use Prim.Native.Nat.{ℕ, _+_, _-_, _*_, _≤_, _<_}
 use native.Mathlib.Decide.{decLt}
 use native.Mathlib.Omega.{arith}
 use lib.ListN.{length, getD}
-use Rattle.store.specs.Part.{Apart, put, put-length, put-above}
+use Rattle.store.specs.Part.{Apart, part, put, part-length, part-at, part-ext, put-length, put-above}
 use Rattle.store.specs.Chunk.{chunk-in}
 
 -- where axis id has its word
@@ -70,6 +70,16 @@ kept-none b s = record { long = refl; kept = λ i h. refl }
 
 pub kept-then : {b : ℕ} {s t v : List ℕ} → KeptFrom b s t → KeptFrom b t v → KeptFrom b s v
 kept-then a c = record { long = c .long ∙ a .long; kept = λ i h. c .kept i h ∙ a .kept i h }
+
+-- nor from a later place on
+pub kept-later : {b c : ℕ} {s t : List ℕ} → b ≤ c → KeptFrom b s t → KeptFrom c s t
+kept-later h k = record { long = k .long; kept = λ i m. k .kept i (omega arith) }
+
+-- the parts behind it are as they were
+pub kept-part : {b : ℕ} {s t : List ℕ} → KeptFrom b s t → (a m : ℕ) → b ≤ a → a + m ≤ length s → part t a m ≡ part s a m
+kept-part {s = s} {t} k a m h l =
+    part-ext t a m (part s a m) (omega (arith, k .long)) (part-length s a m l)
+    (λ i c. k .kept (a + i) (omega arith) ∙ sym (part-at s a m i c))
 
 -- a word laid before the place
 pub kept-put : (b : ℕ) (s : List ℕ) (a : ℕ) (w : List ℕ) → a + length w ≤ b → b ≤ length s → KeptFrom b s (put s a w)

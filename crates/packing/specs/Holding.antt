@@ -42,6 +42,21 @@ pub record SlotsHold (l limit b slots free : ℕ) (value : ℕ → Value) (uses 
   pub free-one : (i j : ℕ) → i < free → j < free → getD stack i 0 ≡ getD stack j 0 → i ≡ j
   pub free-other : (m i : ℕ) → m < b → 0 < getD uses m 0 → i < free → getD slotRow m 0 ≢ getD stack i 0
 
+-- it stays so where no more is still to be used
+pub slots-among : {l limit b c slots free : ℕ} {value : ℕ → Value} {uses left slotRow phaseRow stack ws : List ℕ}
+    → ((m : ℕ) → m < c → 0 < getD left m 0 → (m < b) × (0 < getD uses m 0))
+    → SlotsHold l limit b slots free value uses slotRow phaseRow stack ws
+    → SlotsHold l limit c slots free value left slotRow phaseRow stack ws
+slots-among f h = record {
+  slot = λ m a u. let g = f m a u in h .slot m (g .0) (g .1);
+  word = λ m a u. let g = f m a u in h .word m (g .0) (g .1);
+  turns = λ m a u. let g = f m a u in h .turns m (g .0) (g .1);
+  one = λ m n a d u v. let g = f m a u in let k = f n d v in h .one m n (g .0) (k .0) (g .1) (k .1);
+  free-slot = h .free-slot;
+  free-one = h .free-one;
+  free-other = λ m i a u. let g = f m a u in h .free-other m i (g .0) (g .1);
+}
+
 -- reference j's axis and sign stand in their rows
 pub record SignedAt (p : Program) (u : ℕ) (axes : List (List ℕ)) (xs : List ℕ) (j : ℕ) : Type 0 where
   pub stored : idOf axes (valueOf p (referenceAt p j .node) .word) < length axes

@@ -2,11 +2,11 @@ pub mod Values
 pub mod ValueLaws
 pub mod Phases
 pub mod Holding
-pub mod Held
+pub mod Bounds
 pub mod Packed
 pub mod Answers
 pub mod Checked
-pub mod Turns
+pub mod LeftLaws
 pub mod Release
 pub mod NodeValues
 pub mod Keeping

@@ -29,10 +29,10 @@ use Rattle.packing.specs.declared.Step.{Step}
 use Rattle.packing.specs.declared.Step.the-variants.{Next, NonHermitianAxis, ExpansionLimit}
 use Rattle.packing.specs.Phases.{phaseIn, phase-operation, phase-row}
 use Rattle.packing_states.specs.SomeProgram.{SomeProgram}
-use Rattle.packing.specs.Holding.{SlotsHold, Done, Holding, holding-done, PlacedAs, Turned, Left, PlaceAt, RootsAt, NodeAt}
-use Rattle.packing.specs.Held.{nodes-in}
+use Rattle.packing.specs.Holding.{slots-among, SlotsHold, Done, Holding, holding-done, PlacedAs, Turned, Left, PlaceAt, RootsAt, NodeAt}
+use Rattle.packing.specs.Bounds.{nodes-in}
 use Rattle.packing.specs.Release.{holding-slots, count-is}
-use Rattle.packing.specs.Turns.{left-none, left-then, granted-left}
+use Rattle.packing.specs.LeftLaws.{left-none, left-then, granted-left}
 use Rattle.packing_states.specs.ReferenceLaws.{its-root}
 
 -- ---- the program in the lent slices
@@ -58,15 +58,7 @@ module _ {z : Shape} {ns os rs : List ℕ} (g : Given z ns os rs) where
 held-unused : {l limit n slots free : ℕ} {value : ℕ → Value} {uses slotRow phaseRow stack ws : List ℕ} → getD uses n 0 ≡ 0
     → SlotsHold l limit n slots free value uses slotRow phaseRow stack ws
     → SlotsHold l limit (suc n) slots free value uses slotRow phaseRow stack ws
-held-unused {n = n} {uses = uses} e h = record {
-  slot = λ m a u. h .slot m (below m a u) u;
-  word = λ m a u. h .word m (below m a u) u;
-  turns = λ m a u. h .turns m (below m a u) u;
-  one = λ m o a b u v. h .one m o (below m a u) (below o b v) u v;
-  free-slot = h .free-slot;
-  free-one = h .free-one;
-  free-other = λ m i a u. h .free-other m i (below m a u) u;
-}
+held-unused {n = n} {uses = uses} e h = slots-among (λ m a u. (below m a u, u)) h
   where
     below : (m : ℕ) → m < suc n → 0 < getD uses m 0 → m < n
     below m a u = go (ℕ-discrete m n)

@@ -1,7 +1,7 @@
 -- What packing demands and leaves: the model's `packed`, read through views. Assumes nothing.
 use mathlib.Core.Path.{_≡_}
 use mathlib.Core.List.{List, [], _∷_, _++_, map}
-use Prim.Native.Nat.{ℕ, _+_, _*_}
+use Prim.Native.Nat.{ℕ, _+_, _*_, _≤_}
 use lib.Dec.{ltb}
 use lib.ListN.{length, getD}
 use Rattle.store.specs.Row.{row}
@@ -15,7 +15,7 @@ use Rattle.axes.specs.View.{axesOf}
 use Rattle.layout.specs.declared.Shape.{Shape}
 use Rattle.layout.specs.Rows.{mark, acted, relevantRow, usesRow, firstRoot, nextRoot, nodeSlot, nodePhase, freeRow, rootAxis, rootSign, noAxis}
 use Rattle.layout.specs.Only.{Only}
-use Rattle.layout.specs.Words.{KeptFrom}
+use Rattle.layout.specs.Words.{axisPlace, KeptFrom}
 use Rattle.layout.specs.Shape.{Granted}
 use Rattle.records.specs.Given.{Given}
 use Rattle.packing.specs.declared.Packed.{Packed}
@@ -38,13 +38,21 @@ packingAnswer (Axes n) = answers.Accepted
 packingAnswer NonHermitianAxis = answers.NonHermitianAxis
 packingAnswer ExpansionLimit = answers.ExpansionLimit
 
+-- how many axes there are where packing is accepted, else the number before
+unfoldable pub axesAfter : ℕ → Packed → ℕ
+axesAfter before (Axes n) = n
+axesAfter before NonHermitianAxis = before
+axesAfter before ExpansionLimit = before
+
 -- ---- the roots' axes and signs
+
+-- reference j's in memory
+abbrev pub signAt : Shape → List ℕ → ℕ → SignedAxis
+signAt z xs j = record { axis = getD (row xs (z .u) rootAxis) j 0; sign = getD (row xs (z .u) rootSign) j 0 }
 
 -- in memory, reference by reference
 unfoldable pub signsIn : Shape → List ℕ → List SignedAxis
-signsIn z xs =
-    map (λ j. record { axis = getD (row xs (z .u) rootAxis) j 0; sign = getD (row xs (z .u) rootSign) j 0 })
-    (numbersFrom 0 (z .operations + 2 * z .qubits))
+signsIn z xs = map (signAt z xs) (numbersFrom 0 (z .operations + 2 * z .qubits))
 
 -- a frame row that is no root has none
 unfoldable pub rowSign : Program → PauliRef → SignedAxis
@@ -59,12 +67,13 @@ abbrev pub packRows : List ℕ
 packRows =
     mark ∷ acted ∷ relevantRow ∷ usesRow ∷ firstRoot ∷ nextRoot ∷ nodeSlot ∷ nodePhase ∷ freeRow ∷ rootAxis ∷ rootSign ∷ []
 
--- the answer is the model's; where packing is accepted, so are the axes and each root's axis and sign;
+-- the answer is the model's; where packing is accepted, so are the axes, which are within the limit, and each root's axis and sign;
 -- only packing's rows, and words below limit + 2l, are written. Left free are, after acceptance, the words from axes × 2l to
 -- limit + 2l, and packRows but for the references' axis and sign; after a refusal, all words below limit + 2l and all of packRows
 pub record PackedAs (z : Shape) (p : Program) (r : Packed) (ws xs ws′ xs′ : List ℕ) : Type 0 where
   pub answer : r ≡ packedAnswer (z .limit) (packed p)
   pub axes : (n : ℕ) → r ≡ Axes n → axesOf (z .l) n ws′ ≡ packed p .store .axes
+  pub room : (n : ℕ) → r ≡ Axes n → axisPlace (z .l) n ≤ z .limit
   pub signs : (n : ℕ) → r ≡ Axes n → signsIn z xs′ ≡ signsOf p
   pub words : KeptFrom (z .limit + 2 * z .l) ws ws′
   pub numbers : Only packRows (z .u) xs xs′

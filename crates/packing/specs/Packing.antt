@@ -33,8 +33,8 @@ use Rattle.packing.specs.declared.Slots.{Slots}
 use Rattle.packing.specs.declared.Packed.{Packed}
 use Rattle.packing.specs.declared.Packed.the-variants.{Axes, NonHermitianAxis, ExpansionLimit}
 use Rattle.packing.specs.Holding.{Done, Holding, Left, NodeAt}
-use Rattle.packing.specs.Packed.{PackPre, packedAnswer, packingAnswer, packRows, PackedAs}
-use Rattle.packing.specs.Turns.{left-none, left-then, granted-left}
+use Rattle.packing.specs.Packed.{axesAfter, PackPre, packedAnswer, packingAnswer, packRows, PackedAs}
+use Rattle.packing.specs.LeftLaws.{left-none, left-then, granted-left}
 use Rattle.packing.specs.Signs.{signs-are}
 
 -- ---- before the first node: no axes, no slots
@@ -73,15 +73,9 @@ start {p} linked uses = record {
 
 -- ---- the ends
 
--- an answer's axes
-unfoldable axesAnswered : Packed → ℕ
-axesAnswered (Axes n) = n
-axesAnswered NonHermitianAxis = 0
-axesAnswered ExpansionLimit = 0
-
 same-axes : {m n : ℕ} → Axes m ≡ Axes n → m ≡ n
-unfolding axesAnswered
-same-axes e = ap axesAnswered e
+unfolding axesAfter
+same-axes e = ap (axesAfter 0) e
 
 odd-no-axes : {n : ℕ} → NonHermitianAxis ≡ Axes n → ⊥
 odd-no-axes e = let z : _≡_ {A = ℕ} 9 0 = ap (λ (r : Packed). numberOf (packingAnswer r)) e in omega arith
@@ -114,6 +108,7 @@ module _ {p : Program} {z : Shape} {ws₀ xs₀ ws xs : List ℕ} (w : Whole p z
       ap (λ (k : Pack). k .store .peak) (before-all p),
     ));
     axes = λ m e. absurd (limit-no-axes e);
+    room = λ m e. absurd (limit-no-axes e);
     signs = λ m e. absurd (limit-no-axes e);
     words = words;
     numbers = numbers;
@@ -127,6 +122,7 @@ module _ {p : Program} {z : Shape} {ws₀ xs₀ ws xs : List ℕ} (w : Whole p z
       record {
         answer = answer-odd (z .limit) (packed p) (rw e (h .1)) (rw e (h .0));
         axes = λ m f. absurd (odd-no-axes f);
+        room = λ m f. absurd (odd-no-axes f);
         signs = λ m f. absurd (odd-no-axes f);
         words = words;
         numbers = numbers;
@@ -138,6 +134,7 @@ module _ {p : Program} {z : Shape} {ws₀ xs₀ ws xs : List ℕ} (w : Whole p z
     answer = answer-axes (z .limit) (packed p) (rw (sym all) (h .fits)) (rw (sym all) (h .going)) (st .axes)
         (ap length (sym axes-are) ∙ axes-length (z .l) (st .axes) ws);
     axes = λ m f. rw (sym (same-axes f)) axes-are;
+    room = λ m f. rw (sym (same-axes f)) (omega (arith, h .room));
     signs = λ m f.
         signs-are w (h .linked) (λ j a r. rw (sym all) (h .signed j a r (inl (omega (arith, reference-node p (w .fine) j a, w .nodes)))));
     words = words;

@@ -37,7 +37,7 @@ use Rattle.packing.specs.declared.Taken.the-variants.{Slot, ExpansionLim
 use Rattle.packing.specs.Values.{slotOf, phaseOf, usesOf, HeldPre, heldValue, EvaluatePre, valueOfRecord, Evaluated, ChildrenPre}
 use Rattle.packing.specs.Values.{ChildrenReleased, TakePre, taken, KeepPre, Kept}
 use Rattle.packing.specs.Holding.{SlotsHold, SignedAt, Holding, PlacedAs, turnRows, Left, PlaceAt}
-use Rattle.packing.specs.Held.{slots-fit, nodes-in, width-is, slots-in, held-pre}
+use Rattle.packing.specs.Bounds.{slots-fit, nodes-in, width-is, slots-in, held-pre}
 use Rattle.packing.specs.NodeValues.{value-own, value-turns, leaf-in}
 use Rattle.packing.specs.Release.{SlotsAre, holding-slots, count-is, free-room, slots-release}
 use Rattle.packing.specs.Keeping.{slots-scratch, slots-kept}
@@ -125,9 +125,6 @@ module _ {p : Program} {z : Shape} {st : Slots} {n : ℕ} {x : NodeRecord} {ws x
   pub evaluate-pre : EvaluatePre z x ws xs
   evaluate-pre = record {
     scratch = omega (arith, h .granted .words-long);
-    long = h .granted .numbers-long;
-    few = size .few;
-    limit = size .limit;
     qubit = leaf-qubit;
     first = λ k. node-held (x .a) (children-in k .0) (children-live k .0);
     second = λ k. node-held (x .b) (children-in k .1) (second-live k);
@@ -182,7 +179,6 @@ module _ {p : Program} {z : Shape} {st : Slots} {n : ℕ} {x : NodeRecord} {ws x
   pub children-pre : ChildrenPre xs (z .u) (st .free) x
   children-pre = record {
     long = h .granted .numbers-long;
-    u-small = size .u-small;
     room = λ k. omega (arith, slots-below, free-room (x .a) (children-in k .0) (children-live k .0) slots-are);
     first = λ k. omega (arith, children-in k .0, h .node, nodes-in (h .granted));
     second = λ k. omega (arith, children-in k .1, h .node, nodes-in (h .granted));
@@ -266,7 +262,6 @@ module _ {p : Program} {z : Shape} {st : Slots} {n : ℕ} {x : NodeRecord} {ws x
     few = size h .few;
     room = h .holding .room;
     slots = slots-below h;
-    u-small = size h .u-small;
   }
 
   is-slotted : slotted p n ≡ takeSlot (z .l) k₁
@@ -307,8 +302,7 @@ module _ {p : Program} {z : Shape} {st : Slots} {n : ℕ} {x : NodeRecord} {ws x
       long = numbers-long;
       node = omega (arith, h .node, nodes-in (h .granted));
       slot = omega (arith, slots-le (z .l) s (st′ .slots) (took .takes .inside), slots-fit′);
-      small = omega (arith, took .takes .inside, size h .words-row (st′ .slots) slots-fit′);
-      u-small = size h .u-small;
+      small = omega (arith, took .takes .inside, size h .words-row (st′ .slots) slots-fit′, size h .u-small);
     }
 
     -- the value is kept: ws″ has it in the slot, t″ its slot and phase

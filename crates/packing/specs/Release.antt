@@ -23,7 +23,7 @@ use Rattle.packing_states.specs.States.{valueOf}
 use Rattle.packing_states.specs.Counts.{less-at, less-same}
 use Rattle.packing_states.specs.Live.{usedBelow, used-below-some, live-use}
 use Rattle.packing.specs.declared.Slots.{Slots}
-use Rattle.packing.specs.Holding.{SlotsHold, Holding}
+use Rattle.packing.specs.Holding.{slots-among, SlotsHold, Holding}
 use Rattle.packing.specs.Values.{usesOf, Released}
 
 -- the slots in memory are those of k, where nodes below b have had theirs: a part of Holding
@@ -48,15 +48,7 @@ module _ {l limit b slots free : ℕ} {value : ℕ → Value} {uses slotRow phas
 
   -- a use is given up
   slots-fewer : (m : ℕ) → SlotsHold l limit b slots free value (oneUseLess m uses) slotRow phaseRow stack ws
-  slots-fewer m = record {
-    slot = λ c d u. h .slot c d (still-used m c u);
-    word = λ c d u. h .word c d (still-used m c u);
-    turns = λ c d u. h .turns c d (still-used m c u);
-    one = λ c d e f u v. h .one c d e f (still-used m c u) (still-used m d v);
-    free-slot = h .free-slot;
-    free-one = h .free-one;
-    free-other = λ c i d u. h .free-other c i d (still-used m c u);
-  }
+  slots-fewer m = slots-among (λ c d u. (d, still-used m c u)) h
 
   -- the last one
   slots-freed : (m : ℕ) → m < b → getD uses m 0 ≡ 1 → free < length stack

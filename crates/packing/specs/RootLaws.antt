@@ -26,7 +26,7 @@ use Rattle.packing_states.specs.StateLaws.{pack-reference}
 use Rattle.packing.specs.declared.Slots.{Slots}
 use Rattle.packing.specs.declared.ValueHeld.{ValueHeld}
 use Rattle.packing.specs.Holding.{RootAt}
-use Rattle.packing.specs.Held.{slots-fit, nodes-in, width-is, held-pre}
+use Rattle.packing.specs.Bounds.{slots-fit, nodes-in, width-is, held-pre}
 use Rattle.packing.specs.Values.{HeldPre, heldAt}
 use Rattle.packing.specs.ValueLaws.{held-place, held-phase}
 use Rattle.packing.specs.NodeValues.{value-turns}
@@ -89,16 +89,16 @@ module _ {p : Program} {z : Shape} {st : Slots} {n j phase : ℕ} {ws xs : List 
         }
 
     -- the root's total phase
-    pub sign-is : (v .phase + phase % 4) % 4 ≡ (valueOf p n .turns + referenceAt p j .phase) % 4
-    sign-is = sum-mod (v .phase) phase ∙ ap₂ (λ (a b : ℕ). (a + b) % 4) held-turns (h .phase-is)
+    pub phase-total : (v .phase + phase % 4) % 4 ≡ (valueOf p n .turns + referenceAt p j .phase) % 4
+    phase-total = sum-mod (v .phase) phase ∙ ap₂ (λ (a b : ℕ). (a + b) % 4) held-turns (h .phase-is)
 
     pub odd-root : ((v .phase + phase % 4) % 4) % 2 ≡ 1 → isOdd (valueOf p n .turns + referenceAt p j .phase) ≡ true
     odd-root o =
-        eq-eqb _ 1 (sym (mod-odd (valueOf p n .turns + referenceAt p j .phase)) ∙ ap (λ (a : ℕ). a % 2) (sym sign-is) ∙ o)
+        eq-eqb _ 1 (sym (mod-odd (valueOf p n .turns + referenceAt p j .phase)) ∙ ap (λ (a : ℕ). a % 2) (sym phase-total) ∙ o)
 
     pub even-root : (((v .phase + phase % 4) % 4) % 2 ≡ 1 → ⊥) → isOdd (valueOf p n .turns + referenceAt p j .phase) ≡ false
     even-root o =
-        ne-eqb _ 1 (λ q. o (ap (λ (a : ℕ). a % 2) sign-is ∙ mod-odd (valueOf p n .turns + referenceAt p j .phase) ∙ q))
+        ne-eqb _ 1 (λ q. o (ap (λ (a : ℕ). a % 2) phase-total ∙ mod-odd (valueOf p n .turns + referenceAt p j .phase) ∙ q))
 
   -- the model's next state: refused, or with the word stored and a use given up
   pub refused-next : isOdd (valueOf p n .turns + referenceAt p j .phase) ≡ true → within p n (suc j) ≡ withRefusal (within p n j)

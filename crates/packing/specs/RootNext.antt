@@ -4,22 +4,20 @@ use mathlib.Core.Bool.{true, false, true≢false}
 use mathlib.Core.Logic.{_≢_, inl, inr}
 use mathlib.Core.List.{List, [], _∷_}
 use Prim.Native.Nat.{ℕ, suc, _+_, _*_, _%_, _≤_, _<_}
-use native.Mathlib.Nat.{add-zero}
 use native.Mathlib.Omega.{arith}
-use native.Mathlib.Decide.{decLt, ℕ-discrete}
-use lib.ListN.{length, getD, take, List·getD-eq-default}
-use Rattle.store.specs.Part.{part, part-at}
+use native.Mathlib.Decide.{ℕ-discrete}
+use lib.ListN.{length, getD, take}
+use Rattle.store.specs.Part.{part}
 use Rattle.model.specs.Lists.{anyOf, member, allOf}
 use Rattle.model.specs.Program.{Program}
-use Rattle.model.specs.Words.{idOf, Store}
+use Rattle.model.specs.Words.{idOf}
 use Rattle.model.specs.Packing.{withStore, useNode}
 use Rattle.theory.specs.Ids.{id-in, id-stored, intern-grows, stored-keeps, id-keeps}
 use Rattle.axes.specs.Intern.{countWith}
-use Rattle.axes.specs.Stored.{HasId}
 use Rattle.layout.specs.declared.Shape.{Shape}
 use Rattle.layout.specs.Rows.{rowCount, usesRow, nodeSlot, nodePhase, freeRow, firstRoot, nextRoot, rootAxis, rootSign, entries}
 use Rattle.layout.specs.Only.{only-then, only-of}
-use Rattle.layout.specs.Words.{slotPlace, slot-in, slot-counted, KeptFrom}
+use Rattle.layout.specs.Words.{slotPlace, slot-in, slot-counted, kept-later, kept-part}
 use Rattle.packing_states.specs.References.{referenceAt, total, isRootAt}
 use Rattle.packing_states.specs.States.{valueOf, within}
 use Rattle.packing_states.specs.ReferenceLaws.{root-is}
@@ -27,7 +25,7 @@ use Rattle.packing_states.specs.ReferenceRows.{ReferenceRows, referenceRows, ax
 use Rattle.packing_states.specs.Linked.{Linked}
 use Rattle.packing.specs.declared.Slots.{Slots}
 use Rattle.packing.specs.Holding.{SignedAt, Done, Holding, Left, RootAt}
-use Rattle.packing.specs.Held.{slots-fit, nodes-in, slots-in}
+use Rattle.packing.specs.Bounds.{slots-fit, nodes-in, slots-in}
 use Rattle.packing.specs.Keeping.{slots-words}
 use Rattle.packing.specs.Values.{ReleasePre, Released}
 use Rattle.packing.specs.Release.{SlotsAre, count-is, free-room, slots-release}
@@ -63,23 +61,6 @@ linked-after {p} {z} {j} {id} {turns} {xs} {t} w root k = record {
     other : (i : ℕ) → isRootAt p i ≡ false → i ≢ j
     other i r e = true≢false (sym root ∙ ap (isRootAt p) (sym e) ∙ r)
 
--- ---- words that stay behind the limit
-
-at-part : (s : List ℕ) (i : ℕ) → getD (part s i 1) 0 0 ≡ getD s i 0
-at-part s i = part-at s i 1 0 (omega arith) ∙ ap (λ (m : ℕ). getD s m 0) (add-zero i)
-
--- storing an axis leaves what lies behind the limit
-has-id-kept : {l others limit n : ℕ} {s : List ℕ} {st : Store} {w : List ℕ} {id : ℕ} {t : List ℕ}
-    → HasId l others limit n s st w id t → KeptFrom (limit + 2 * l) s t
-has-id-kept {l} {others} {limit} {n} {s} {st} {w} {id} {t} a = record { long = a .long; kept = λ i b. go i b (decLt i (length s)) }
-  where
-    go : (i : ℕ) → limit + 2 * l ≤ i → Dec (i < length s) → getD t i 0 ≡ getD s i 0
-    go i b (yes c) = sym (at-part t i) ∙ ap (λ (q : List ℕ). getD q 0 0) (a .rest i 1 (omega arith) (omega arith)) ∙ at-part s i
-    go i b (no c) =
-        let x : length s ≤ i = omega arith in
-        let y : length t ≤ i = omega (arith, a .long) in
-        List·getD-eq-default t 0 y ∙ sym (List·getD-eq-default s 0 x)
-
 -- ---- the turn
 
 module _ {p : Program} {z : Shape} {st : Slots} {n j phase : ℕ} {ws xs : List ℕ} (h : RootAt p z st n j phase ws xs)
@@ -88,7 +69,8 @@ module _ {p : Program} {z : Shape} {st : Slots} {n j phase : ℕ} {ws xs : List 
   same-words : (s : ℕ) → s < st .slots
       → part ws′ (slotPlace (z .limit) (z .l) s) (2 * z .l) ≡ part ws (slotPlace (z .limit) (z .l) s) (2 * z .l)
   same-words s b =
-      a .rest (slotPlace (z .limit) (z .l) s) (2 * z .l) (slot-counted (z .limit) (z .l) (st .slots) (slots-fit (h .holding)) s b)
+      kept-part (a .kept) (slotPlace (z .limit) (z .l) s) (2 * z .l)
+      (omega (arith, slot-counted (z .limit) (z .l) (st .slots) (slots-fit (h .holding)) s b))
       (omega (arith, slot-in (z .limit) (z .l) (st .slots) (slots-fit (h .holding)) s b, h .granted .words-long))
 
   slots-marked : SlotsAre (z .l) (z .limit) (z .u) (z .nodes) (suc n) (st .slots) (st .free) (valueOf p)
@@ -113,7 +95,6 @@ module _ {p : Program} {z : Shape} {st : Slots} {n j phase : ℕ} {ws xs : List 
     long = long-marked;
     node = node-in h;
     room = omega (arith, slots-in (h .granted) (h .holding), free-room n (omega arith) (h .used) slots-marked);
-    u-small = h .granted .sized .u-small;
     used = omega (arith, h .used, count-is n long-marked (nodes-in (h .granted)) (h .node) slots-marked);
   }
 
@@ -123,7 +104,7 @@ module _ {p : Program} {z : Shape} {st : Slots} {n j phase : ℕ} {ws xs : List 
 
     pub left-next : Left z ws xs ws′ t
     unfolding member anyOf allOf
-    left-next = record { words = has-id-kept a; numbers = only-of _ refl (rows .only) }
+    left-next = record { words = kept-later (omega arith) (a .kept); numbers = only-of _ refl (rows .only) }
 
     abbrev axesNext : List (List ℕ)
     axesNext = rootStore p z st n j .axes

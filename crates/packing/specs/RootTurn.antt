@@ -21,10 +21,10 @@ use Rattle.packing.specs.declared.Slots.{Slots}
 use Rattle.packing.specs.declared.ValueHeld.{ValueHeld}
 use Rattle.packing.specs.declared.Step.the-variants.{Next, NonHermitianAxis, ExpansionLimit}
 use Rattle.packing.specs.Holding.{Turned, Left, RootAt}
-use Rattle.packing.specs.Held.{slots-fit}
+use Rattle.packing.specs.Bounds.{slots-fit}
 use Rattle.packing.specs.Values.{heldAt, ReleasePre, Released}
-use Rattle.packing.specs.Turns.{left-none}
-use Rattle.packing.specs.RootLaws.{reference-in, sign-is, odd-root, even-root, refused-next, stored-next}
+use Rattle.packing.specs.LeftLaws.{left-none}
+use Rattle.packing.specs.RootLaws.{reference-in, phase-total, odd-root, even-root, refused-next, stored-next}
 use Rattle.packing.specs.RootLaws.{RootHasId, root-has-id, root-no-room}
 use Rattle.packing.specs.RootNext.{release-pre, left-next, holding-next}
 
@@ -86,4 +86,4 @@ module _ {p : Program} {z : Shape} {st : Slots} {n j phase : ℕ} {ws xs : List 
 
             pub root-next : (((v .phase + phase % 4) % 4) % 2 ≡ 1 → ⊥) → {count : ℕ} → count ≡ countWith (st .axes) id
                 → Turned p z (suc n) n (suc j) (within p n (suc j)) (Next (record { axes = count; slots = st .slots; free = free })) ws′ t
-            root-next o f = rw (f, stored-next h (even-root h e o)) (holding-next h stored written c (sign-is h e))
+            root-next o f = rw (f, stored-next h (even-root h e o)) (holding-next h stored written c (phase-total h e))

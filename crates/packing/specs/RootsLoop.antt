@@ -23,7 +23,7 @@ use Rattle.packing.specs.declared.Step.the-variants.{Next, NonHermitianA
 use Rattle.packing.specs.Phases.{PhasePre, phaseIn}
 use Rattle.packing_states.specs.SomeProgram.{SomeProgram}
 use Rattle.packing.specs.Holding.{Done, Holding, holding-done, Turned, Left, RootAt, RootsAt}
-use Rattle.packing.specs.Turns.{left-none, left-then, granted-left}
+use Rattle.packing.specs.LeftLaws.{left-none, left-then, granted-left}
 
 -- ---- between two links
 

@@ -20,23 +20,20 @@ use Rattle.packing_states.specs.States.{valueOf}
 use Rattle.packing_states.specs.Linked.{Linked}
 use Rattle.packing_states.specs.InMemory.{Whole}
 use Rattle.packing.specs.Holding.{SignedAt}
-use Rattle.packing.specs.Packed.{signsIn, rowSign, signsOf}
+use Rattle.packing.specs.Packed.{signAt, signsIn, rowSign, signsOf}
 
 -- ---- reference by reference
 
 module _ {p : Program} {z : Shape} {xs : List ℕ} (w : Whole p z) (linked : Linked p z xs)
     (signed : (j : ℕ) → j < total p → isRootAt p j ≡ true → SignedAt p (z .u) (packed p .store .axes) xs j) where
-  abbrev signAt : ℕ → SignedAxis
-  signAt j = record { axis = getD (row xs (z .u) rootAxis) j 0; sign = getD (row xs (z .u) rootSign) j 0 }
-
   abbrev signOf : PauliRef → SignedAxis
   signOf = signedAxis (packed p .store .axes) (valuesOf p)
 
-  root-sign : (j : ℕ) → j < total p → isRootAt p j ≡ true → signAt j ≡ signOf (referenceAt p j)
+  root-sign : (j : ℕ) → j < total p → isRootAt p j ≡ true → signAt z xs j ≡ signOf (referenceAt p j)
   unfolding signedAxis valueOf
   root-sign j b r = let s = signed j b r in rw (s .axis, s .sign) refl
 
-  operation-sign : (k : ℕ) → k < length (p .operations) → signAt (k + 0) ≡ signOf (operationRoot (getD (p .operations) k noOperation))
+  operation-sign : (k : ℕ) → k < length (p .operations) → signAt z xs (k + 0) ≡ signOf (operationRoot (getD (p .operations) k noOperation))
   unfolding operationRoot noOperation
   operation-sign k b =
       let o = operation-kept p k (omega (arith, length-map (p .operations) operationRoot)) in
@@ -44,7 +41,7 @@ module _ {p : Program} {z : Shape} {xs : List ℕ} (w : Whole p z) (linked : Lin
       ∙ ap signOf (o .1 ∙ List·getD-map operationRoot (p .operations) k noOperation)
 
   row-sign : (k : ℕ) → k < length (p .rows)
-      → signAt (k + (length (p .operations) + 0)) ≡ rowSign p (getD (p .rows) k noReference)
+      → signAt z xs (k + (length (p .operations) + 0)) ≡ rowSign p (getD (p .rows) k noReference)
   unfolding rowSign
   row-sign k b =
       let e : length (p .operations) ≡ length (map operationRoot (p .operations)) = sym (length-map (p .operations) operationRoot) in
@@ -59,7 +56,7 @@ module _ {p : Program} {z : Shape} {xs : List ℕ} (w : Whole p z) (linked : Lin
       in-all : j < total p
       in-all = omega (arith, total-sum p, length-map (p .operations) operationRoot)
 
-      go : (t : Bool) → isRoot p r ≡ t → signAt j ≡ rowSign p r
+      go : (t : Bool) → isRoot p r ≡ t → signAt z xs j ≡ rowSign p r
       go true e = root-sign j in-all (row-kept p k ∙ e) ∙ ap signOf (row-at p k) ∙ sym (if-true _ _ e)
       go false e =
           let q = row-kept p k ∙ e in
@@ -69,6 +66,6 @@ module _ {p : Program} {z : Shape} {xs : List ℕ} (w : Whole p z) (linked : Lin
   unfolding signsIn signsOf
   signs-are =
       let ops = p .operations in
-      map-front signAt (λ o. signOf (operationRoot o)) noOperation ops 0 (length (p .rows)) _ (sym (w .references) ∙ total-sum p) operation-sign
+      map-front (signAt z xs) (λ o. signOf (operationRoot o)) noOperation ops 0 (length (p .rows)) _ (sym (w .references) ∙ total-sum p) operation-sign
       ∙ ap (λ (ys : List SignedAxis). map (λ o. signOf (operationRoot o)) ops ++ ys)
-      (map-all signAt (rowSign p) noReference (p .rows) (length ops + 0) row-sign)
+      (map-all (signAt z xs) (rowSign p) noReference (p .rows) (length ops + 0) row-sign)

@@ -188,7 +188,6 @@ module _ {s : List ℕ} {u free : ℕ} {x : NodeRecord} where
     long = pre .long;
     node = pre .first k;
     room = omega (arith, pre .room k);
-    u-small = pre .u-small;
     used = pre .first-used k;
   }
 
@@ -199,7 +198,6 @@ module _ {s : List ℕ} {u free : ℕ} {x : NodeRecord} where
         long = omega (arith, pre .long, one .only .long);
         node = pre .second k;
         room = omega (arith, pre .room k, one .count);
-        u-small = pre .u-small;
         used = rw (one .uses) (pre .second-used k);
       }
 

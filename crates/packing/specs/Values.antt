@@ -53,9 +53,6 @@ heldValue z ws xs n = record {
 -- a product's two children are held, with phases 0 to 3; a letter's qubit has its bit
 pub record EvaluatePre (z : Shape) (x : NodeRecord) (ws xs : List ℕ) : Type 0 where
   pub scratch : z .limit + 2 * z .l ≤ length ws
-  pub long : rowCount * z .u ≤ length xs
-  pub few : z .l ≤ 64
-  pub limit : z .limit ≤ 1048576
   pub qubit : x .kind ≡ 1 → x .a < 64 * z .l
   pub first : 2 ≤ x .kind → HeldPre z xs (x .a)
   pub second : 2 ≤ x .kind → HeldPre z xs (x .b)
@@ -81,7 +78,6 @@ pub record ReleasePre (s : List ℕ) (u free n : ℕ) : Type 0 where
   pub long : rowCount * u ≤ length s
   pub node : n < u
   pub room : free < u
-  pub u-small : u ≤ longestRow
   pub used : 0 < usesOf s u n
 
 -- one use less; after the last one the slot is on top of the free slots
@@ -94,7 +90,6 @@ pub record Released (s : List ℕ) (u free n r : ℕ) (t : List ℕ) : Type 0 wh
 -- both children are used; the second still is where the first is given up
 pub record ChildrenPre (s : List ℕ) (u free : ℕ) (x : NodeRecord) : Type 0 where
   pub long : rowCount * u ≤ length s
-  pub u-small : u ≤ longestRow
   pub room : 2 ≤ x .kind → free + 1 < u
   pub first : 2 ≤ x .kind → x .a < u
   pub second : 2 ≤ x .kind → x .b < u
@@ -120,7 +115,6 @@ pub record TakePre (z : Shape) (xs : List ℕ) (st : Slots) : Type 0 where
   pub few : z .l ≤ 64
   pub room : st .slots * (2 * z .l) + st .axes * (2 * z .l) ≤ z .limit
   pub slots : st .slots < z .u
-  pub u-small : z .u ≤ longestRow
 
 -- "(slots with the new one + axes) × 2l"
 abbrev pub slotSum : Shape → Slots → ℕ
@@ -136,14 +130,13 @@ taken z xs st =
 
 -- ---- keeping a value
 
--- slot s is within the limit
+-- slot s is within the limit, and fits 32 bits
 pub record KeepPre (z : Shape) (n s : ℕ) (ws xs : List ℕ) : Type 0 where
   pub scratch : z .limit + 2 * z .l ≤ length ws
   pub long : rowCount * z .u ≤ length xs
   pub node : n < z .u
   pub slot : s * (2 * z .l) + 2 * z .l ≤ z .limit
-  pub small : s < z .u
-  pub u-small : z .u ≤ longestRow
+  pub small : s < longestRow
 
 -- the scratch word is copied to slot s; node n has the slot, and the phase e
 pub record Kept (z : Shape) (n s e : ℕ) (ws xs ws′ xs′ : List ℕ) : Type 0 where

@@ -119,8 +119,8 @@ fn pack_root(
         → Turned p shape (suc n) n (suc root) (within p n (suc root)) r (now (words .exit)) (now (numbers .exit))) ⌝ }
 {
     let v = values::held(&numbers[..], shape, n);
-    let sign = (v.phase + phase % 4) % 4;
-    if sign % 2 == 1 {
+    let total = (v.phase + phase % 4) % 4;
+    if total % 2 == 1 {
         return Step::NonHermitianAxis;
     }
     let counted = st.slots * (2 * shape.l);
@@ -129,7 +129,7 @@ fn pack_root(
         return Step::ExpansionLimit;
     };
     store::write(numbers, shape.u, ROOT_AXIS, root, id as u32);
-    store::write(numbers, shape.u, ROOT_SIGN, root, sign);
+    store::write(numbers, shape.u, ROOT_SIGN, root, total);
     let free = values::release(numbers, shape.u, st.free, n);
     Step::Next(Slots {
         axes: axes::count_with(st.axes, id),

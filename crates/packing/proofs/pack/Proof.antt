@@ -3,7 +3,7 @@ use mathlib.Core.Path.{_∙_}
 use Prim.Native.Nat.{_-_, _<_}
 use Rattle.layout.specs.Only.{Only}
 use Rattle.packing.specs.Holding.{Left}
-use Rattle.packing.specs.Turns.{left-then}
+use Rattle.packing.specs.LeftLaws.{left-then}
 use Rattle.packing.specs.Packing.{AtNode, first-node, node-turn, next-node, preparedRows, prepared-rows, granted-prepared}
 use Rattle.packing.specs.Packing.{pack-axes, pack-odd, pack-limit}
 use native.Mathlib.Omega.{arith}

@@ -2,7 +2,7 @@
 use mathlib.Core.Path.{refl}
 use borrow.Author.Needs.{needs}
 use Rattle.packing.specs.Holding.{Left}
-use Rattle.packing.specs.Turns.{left-then}
+use Rattle.packing.specs.LeftLaws.{left-then}
 use Rattle.packing.specs.NodeTurn.{uses-there, node-there, turn-unused, place-there, turn-limit, roots-there, turn-roots}
 use Rattle.packing.proofs.pack_node.Statement.{statement}
 use Rattle.packing.proofs.pack_node.Tie as tie

@@ -2,7 +2,7 @@
 use native.Mathlib.Omega.{arith}
 use borrow.Author.Needs.{needs}
 use Rattle.packing.specs.RootLaws.{reference-in, node-held, held-small, intern-pre}
-use Rattle.packing.specs.Turns.{left-none}
+use Rattle.packing.specs.LeftLaws.{left-none}
 use Rattle.packing.specs.RootTurn.{l-small, slots-small, axes-small, id-small}
 use Rattle.packing.specs.RootTurn.{root-odd, left-limit, root-limit, root-release, root-left, root-next}
 use Rattle.packing.proofs.pack_root.Statement.{statement}
@@ -11,8 +11,8 @@ use Rattle.packing.proofs.pack_root.Tie as tie
 held-requires : tie.Need-held-requires
 held-requires c κs = node-held (c .before .before .before .pre .it)
 
-add-sign : tie.Need-add-sign
-add-sign c = omega (arith, held-small (c .before .before .before .before .before .pre .it) (c .before .held .ensures))
+add-total : tie.Need-add-total
+add-total c = omega (arith, held-small (c .before .before .before .before .before .pre .it) (c .before .held .ensures))
 
 same-length : tie.Need-same-length
 same-length c = search needs
@@ -115,7 +115,7 @@ pack-root-spec =
     tie.close
     (tie.spec
     held-requires
-    add-sign
+    add-total
     same-length
     returns
     mul-counted

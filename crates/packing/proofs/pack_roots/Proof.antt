@@ -2,7 +2,7 @@
 use mathlib.Core.Path.{_≡_}
 use Prim.Native.Nat.{suc, _+_, _-_, _*_}
 use Rattle.packing.specs.Holding.{Left}
-use Rattle.packing.specs.Turns.{left-then}
+use Rattle.packing.specs.LeftLaws.{left-then}
 use Rattle.packing.specs.RootsLoop.{Along, referencesLeft, first-there, along-first, phase-there, root-there, next-there}
 use Rattle.packing.specs.RootsLoop.{along-next, next-later, along-odd, along-limit, along-end}
 use native.Mathlib.Omega.{arith}
