@@ -27,7 +27,7 @@ pub axis-word : (l n : ℕ) (s : List ℕ) (a : ℕ) → a < n → wordOf (axesO
 unfolding axesOf
 axis-word l n s a h = chunks-at (2 * l) n s a h
 
--- how many words of width l lie in a slice
+-- 01: "`Axes::len` .. is the number of stored axes": the words of width l in a slice that ends with them
 unfoldable pub axesIn : ℕ → List ℕ → ℕ
 axesIn l s = length s / (2 * l)
 

@@ -34,10 +34,11 @@ fn count(words: &[u64], l: usize) -> usize
     words.len() / (2 * l)
 }
 
-// The number of axes in the view.
+// The number of stored axes, in a view that ends with them.
 pub fn len<'a>(a: Axes<'a>) -> usize
     requires { ⌜ (0 < a .l) × (a .l ≤ 64) ⌝ }
-    ensures { λ r. ⌜ r ≡ axesIn (a .entry .l) (now (a .entry .words)) ⌝ }
+    ensures { λ r. ⌜ (r ≡ axesIn (a .entry .l) (now (a .entry .words)))
+        × ((n : ℕ) → length (now (a .entry .words)) ≡ axisPlace (a .entry .l) n → r ≡ n) ⌝ }
 {
     count(a.words, a.l)
 }

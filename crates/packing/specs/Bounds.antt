@@ -39,5 +39,5 @@ module _ {z : Shape} {ws xs : List ℕ} (g : Granted z ws xs) where
     held-pre m a c u = record {
       long = g .numbers-long;
       node = omega (arith, nodes-in);
-      slot = omega (arith, slots-fit h, slots-le (z .l) (slotOf z xs m) (st .slots) (h .held .slot m a u));
+      slot = omega (arith, slots-fit h, slots-le (z .l) (slotOf xs (z .u) m) (st .slots) (h .held .slot m a u));
     }

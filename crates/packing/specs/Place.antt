@@ -101,7 +101,7 @@ module _ {p : Program} {z : Shape} {st : Slots} {n : ℕ} {x : NodeRecord} {ws x
     node-held : HeldPre z xs m
     node-held = held-pre (h .granted) (h .holding) m a (omega (arith, h .node)) u
 
-    held-phase : phaseOf z xs m < 4
+    held-phase : phaseOf xs (z .u) m < 4
     held-phase = omega (arith, h .holding .held .turns m a u, value-turns p fine m (omega (arith, below)))
 
     held-value : heldValue z ws xs m ≡ valueOf p m
@@ -111,9 +111,9 @@ module _ {p : Program} {z : Shape} {st : Slots} {n : ℕ} {x : NodeRecord} {ws x
 
     held-length : length (valueOf p m .word) ≡ 2 * z .l
     held-length =
-        let i = slot-in (z .limit) (z .l) (st .slots) (slots-fit (h .holding)) (slotOf z xs m) (h .holding .held .slot m a u) in
+        let i = slot-in (z .limit) (z .l) (st .slots) (slots-fit (h .holding)) (slotOf xs (z .u) m) (h .holding .held .slot m a u) in
         ap length (sym (h .holding .held .word m a u))
-        ∙ part-length ws (slotPlace (z .limit) (z .l) (slotOf z xs m)) (2 * z .l) (omega (arith, h .granted .words-long))
+        ∙ part-length ws (slotPlace (z .limit) (z .l) (slotOf xs (z .u) m)) (2 * z .l) (omega (arith, h .granted .words-long))
 
   -- a leaf's qubit has its bit
   leaf-qubit : x .kind ≡ 1 → x .a < 64 * z .l

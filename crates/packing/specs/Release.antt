@@ -24,7 +24,7 @@ use Rattle.packing_states.specs.Counts.{less-at, less-same}
 use Rattle.packing_states.specs.Live.{usedBelow, used-below-some, live-use}
 use Rattle.packing.specs.declared.Slots.{Slots}
 use Rattle.packing.specs.Holding.{slots-among, SlotsHold, Holding}
-use Rattle.packing.specs.Values.{usesOf, Released}
+use Rattle.packing.specs.Values.{slotOf, usesOf, Released}
 
 -- the slots in memory are those of k, where nodes below b have had theirs: a part of Holding
 pub record SlotsAre (l limit u nodes b slots free : ℕ) (value : ℕ → Value) (k : Pack) (ws xs : List ℕ) : Type 0 where
@@ -139,7 +139,7 @@ module _ {l limit u nodes b slots free : ℕ} {value : ℕ → Value} {k : Pack}
     last true e =
         let one : getD (k .uses) m 0 ≡ 1 = sym count ∙ eqb-true (usesOf xs u m) 1 e in
         let c : r ≡ free + 1 = t .count ∙ ap (λ (n : ℕ). free + n) (if-true _ _ e) in
-        let q : row xs′ u freeRow ≡ set (row xs u freeRow) free (getD (row xs u nodeSlot) m 0) = t .stack ∙ if-true _ _ e in
+        let q : row xs′ u freeRow ≡ set (row xs u freeRow) free (slotOf xs u m) = t .stack ∙ if-true _ _ e in
         let one-less : _≡_ {A = ℕ} (if eqb (getD (k .uses) m 0) 1 then 1 else 0) 1 = if-true _ _ (eq-eqb (getD (k .uses) m 0) 1 one) in
         let room : free < length (row xs u freeRow) = omega (arith, free-room, row-length xs u rowCount freeRow long (omega arith)) in (
           omega (arith, s .all, s .live, used-below-some b m (k .uses) d used),

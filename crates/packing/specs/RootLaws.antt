@@ -27,7 +27,7 @@ use Rattle.packing.specs.declared.Slots.{Slots}
 use Rattle.packing.specs.declared.ValueHeld.{ValueHeld}
 use Rattle.packing.specs.Holding.{RootAt}
 use Rattle.packing.specs.Bounds.{slots-fit, nodes-in, width-is, held-pre}
-use Rattle.packing.specs.Values.{HeldPre, heldAt}
+use Rattle.packing.specs.Values.{slotOf, HeldPre, heldAt}
 use Rattle.packing.specs.ValueLaws.{held-place, held-phase}
 use Rattle.packing.specs.NodeValues.{value-turns}
 
@@ -53,7 +53,7 @@ RootHasId p z st n j ws id ws′ =
 -- ---- before the root's turn
 
 module _ {p : Program} {z : Shape} {st : Slots} {n j phase : ℕ} {ws xs : List ℕ} (h : RootAt p z st n j phase ws xs) where
-  slot-below : getD (row xs (z .u) nodeSlot) n 0 < st .slots
+  slot-below : slotOf xs (z .u) n < st .slots
   slot-below = h .holding .held .slot n (omega arith) (h .used)
 
   -- the reference has its entry in a row
@@ -78,7 +78,7 @@ module _ {p : Program} {z : Shape} {st : Slots} {n j phase : ℕ} {ws xs : List 
 
     pub intern-pre : InternPre (z .l) (st .slots * (2 * z .l)) (z .limit) (st .axes) ws (v .at)
     intern-pre =
-        let s = getD (row xs (z .u) nodeSlot) n 0 in
+        let s = slotOf xs (z .u) n in
         let at : v .at ≡ slotPlace (z .limit) (z .l) s = held-place z xs n e in
         record {
           stored = omega (arith, h .holding .room);

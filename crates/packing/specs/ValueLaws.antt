@@ -37,25 +37,25 @@ use Rattle.packing.specs.Values.{ReleasePre, Released, ChildrenPre, Chil
 -- ---- what is held of a node
 
 module _ (z : Shape) (xs : List ℕ) (n : ℕ) where
-  pub held-fits : (s : ℕ) → HeldPre z xs n → s ≡ slotOf z xs n → s * (2 * z .l) + 2 * z .l ≤ z .limit
+  pub held-fits : (s : ℕ) → HeldPre z xs n → s ≡ slotOf xs (z .u) n → s * (2 * z .l) + 2 * z .l ≤ z .limit
   held-fits s pre e = rw e (pre .slot)
 
-  pub held-is : (s a p : ℕ) → s ≡ slotOf z xs n → a ≡ slotPlace (z .limit) (z .l) s → p ≡ phaseOf z xs n
+  pub held-is : (s a p : ℕ) → s ≡ slotOf xs (z .u) n → a ≡ slotPlace (z .limit) (z .l) s → p ≡ phaseOf xs (z .u) n
       → _≡_ {A = ValueHeld} (record { at = a; phase = p }) (heldAt z xs n)
   unfolding heldAt
   held-is s a p e f g = λ i. record { at = (f ∙ ap (slotPlace (z .limit) (z .l)) e) i; phase = g i }
 
-  pub held-place : {h : ValueHeld} → h ≡ heldAt z xs n → h .at ≡ slotPlace (z .limit) (z .l) (slotOf z xs n)
+  pub held-place : {h : ValueHeld} → h ≡ heldAt z xs n → h .at ≡ slotPlace (z .limit) (z .l) (slotOf xs (z .u) n)
   unfolding heldAt
   held-place e = ap (λ (x : ValueHeld). x .at) e
 
-  pub held-phase : {h : ValueHeld} → h ≡ heldAt z xs n → h .phase ≡ phaseOf z xs n
+  pub held-phase : {h : ValueHeld} → h ≡ heldAt z xs n → h .phase ≡ phaseOf xs (z .u) n
   unfolding heldAt
   held-phase e = ap (λ (x : ValueHeld). x .phase) e
 
   -- its word ends within the limit
   held-ends : {h : ValueHeld} → HeldPre z xs n → h ≡ heldAt z xs n → h .at + 2 * z .l ≤ z .limit
-  held-ends pre e = omega (arith, held-place e, slot-ends (z .limit) (z .l) (slotOf z xs n) (pre .slot))
+  held-ends pre e = omega (arith, held-place e, slot-ends (z .limit) (z .l) (slotOf xs (z .u) n) (pre .slot))
 
 -- ---- evaluation
 
@@ -152,7 +152,7 @@ module _ {s t : List ℕ} {u free n : ℕ} (k : ℕ) (pre : ReleasePre s u free 
       }
 
   -- it was the last use: the slot is free
-  pub released-last : {v : List ℕ} (x : ℕ) → x ≡ getD (row t u nodeSlot) n 0 → Written t u freeRow free x v → k - 1 ≡ 0
+  pub released-last : {v : List ℕ} (x : ℕ) → x ≡ slotOf t u n → Written t u freeRow free x v → k - 1 ≡ 0
       → Released s u free n (free + 1) v
   unfolding allOf member anyOf
   released-last {v} x e y none =
@@ -160,7 +160,7 @@ module _ {s t : List ℕ} {u free n : ℕ} (k : ℕ) (pre : ReleasePre s u free 
       let one : usesOf s u n ≡ 1 = omega (arith, pre .used) in
       let f : eqb (usesOf s u n) 1 ≡ true = eq-eqb (usesOf s u n) 1 one in
       let o : Only (freeRow ∷ []) u t v = only-written long (omega arith) (pre .room) y in
-      let slot : x ≡ getD (row s u nodeSlot) n 0 = e ∙ ap (λ (r : List ℕ). getD r n 0) (only-uses .rows nodeSlot (omega arith) refl) in
+      let slot : x ≡ slotOf s u n = e ∙ ap (λ (r : List ℕ). getD r n 0) (only-uses .rows nodeSlot (omega arith) refl) in
       record {
         only = only-then (only-of (usesRow ∷ freeRow ∷ []) refl only-uses) (only-of (usesRow ∷ freeRow ∷ []) refl o);
         uses = o .rows usesRow (omega arith) refl ∙ less-used;

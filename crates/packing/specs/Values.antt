@@ -24,28 +24,28 @@ use Rattle.packing.specs.declared.Taken.the-variants.{Slot, ExpansionLim
 -- ---- what is held of a node
 
 -- its slot
-abbrev pub slotOf : Shape → List ℕ → ℕ → ℕ
-slotOf z xs n = getD (row xs (z .u) nodeSlot) n 0
+abbrev pub slotOf : List ℕ → ℕ → ℕ → ℕ
+slotOf s u n = getD (row s u nodeSlot) n 0
 
 -- its phase
-abbrev pub phaseOf : Shape → List ℕ → ℕ → ℕ
-phaseOf z xs n = getD (row xs (z .u) nodePhase) n 0
+abbrev pub phaseOf : List ℕ → ℕ → ℕ → ℕ
+phaseOf s u n = getD (row s u nodePhase) n 0
 
 -- node n has a slot within the limit
 pub record HeldPre (z : Shape) (xs : List ℕ) (n : ℕ) : Type 0 where
   pub long : rowCount * z .u ≤ length xs
   pub node : n < z .u
-  pub slot : slotOf z xs n * (2 * z .l) + 2 * z .l ≤ z .limit
+  pub slot : slotOf xs (z .u) n * (2 * z .l) + 2 * z .l ≤ z .limit
 
 -- where its word is, and its phase
 unfoldable pub heldAt : Shape → List ℕ → ℕ → ValueHeld
-heldAt z xs n = record { at = slotPlace (z .limit) (z .l) (slotOf z xs n); phase = phaseOf z xs n }
+heldAt z xs n = record { at = slotPlace (z .limit) (z .l) (slotOf xs (z .u) n); phase = phaseOf xs (z .u) n }
 
 -- the value that memory has for node n
 unfoldable pub heldValue : Shape → List ℕ → List ℕ → ℕ → Value
 heldValue z ws xs n = record {
-  turns = phaseOf z xs n;
-  word = part ws (slotPlace (z .limit) (z .l) (slotOf z xs n)) (2 * z .l);
+  turns = phaseOf xs (z .u) n;
+  word = part ws (slotPlace (z .limit) (z .l) (slotOf xs (z .u) n)) (2 * z .l);
 }
 
 -- ---- evaluation
@@ -56,8 +56,8 @@ pub record EvaluatePre (z : Shape) (x : NodeRecord) (ws xs : List ℕ) : Type 0 
   pub qubit : x .kind ≡ 1 → x .a < 64 * z .l
   pub first : 2 ≤ x .kind → HeldPre z xs (x .a)
   pub second : 2 ≤ x .kind → HeldPre z xs (x .b)
-  pub first-phase : 2 ≤ x .kind → phaseOf z xs (x .a) < 4
-  pub second-phase : 2 ≤ x .kind → phaseOf z xs (x .b) < 4
+  pub first-phase : 2 ≤ x .kind → phaseOf xs (z .u) (x .a) < 4
+  pub second-phase : 2 ≤ x .kind → phaseOf xs (z .u) (x .b) < 4
 
 -- the node's value, from those that memory has for its children
 unfoldable pub valueOfRecord : Shape → List ℕ → List ℕ → NodeRecord → Value
@@ -85,7 +85,7 @@ pub record Released (s : List ℕ) (u free n r : ℕ) (t : List ℕ) : Type 0 wh
   pub only : Only (usesRow ∷ freeRow ∷ []) u s t
   pub uses : row t u usesRow ≡ set (row s u usesRow) n (usesOf s u n - 1)
   pub count : r ≡ free + (if eqb (usesOf s u n) 1 then 1 else 0)
-  pub stack : row t u freeRow ≡ (if eqb (usesOf s u n) 1 then set (row s u freeRow) free (getD (row s u nodeSlot) n 0) else row s u freeRow)
+  pub stack : row t u freeRow ≡ (if eqb (usesOf s u n) 1 then set (row s u freeRow) free (slotOf s u n) else row s u freeRow)
 
 -- both children are used; the second still is where the first is given up
 pub record ChildrenPre (s : List ℕ) (u free : ℕ) (x : NodeRecord) : Type 0 where
