@@ -1,23 +1,15 @@
 -- What Checking grants packing by accepting. Assumes nothing.
-use mathlib.Core.Path.{_≡_, sym, ap, _∙_}
+use mathlib.Core.Path.{_≡_}
 use mathlib.Core.Bool.{false}
-use Prim.Native.Nat.{ℕ, _≤_}
-use lib.Dec.{eqb}
+use Prim.Native.Nat.{_≤_}
 use Rattle.model.specs.declared.Options.{Options}
-use Rattle.model.specs.declared.Answer.{Answer}
 use Rattle.model.specs.declared.Answer.the-variants.{Accepted}
-use Rattle.model.specs.Interface.{numberOf}
 use Rattle.model.specs.Program.{Job}
 use Rattle.model.specs.Checking.{Lent, badCount, checking}
-use Rattle.theory.specs.Checked.{accepts-only}
 use Rattle.layout.specs.Bounds.{limit-fits, passed}
 use Rattle.layout.specs.Shape.{shapeOf, checked-granted}
 use Rattle.records.specs.Given.{checked-given}
 use Rattle.packing.specs.Packed.{PackPre}
-
--- 0 is the number of acceptance
-pub answered : (j : Answer) (a : Answer) (n : ℕ) → a ≡ j → n ≡ numberOf a → n ≡ 0 → j ≡ Accepted
-answered j a n e f z = accepts-only j (ap (λ (k : ℕ). eqb k 0) (ap numberOf (sym e) ∙ sym f ∙ z))
 
 -- what the sizes ask
 pub checked-sizes : (o : Options) (j : Job) (s : Lent) → checking o j s ≡ Accepted

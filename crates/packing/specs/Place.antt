@@ -10,13 +10,14 @@ use lib.Seq.{getD-take, take-set-lt}
 use Rattle.store.specs.Part.{part, put, part-length, put-length, part-put-same}
 use Rattle.store.specs.Row.{row, row-length}
 use Rattle.model.specs.Lists.{anyOf, member, allOf}
-use Rattle.model.specs.Program.{Node, identity, letter, product, Program}
+use Rattle.model.specs.Program.{Node, product, Program}
 use Rattle.model.specs.Words.{Value, Store}
 use Rattle.model.specs.Value.{nodeValue}
 use Rattle.model.specs.Packing.{oneUseLess, Pack, useNode, useChildren, takeSlot}
 use Rattle.theory.specs.ByNode.{OfChildren}
 use Rattle.theory.specs.Checked.{Fine}
 use Rattle.theory.specs.NodeValue.{nodeValue-same, nodeValue-length}
+use Rattle.theory.specs.PackedRoots.{children-keep}
 use Rattle.theory.specs.PlainValue.{children-before}
 use Rattle.axes.specs.View.{axesOf, axes-length, axes-apart}
 use Rattle.layout.specs.declared.Shape.{Shape}
@@ -53,14 +54,6 @@ said-children P r h = said-by (OfChildren P) r tt tt h
 leaf-uses : (r : NodeRecord) (k : Pack) → r .kind < 2 → useChildren (nodeSaid r) k ≡ k
 unfolding useChildren
 leaf-uses r k h = leaf-of (λ node. useChildren node k) k r h refl (λ q c. refl)
-
--- giving up the children's uses leaves the rest of k
-pub children-keep : (node : Node) (k : Pack) → (useChildren node k .store ≡ k .store) × ((useChildren node k .slots ≡ k .slots)
-    × (useChildren node k .refused ≡ k .refused))
-unfolding useChildren useNode
-children-keep identity k = (refl, (refl, refl))
-children-keep (letter q c) k = (refl, (refl, refl))
-children-keep (product a u b v) k = (refl, (refl, refl))
 
 -- ---- rows that are not written
 

@@ -6,18 +6,17 @@ use Prim.Native.Nat.{ℕ, _≤_}
 use Rattle.model.specs.declared.Counts.{Counts}
 use Rattle.model.specs.declared.Options.{Options}
 use Rattle.model.specs.declared.Answer.{Answer}
-use Rattle.model.specs.declared.Answer.the-variants.{Accepted}
 use Rattle.model.specs.Interface.{numberOf, defaultsAt}
 use Rattle.model.specs.Program.{Job, programOf}
 use Rattle.model.specs.Checking.{Lent, badCount, checking}
 use Rattle.model.specs.Packing.{packed}
+use Rattle.theory.specs.Checked.{answered}
 use Rattle.layout.specs.declared.Shape.{Shape}
 use Rattle.layout.specs.Shape.{shapeOf}
 use Rattle.records.specs.Given.{programIn}
 use Rattle.packing.specs.declared.Packed.{Packed}
-use Rattle.packing.specs.declared.Packed.the-variants.{Axes, NonHermitianAxis, ExpansionLimit}
-use Rattle.packing.specs.Packed.{PackPre, packedAnswer, packingAnswer, PackedAs}
-use Rattle.packing.specs.Checked.{answered, checked-sizes, checked-pack}
+use Rattle.packing.specs.Packed.{axesAfter, PackPre, packedAnswer, packingAnswer, PackedAs}
+use Rattle.packing.specs.Checked.{checked-sizes, checked-pack}
 
 -- the counts that a call hands in
 abbrev pub countsOf : ℕ → ℕ → ℕ → Counts
@@ -30,12 +29,6 @@ checkedNumber limit j s = numberOf (checking (defaultsAt limit) j s)
 -- the number of packing's answer
 abbrev pub packedNumber : Packed → ℕ
 packedNumber k = numberOf (packingAnswer k)
-
--- how many axes there are where packing is accepted, else what stood there
-unfoldable pub axesAfter : ℕ → Packed → ℕ
-axesAfter before (Axes n) = n
-axesAfter before NonHermitianAxis = before
-axesAfter before ExpansionLimit = before
 
 -- what packing answers to the program
 unfoldable pub packingOf : ℕ → Job → Packed
@@ -54,19 +47,15 @@ pub check-number : (limit : ℕ) (j : Job) (s : Lent) {o : Options} {a : Answer}
     → r ≡ numberOf a → r ≡ checkedNumber limit j s
 check-number limit j s e f g = g ∙ ap numberOf (f ∙ ap (λ (o : Options). checking o j s) e)
 
--- 0 is the answer of a Checking that passes
-accepted : (limit : ℕ) (j : Job) (s : Lent) {r : ℕ} → r ≡ checkedNumber limit j s → r ≡ 0 → checking (defaultsAt limit) j s ≡ Accepted
-accepted limit j s e h = answered _ _ _ refl e h
-
--- it grants what the sizes demand
+-- a Checking that passes grants what the sizes demand
 pub shape-granted : (limit : ℕ) (j : Job) (s : Lent) {r : ℕ} → r ≡ checkedNumber limit j s → r ≡ 0
     → (badCount (j .counts) ≡ false) × (limit ≤ 1048576)
-shape-granted limit j s e h = checked-sizes (defaultsAt limit) j s (accepted limit j s e h)
+shape-granted limit j s e h = checked-sizes (defaultsAt limit) j s (answered _ _ _ refl e h)
 
 -- and what packing demands
 pub pack-granted : (limit : ℕ) (j : Job) (s : Lent) {r : ℕ} {z : Shape} → r ≡ checkedNumber limit j s → r ≡ 0
     → z ≡ shapeOf (j .counts) limit → PackPre z (j .nodes) (j .operations) (j .rows) (s .words) (s .numbers)
-pack-granted limit j s e h f = rw f (checked-pack (defaultsAt limit) j s (accepted limit j s e h))
+pack-granted limit j s e h f = rw f (checked-pack (defaultsAt limit) j s (answered _ _ _ refl e h))
 
 pub call-refused : {limit : ℕ} {j : Job} {s : Lent} {r : ℕ} (axes : ℕ) → r ≡ checkedNumber limit j s → (r ≡ 0 → ⊥)
     → PackedCall limit j s axes r (s .words) (s .numbers) axes

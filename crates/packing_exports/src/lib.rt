@@ -1,13 +1,9 @@
 // Checking and packing for oracle/ours, the runs against the Rust, and through it the benchmark: no part of 01's interface.
 // The options are Rust's defaults at a word limit. In C a slice is a pointer and a length, and `&mut usize` a pointer.
 ghost use mathlib.Core.Path.{_≡_};
-ghost use mathlib.Core.Bool.{false};
-ghost use Prim.Native.Nat.{_≤_};
-ghost use Rattle.model.specs.Checking.{badCount};
 ghost use Rattle.checking.specs.Call.{jobOf, lentOf};
-ghost use Rattle.packing_exports.specs.Calls.{countsOf, checkedNumber, packedNumber, axesAfter, PackedCall};
-ghost use Rattle.layout.specs.Shape.{shapeOf};
-use layout::Shape;
+ghost use Rattle.packing_exports.specs.Calls.{countsOf, checkedNumber, packedNumber, PackedCall};
+ghost use Rattle.packing.specs.Packed.{axesAfter};
 use model::Counts;
 use packing::Packed;
 
@@ -30,13 +26,8 @@ pub extern "C" fn werdutxa_check(
         (jobOf (countsOf qubits «node_count» «operation_count») (now (nodes .entry)) (now (operations .entry)) (now (rows .entry)))
         (lentOf (now (words .entry)) (now (numbers .entry)) (now («result_operations» .entry)) (now («result_rows» .entry))) ⌝ }
 {
-    let counts = Counts {
-        qubits,
-        nodes: node_count,
-        operations: operation_count,
-    };
     let answer = checking::checking(
-        counts,
+        counts(qubits, node_count, operation_count),
         model::defaults(limit),
         nodes,
         operations,
@@ -86,22 +77,20 @@ pub extern "C" fn werdutxa_pack(
     if answer != 0 {
         return answer;
     }
-    let shape = shape(qubits, node_count, operation_count, limit);
+    let shape = layout::shape_of(counts(qubits, node_count, operation_count), limit);
     let packed = packing::pack(nodes, operations, rows, words, numbers, shape);
     packed_number(packed, axes)
 }
 
-// The sizes that follow from the counts and the limit.
-fn shape(qubits: usize, node_count: usize, operation_count: usize, limit: usize) -> Shape
-    requires { ⌜ (badCount (countsOf qubits «node_count» «operation_count») ≡ false) × (limit ≤ 1048576) ⌝ }
-    ensures { λ r. ⌜ r ≡ shapeOf (countsOf qubits «node_count» «operation_count») limit ⌝ }
+// The counts that a call hands in.
+fn counts(qubits: usize, node_count: usize, operation_count: usize) -> Counts
+    ensures { λ r. ⌜ r ≡ countsOf qubits «node_count» «operation_count» ⌝ }
 {
-    let counts = Counts {
+    Counts {
         qubits,
         nodes: node_count,
         operations: operation_count,
-    };
-    layout::shape_of(counts, limit)
+    }
 }
 
 // The number of packing's answer; how many axes there are is written where that is 0.

@@ -1,7 +1,10 @@
 // What is printed of a job.
-ghost use Prim.Native.Nat.{_+_, _*_, _≤_};
+ghost use mathlib.Core.Path.{_≡_};
+ghost use Prim.Native.Nat.{ℕ, _+_, _*_, _≤_};
 ghost use lib.ListN.{length};
 ghost use Rattle.layout.specs.Rows.{rowCount};
+ghost use Rattle.layout.specs.Words.{axisPlace};
+ghost use Rattle.packing.specs.declared.Packed.the-variants.{Axes};
 use layout::NO_AXIS;
 use layout::ROOT_AXIS;
 use layout::ROOT_SIGN;
@@ -60,34 +63,30 @@ fn word(w: &[u64]) {
     }
 }
 
-// The words of the stored axes, of n numbers each.
-fn axes(words: &[u64], count: usize, n: usize) {
-    let mut at: usize = 0;
-    for _ in 0..count {
-        if words.len() - at < n {
-            return;
-        }
-        let e = at + n;
-        word(&words[at..e]);
-        at = e;
+// The words of the stored axes, of width l.
+fn stored_axes(words: &[u64], count: usize, l: usize)
+    requires { ⌜ axisPlace l count ≤ length (now words) ⌝ }
+{
+    for id in 0..count {
+        word(axes::axis(words, id, l));
     }
 }
 
 // A job that is packed.
 fn accepted(words: &[u64], numbers: &[u32], shape: Shape, count: usize)
     requires { ⌜ (rowCount * shape .u ≤ length (now numbers)) × (shape .operations + 2 * shape .qubits ≤ shape .u) ⌝ }
-    requires { ⌜ 2 * shape .l ≤ 128 ⌝ }
+    requires { ⌜ axisPlace (shape .l) count ≤ length (now words) ⌝ }
 {
     pair(0, count as u64);
     references(numbers, shape.u, shape.operations + 2 * shape.qubits);
-    axes(words, count, 2 * shape.l);
+    stored_axes(words, count, shape.l);
     io::write_all(1, b"end\n");
 }
 
 // What packing comes to.
 pub fn packed(p: Packed, words: &[u64], numbers: &[u32], shape: Shape)
     requires { ⌜ (rowCount * shape .u ≤ length (now numbers)) × (shape .operations + 2 * shape .qubits ≤ shape .u) ⌝ }
-    requires { ⌜ 2 * shape .l ≤ 128 ⌝ }
+    requires { ⌜ ((n : ℕ) → p ≡ Axes n → axisPlace (shape .l) n ≤ length (now words)) ⌝ }
 {
     let Packed::Axes(count) = p else {
         refused(packing::answer(p));

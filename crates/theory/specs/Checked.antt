@@ -14,7 +14,7 @@ use Rattle.model.specs.declared.Answer.the-variants.{Accepted, CountOutside, Op
 use Rattle.model.specs.declared.Answer.the-variants.{BadOperation}
 use Rattle.model.specs.declared.Answer.the-variants.{BadOutcome, NonHermitianAxis, ExpansionLimit, BadText}
 use Rattle.model.specs.Lists.{if_then_else_}
-use Rattle.model.specs.Interface.{accepts}
+use Rattle.model.specs.Interface.{numberOf, accepts}
 use Rattle.model.specs.Program.{fieldOf, Job, nodeRecords, operationRecords, rowRecords, Node, identity, letter, product, nodeOfKind, nodeOf}
 use Rattle.model.specs.Program.{Operation}
 use Rattle.model.specs.Program.{operationOf, PauliRef, rowOf, Program, programOf}
@@ -41,6 +41,10 @@ accepts-only BadOutcome h = absurd (false≢true h)
 accepts-only NonHermitianAxis h = absurd (false≢true h)
 accepts-only ExpansionLimit h = absurd (false≢true h)
 accepts-only BadText h = absurd (false≢true h)
+
+-- 0 is the number of acceptance
+pub answered : (j : Answer) (a : Answer) (n : ℕ) → a ≡ j → n ≡ numberOf a → n ≡ 0 → j ≡ Accepted
+answered j a n e f z = accepts-only j (ap (λ (k : ℕ). eqb k 0) (ap numberOf (sym e) ∙ sym f ∙ z))
 
 -- an answer with another number is another answer
 pub not-accepted : (a : Answer) → accepts a ≡ false → a ≡ Accepted → ⊥

@@ -12,7 +12,7 @@ use Rattle.pauli.specs.Word.{width}
 use Rattle.model.specs.declared.Options.{Options}
 use Rattle.model.specs.declared.Answer.the-variants.{Accepted, ExpansionLimit}
 use Rattle.model.specs.Lists.{keep, isOdd}
-use Rattle.model.specs.Program.{Job, Node, identity, letter, product, PauliRef, Program, programOf}
+use Rattle.model.specs.Program.{Job, Node, PauliRef, Program, programOf}
 use Rattle.model.specs.Rules.{rulesOf}
 use Rattle.model.specs.Words.{Value}
 use Rattle.model.specs.Value.{valueAt}
@@ -25,7 +25,7 @@ use Rattle.model.specs.Checking.{Lent, checking}
 use Rattle.model.specs.Rewriting.{rewriting}
 use Rattle.theory.specs.Cases.{by-if, on-if, if-false}
 use Rattle.theory.specs.Every.{Every, every-append, every-keep, every-map}
-use Rattle.theory.specs.PackedRoots.{In, packed-rooted}
+use Rattle.theory.specs.PackedRoots.{In, children-keep, packed-rooted}
 use Rattle.theory.specs.Checked.{NodeIn, RowIn, Fine, checked-fine}
 use Rattle.theory.specs.Replies.{runOf, limitOf, run-answer}
 use Rattle.theory.specs.Limit.{within-answer, beyond-answer}
@@ -66,12 +66,6 @@ rootsAt-even vs n (r ∷ rs) h =
     (λ e. (subst (λ (i : ℕ). EvenAt (valueAt vs i) r) (eqb-true (r .node) n e) (h .0), rootsAt-even vs n rs (h .1)))
     (λ e. rootsAt-even vs n rs (h .1))
 
-children-refused : (node : Node) (p : Pack) → useChildren node p .refused ≡ p .refused
-unfolding useChildren useNode
-children-refused identity p = refl
-children-refused (letter q c) p = refl
-children-refused (product a u b v) p = refl
-
 slot-refused : (l : ℕ) (p : Pack) → takeSlot l p .refused ≡ p .refused
 unfolding takeSlot
 slot-refused l p = by-if (λ (q : Pack). q .refused ≡ p .refused) _ _ _ refl refl
@@ -82,7 +76,7 @@ module _ (l : ℕ) (rs : List PauliRef) (vs : List Value) (even : Every (EvenRoo
   packNode-even n node p e =
       by-if (λ (q : Pack). q .refused ≡ false) _ _ _ e
       (packRoots-even l n (valueAt vs n) (takeSlot l (useChildren node p)) (rootsAt n rs) (rootsAt-even vs n rs even)
-      (slot-refused l (useChildren node p) ∙ children-refused node p ∙ e))
+      (slot-refused l (useChildren node p) ∙ children-keep node p .1 .1 ∙ e))
 
   packFrom-even : (n : ℕ) (nodes : List Node) (p : Pack) → p .refused ≡ false → packFrom l rs vs n nodes p .refused ≡ false
   unfolding packFrom

@@ -13,7 +13,7 @@ use borrow.Author.Tests.{eq-eqb, ne-eqb}
 use Rattle.pauli.specs.Word.{width}
 use Rattle.model.specs.Lists.{if_then_else_, keep, numbersFrom, isOdd}
 use Rattle.model.specs.Program.{Node, identity, letter, product, Kind, rotate, measure, conditional, Operation, PauliRef, Program}
-use Rattle.model.specs.Words.{Value, tested}
+use Rattle.model.specs.Words.{Value, Store, tested}
 use Rattle.model.specs.Value.{valueAt}
 use Rattle.model.specs.Roots.{rootRows, operationRoot, roots}
 use Rattle.model.specs.Packing.{rootsAt, oneUseMore, oneUseLess, countChildren, countUses, useCounts, Pack, useNode, useChildren, takeSlot}
@@ -202,6 +202,14 @@ packRoots-rooted l n v p (x ∷ rs) h r k =
 
 -- ---- nodes
 
+-- giving up the children's uses leaves the store, the slots and the refusal
+pub children-keep : (node : Node) (k : Pack) → (useChildren node k .store ≡ k .store) × ((useChildren node k .slots ≡ k .slots)
+    × (useChildren node k .refused ≡ k .refused))
+unfolding useChildren useNode
+children-keep identity k = (refl, (refl, refl))
+children-keep (letter q c) k = (refl, (refl, refl))
+children-keep (product a u b v) k = (refl, (refl, refl))
+
 packNode-stays : (l : ℕ) (rs : List PauliRef) (vs : List Value) (n : ℕ) (node : Node) (p : Pack) → packNode l rs vs n node p .refused ≡ false
     → p .refused ≡ false
 unfolding packNode
@@ -209,13 +217,8 @@ packNode-stays l rs vs n node p =
     by-if (λ (q : Pack). q .refused ≡ false → p .refused ≡ false) _ _ _ (λ h. h)
     (λ h. same (packRoots-stays l n _ (takeSlot l (useChildren node p)) _ h))
   where
-    kids : (node : Node) → useChildren node p .refused ≡ p .refused
-    kids identity = unfold useChildren in refl
-    kids (letter q c) = unfold useChildren in refl
-    kids (product a u b v) = unfold useChildren useNode in refl
-
     same : takeSlot l (useChildren node p) .refused ≡ false → p .refused ≡ false
-    same h = sym (kids node) ∙ sym slot ∙ h
+    same h = sym (children-keep node p .1 .1) ∙ sym slot ∙ h
       where
         slot : takeSlot l (useChildren node p) .refused ≡ useChildren node p .refused
         slot = unfold takeSlot in (by-if (λ (q : Pack). q .refused ≡ useChildren node p .refused) _ _ _ refl refl)
@@ -227,12 +230,6 @@ unfolding packFrom
 packFrom-stays l rs vs n [] p h = h
 packFrom-stays l rs vs n (node ∷ rest) p h = packNode-stays l rs vs n node p (packFrom-stays l rs vs (suc n) rest _ h)
 
-useChildren-axes : (node : Node) (p : Pack) → useChildren node p .store .axes ≡ p .store .axes
-unfolding useChildren useNode
-useChildren-axes identity p = refl
-useChildren-axes (letter q c) p = refl
-useChildren-axes (product a u b v) p = refl
-
 takeSlot-axes : (l : ℕ) (p : Pack) → takeSlot l p .store .axes ≡ p .store .axes
 unfolding takeSlot tested
 takeSlot-axes l p = by-if (λ (q : Pack). q .store .axes ≡ p .store .axes) _ _ _ refl refl
@@ -242,7 +239,7 @@ packNode-grows : (l : ℕ) (rs : List PauliRef) (vs : List Value) (n : ℕ) (nod
 unfolding packNode
 packNode-grows l rs vs n node p =
     by-if (λ (q : Pack). Grows (p .store .axes) (q .store .axes)) _ _ _ (grows-refl _)
-    (grows-trans (grows-eq (takeSlot-axes l (useChildren node p) ∙ useChildren-axes node p))
+    (grows-trans (grows-eq (takeSlot-axes l (useChildren node p) ∙ ap (λ (s : Store). s .axes) (children-keep node p .0)))
     (packRoots-grows l n _ (takeSlot l (useChildren node p)) _))
 
 packFrom-grows : (l : ℕ) (rs : List PauliRef) (vs : List Value) (n : ℕ) (nodes : List Node) (p : Pack)

@@ -16,13 +16,18 @@ same-length-2 c = search needs
 returns : tie.Need-returns
 returns c = call-refused _ (c .before .werdutxa-check .ensures) (c .if1 .taken)
 
-shape-requires : tie.Need-shape-requires
-shape-requires c κs = shape-granted _ _ _ (c .before .werdutxa-check .ensures) (c .if1 .left)
+counts-requires : tie.Need-counts-requires
+counts-requires c κs = search needs
+
+shape-of-requires : tie.Need-shape-of-requires
+shape-of-requires c κs =
+    rw (c .counts .ensures) (shape-granted _ _ _ (c .before .before .werdutxa-check .ensures) (c .before .if1 .left))
 
 pack-requires : tie.Need-pack-requires
 pack-requires c κs =
-    pack-granted _ _ _ (c .before .before .before .before .werdutxa-check .ensures) (c .before .before .before .if1 .left)
-    (c .before .before .shape .ensures)
+    let s = c .before .before in
+    let n = s .before in
+    pack-granted _ _ _ (n .before .before .werdutxa-check .ensures) (n .before .if1 .left) (rw (n .counts .ensures) at (s .shape-of .ensures))
 
 packed-number-requires : tie.Need-packed-number-requires
 packed-number-requires c κs = search needs
@@ -37,8 +42,9 @@ returns-2 : tie.Need-returns-2
 returns-2 c =
     let k = c .before .before .before .before .before .before in
     let s = k .before .before .before in
-    call-packed (s .before .before .werdutxa-check .ensures) (s .before .if1 .left) (s .shape .ensures) (k .pack .ensures)
-    (c .packed-number .ensures .0) (c .packed-number .ensures .1)
+    let n = s .before in
+    call-packed (n .before .before .werdutxa-check .ensures) (n .before .if1 .left) (rw (n .counts .ensures) at (s .shape-of .ensures))
+    (k .pack .ensures) (c .packed-number .ensures .0) (c .packed-number .ensures .1)
 
 pub werdutxa-pack-spec : {M : Type 1} → statement M
 werdutxa-pack-spec =
@@ -48,7 +54,8 @@ werdutxa-pack-spec =
     same-length
     same-length-2
     returns
-    shape-requires
+    counts-requires
+    shape-of-requires
     pack-requires
     packed-number-requires
     same-length-3

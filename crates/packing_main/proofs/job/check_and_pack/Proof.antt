@@ -1,5 +1,6 @@
 -- What Checking grants by accepting. Assumes nothing.
-use Rattle.packing.specs.Checked.{answered, checked-sizes, checked-pack}
+use Rattle.theory.specs.Checked.{answered}
+use Rattle.packing.specs.Checked.{checked-sizes, checked-pack}
 use native.Mathlib.Omega.{arith}
 use borrow.Author.Needs.{needs}
 use Rattle.packing_main.proofs.job.check_and_pack.Statement.{statement}
@@ -39,8 +40,7 @@ packed-requires c κs =
     let g = pack-requires (d .before) (d .pack .lifetimes) .granted in
     let n = g .numbers-long in
     let r = g .sized .row in
-    let f = g .sized .few in
-    omega arith
+    (omega arith, λ m e. omega (arith, d .pack .ensures .room m e, d .pack .ensures .words .long, g .words-long))
 
 same-length-3 : tie.Need-same-length-3
 same-length-3 c = search needs
