@@ -4,7 +4,6 @@ use mathlib.Core.Bool.{true, false}
 use mathlib.Core.List.{List}
 use Prim.Native.Nat.{ℕ, suc, _+_, _*_, _%_, _<_}
 use native.Mathlib.Omega.{arith}
-use lib.ListN.{getD}
 use borrow.Author.Tests.{eq-eqb, ne-eqb}
 use Rattle.store.specs.Row.{row}
 use Rattle.model.specs.Lists.{isOdd}
@@ -18,7 +17,6 @@ use Rattle.axes.specs.Stored.{HasId, NoRoom, InternedAs, interned-is}
 use Rattle.axes.specs.declared.Interned.{Interned}
 use Rattle.axes.specs.declared.Interned.the-variants.{Id, ExpansionLimit}
 use Rattle.layout.specs.declared.Shape.{Shape}
-use Rattle.layout.specs.Rows.{nodeSlot}
 use Rattle.layout.specs.Words.{slotPlace, slot-in, slot-counted}
 use Rattle.packing_states.specs.References.{referenceAt}
 use Rattle.packing_states.specs.States.{valueOf, within}

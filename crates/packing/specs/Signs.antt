@@ -5,7 +5,6 @@ use mathlib.Core.List.{List, map, _++_}
 use Prim.Native.Nat.{ℕ, _+_, _<_}
 use native.Mathlib.Omega.{arith}
 use lib.ListN.{length, getD, length-map, List·getD-map}
-use Rattle.store.specs.Row.{row}
 use Rattle.model.specs.Program.{PauliRef, Program}
 use Rattle.model.specs.Roots.{isRoot, operationRoot}
 use Rattle.model.specs.Packing.{packed, valuesOf, SignedAxis, signedAxis}
@@ -13,7 +12,6 @@ use Rattle.model.specs.Results.{noOperation}
 use Rattle.theory.specs.Cases.{if-true, if-false}
 use Rattle.theory.specs.Lists.{map-front, map-all}
 use Rattle.layout.specs.declared.Shape.{Shape}
-use Rattle.layout.specs.Rows.{rootAxis, rootSign}
 use Rattle.packing_states.specs.References.{noReference, referenceAt, total, isRootAt}
 use Rattle.packing_states.specs.ReferenceLaws.{total-sum, operation-kept, row-at, row-kept}
 use Rattle.packing_states.specs.States.{valueOf}

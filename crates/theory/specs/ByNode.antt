@@ -1,4 +1,4 @@
--- Lists that are built node by node, each element from those of the nodes before it: values, mentions. Assumes nothing.
+-- Nodes in order, children before their products; lists that are built node by node: values, mentions. Assumes nothing.
 use mathlib.Core.Path.{_≡_, sym, ap, _∙_}
 use mathlib.Core.List.{List, [], _∷_, _++_}
 use Prim.Native.Nat.{ℕ, zero, suc, _+_, _<_}
@@ -7,7 +7,33 @@ use native.Mathlib.Omega.{arith}
 use lib.ListN.{length, getD, length-append, List·getD-append}
 use lib.Seq.{getD-append-seam}
 use Rattle.model.specs.Program.{Node, identity, letter, product}
-use Rattle.theory.specs.PackedRoots.{ChildrenBefore, Ordered}
+
+-- ---- the order of nodes
+
+-- children stand before
+abbrev pub ChildrenBefore : ℕ → Node → Type 0
+ChildrenBefore n identity = Unit {0}
+ChildrenBefore n (letter q c) = Unit {0}
+ChildrenBefore n (product a p b r) = (a < n) × (b < n)
+
+-- from node n on, children stand before their products
+abbrev pub Ordered : ℕ → List Node → Type 0
+Ordered n [] = Unit {0}
+Ordered n (node ∷ rest) = ChildrenBefore n node × Ordered (suc n) rest
+
+-- in a list whose first node has number n, node k's children stand before it
+ordered-at : (n : ℕ) (nodes : List Node) (k : ℕ) → Ordered n nodes → k < length nodes → ChildrenBefore (k + n) (getD nodes k identity)
+ordered-at n [] k o h = absurd (omega arith)
+ordered-at n (node ∷ rest) zero o h = rw zero-add (o .0)
+ordered-at n (node ∷ rest) (suc k) o h =
+    let e : k + suc n ≡ suc k + n = omega arith in
+    rw e at (ordered-at (suc n) rest k (o .1) (omega arith))
+
+-- a node's children stand before it
+pub children-before : (nodes : List Node) → Ordered 0 nodes → (n : ℕ) → n < length nodes → ChildrenBefore n (getD nodes n identity)
+children-before nodes o n h = let e : n + 0 ≡ n = add-zero n in rw e at (ordered-at 0 nodes n o h)
+
+-- ---- from node to node
 
 -- P holds of a node's children
 abbrev pub OfChildren : (ℕ → Type 0) → Node → Type 0

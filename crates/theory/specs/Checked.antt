@@ -23,7 +23,7 @@ use Rattle.model.specs.Checking.{Lent, andThen, badCount, badOption, badProduct
 use Rattle.model.specs.Checking.{badReference, measured, checkOperation, checkOperations, badRow, checkRow, checkRows, checkProgram, checking}
 use Rattle.theory.specs.Cases.{on-if, neither}
 use Rattle.theory.specs.Every.{Every}
-use Rattle.theory.specs.PackedRoots.{ChildrenBefore, Ordered}
+use Rattle.theory.specs.ByNode.{ChildrenBefore, Ordered}
 
 -- ---- answers
 

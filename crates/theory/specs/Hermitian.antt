@@ -25,7 +25,7 @@ use Rattle.model.specs.Checking.{Lent, checking}
 use Rattle.model.specs.Rewriting.{rewriting}
 use Rattle.theory.specs.Cases.{by-if, on-if, if-false}
 use Rattle.theory.specs.Every.{Every, every-append, every-keep, every-map}
-use Rattle.theory.specs.PackedRoots.{In, children-keep, packed-rooted}
+use Rattle.theory.specs.PackedRoots.{In, children-keep, packed-rooted, slot-refused}
 use Rattle.theory.specs.Checked.{NodeIn, RowIn, Fine, checked-fine}
 use Rattle.theory.specs.Replies.{runOf, limitOf, run-answer}
 use Rattle.theory.specs.Limit.{within-answer, beyond-answer}
@@ -65,10 +65,6 @@ rootsAt-even vs n (r ∷ rs) h =
     on-if (Every (EvenAt (valueAt vs n))) (eqb (r .node) n) (r ∷ keep (λ (x : PauliRef). eqb (x .node) n) rs) _
     (λ e. (subst (λ (i : ℕ). EvenAt (valueAt vs i) r) (eqb-true (r .node) n e) (h .0), rootsAt-even vs n rs (h .1)))
     (λ e. rootsAt-even vs n rs (h .1))
-
-slot-refused : (l : ℕ) (p : Pack) → takeSlot l p .refused ≡ p .refused
-unfolding takeSlot
-slot-refused l p = by-if (λ (q : Pack). q .refused ≡ p .refused) _ _ _ refl refl
 
 module _ (l : ℕ) (rs : List PauliRef) (vs : List Value) (even : Every (EvenRoot vs) rs) where
   packNode-even : (n : ℕ) (node : Node) (p : Pack) → p .refused ≡ false → packNode l rs vs n node p .refused ≡ false

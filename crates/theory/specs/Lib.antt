@@ -15,6 +15,7 @@ pub mod SwapsEnd
 pub mod SegmentAxes
 pub mod Steady
 pub mod TCountAfter
+pub mod ByNode
 pub mod PackedRoots
 pub mod Checked
 pub mod TCountRun
@@ -23,7 +24,6 @@ pub mod Replies
 pub mod Limit
 pub mod AcceptedRun
 pub mod TCountCalls
-pub mod ByNode
 pub mod NodeValue
 pub mod PlainValue
 pub mod Hermitian

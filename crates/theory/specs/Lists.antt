@@ -139,6 +139,13 @@ unfolding numbersFrom
 numbers-length i zero = refl
 numbers-length i (suc n) = ap suc (numbers-length (suc i) n)
 
+-- f k, f (k + 1), .. by their places
+pub map-range : (f : ℕ → ℕ) (i n k : ℕ) → k < n → getD (map f (numbersFrom i n)) k 0 ≡ f (k + i)
+unfolding numbersFrom
+map-range f i zero k h = absurd (omega arith)
+map-range f i (suc n) zero h = ap f (sym (zero-add i))
+map-range f i (suc n) (suc k) h = map-range f (suc i) n k (omega arith) ∙ ap f (let e : k + suc i ≡ suc k + i = omega arith in e)
+
 -- ---- a list's elements by their numbers, from i on
 
 module _ {A : Type 0} (g : ℕ → A) (f : ℕ → Bool) (d : A) where

@@ -1,14 +1,15 @@
 -- Packing stores every root, and refuses by 9 exactly where a root's total phase is odd. Assumes nothing.
 use mathlib.Core.Path.{_≡_, refl, sym, ap, _∙_, subst}
-use mathlib.Core.Logic.{_⊎_, inl, inr, ⊎-elim}
+use mathlib.Core.Logic.{_≢_, _⊎_, inl, inr, ⊎-elim}
 use mathlib.Core.Bool.{Bool, true, false, _||_, true≢false}
 use mathlib.Core.List.{List, [], _∷_, _++_, map}
-use Prim.Native.Nat.{ℕ, zero, suc, _+_, _≤_, _<_}
-use native.Mathlib.Nat.{le-refl, le-trans, zero-add, add-zero}
+use Prim.Native.Nat.{ℕ, zero, suc, _+_, _-_, _≤_, _<_}
+use native.Mathlib.Nat.{le-refl, le-trans, add-zero}
 use native.Mathlib.Omega.{arith}
 use native.Mathlib.Decide.{ℕ-discrete}
 use lib.Dec.{eqb}
 use lib.ListN.{length, getD}
+use lib.Seq.{getD-set-other}
 use borrow.Author.Tests.{eq-eqb, ne-eqb}
 use Rattle.pauli.specs.Word.{width}
 use Rattle.model.specs.Lists.{if_then_else_, keep, numbersFrom, isOdd}
@@ -22,9 +23,11 @@ use Rattle.model.specs.Packing.{packRoots}
 use Rattle.model.specs.Packing.{packNode, packFrom, emptyPack, valuesOf, packed, signedAxis}
 use Rattle.model.specs.Items.{Item}
 use Rattle.model.specs.Run.{itemOf, itemsFrom, startOf}
+use Rattle.theory.specs.ByNode.{ChildrenBefore, Ordered}
 use Rattle.theory.specs.Cases.{by-if, on-if, if-true, if-false}
 use Rattle.theory.specs.Every.{Every}
 use Rattle.theory.specs.Ids.{id-in, Grows, grows-refl, grows-trans, grows-eq, intern-grows, Stored, stored-keeps}
+use Rattle.theory.specs.Lists.{map-range}
 use Rattle.theory.specs.StreamState.{AllIn, InRange}
 
 -- ---- use counts
@@ -50,13 +53,6 @@ countUses-le nodes (suc n) uses k =
     le-trans (by-if (λ (x : List ℕ). getD uses k 0 ≤ getD x k 0) _ _ _ (le-refl _) (countChildren-le (getD nodes n identity) uses k))
     (countUses-le nodes n _ k)
 
--- f k, f (k + 1), .. by their places
-pub map-range : (f : ℕ → ℕ) (i n k : ℕ) → k < n → getD (map f (numbersFrom i n)) k 0 ≡ f (k + i)
-unfolding numbersFrom
-map-range f i zero k h = absurd (omega arith)
-map-range f i (suc n) zero h = ap f (sym (zero-add i))
-map-range f i (suc n) (suc k) h = map-range f (suc i) n k (omega arith) ∙ ap f (let e : k + suc i ≡ suc k + i = omega arith in e)
-
 -- a node is used at least once for each root at it
 pub counts-le : (nodes : List Node) (rs : List PauliRef) (k : ℕ) → k < length nodes → length (rootsAt k rs) ≤ getD (useCounts nodes rs) k 0
 unfolding useCounts
@@ -67,23 +63,9 @@ counts-le nodes rs k h =
 
 -- ---- a node's turn leaves the counts of later nodes
 
-less-other : (uses : List ℕ) (i k : ℕ) → i < k → getD (oneUseLess i uses) k 0 ≡ getD uses k 0
+pub less-other : (uses : List ℕ) (n k : ℕ) → k ≢ n → getD (oneUseLess n uses) k 0 ≡ getD uses k 0
 unfolding oneUseLess
-less-other [] i k h = refl
-less-other (u ∷ uses) i zero h = absurd (omega arith)
-less-other (u ∷ uses) zero (suc k) h = refl
-less-other (u ∷ uses) (suc i) (suc k) h = less-other uses i k (omega arith)
-
--- children stand before
-abbrev pub ChildrenBefore : ℕ → Node → Type 0
-ChildrenBefore n identity = Unit {0}
-ChildrenBefore n (letter q c) = Unit {0}
-ChildrenBefore n (product a p b r) = (a < n) × (b < n)
-
--- from node n on, children stand before their products
-abbrev pub Ordered : ℕ → List Node → Type 0
-Ordered n [] = Unit {0}
-Ordered n (node ∷ rest) = ChildrenBefore n node × Ordered (suc n) rest
+less-other uses n k h = getD-set-other uses n k (getD uses n 0 - 1) 0 h
 
 abbrev Later : ℕ → Pack → Pack → Type 0
 Later n p q = (k : ℕ) → n < k → getD (q .uses) k 0 ≡ getD (p .uses) k 0
@@ -92,7 +74,7 @@ useChildren-later : (n : ℕ) (node : Node) (p : Pack) → ChildrenBefore n node
 unfolding useChildren useNode
 useChildren-later n identity p h k b = refl
 useChildren-later n (letter q c) p h k b = refl
-useChildren-later n (product a u c v) p h k b = less-other (oneUseLess a (p .uses)) c k (omega arith) ∙ less-other (p .uses) a k (omega arith)
+useChildren-later n (product a u c v) p h k b = less-other (oneUseLess a (p .uses)) c k (λ e. omega arith) ∙ less-other (p .uses) a k (λ e. omega arith)
 
 takeSlot-later : (n l : ℕ) (p : Pack) → Later n p (takeSlot l p)
 unfolding takeSlot
@@ -100,7 +82,7 @@ takeSlot-later n l p k b = by-if (λ (q : Pack). getD (q .uses) k 0 ≡ getD (p 
 
 packRoot-later : (l n : ℕ) (v : Value) (p : Pack) (r : PauliRef) → Later n p (packRoot l n v p r)
 unfolding packRoot useNode
-packRoot-later l n v p r k b = by-if (λ (q : Pack). getD (q .uses) k 0 ≡ getD (p .uses) k 0) _ _ _ refl (less-other (p .uses) n k b)
+packRoot-later l n v p r k b = by-if (λ (q : Pack). getD (q .uses) k 0 ≡ getD (p .uses) k 0) _ _ _ refl (less-other (p .uses) n k (λ e. omega arith))
 
 packRoots-later : (l n : ℕ) (v : Value) (p : Pack) (rs : List PauliRef) → Later n p (packRoots l n v p rs)
 unfolding packRoots
@@ -210,6 +192,11 @@ children-keep identity k = (refl, (refl, refl))
 children-keep (letter q c) k = (refl, (refl, refl))
 children-keep (product a u b v) k = (refl, (refl, refl))
 
+-- nor does taking a slot refuse
+pub slot-refused : (l : ℕ) (p : Pack) → takeSlot l p .refused ≡ p .refused
+unfolding takeSlot
+slot-refused l p = by-if (λ (q : Pack). q .refused ≡ p .refused) _ _ _ refl refl
+
 packNode-stays : (l : ℕ) (rs : List PauliRef) (vs : List Value) (n : ℕ) (node : Node) (p : Pack) → packNode l rs vs n node p .refused ≡ false
     → p .refused ≡ false
 unfolding packNode
@@ -218,10 +205,7 @@ packNode-stays l rs vs n node p =
     (λ h. same (packRoots-stays l n _ (takeSlot l (useChildren node p)) _ h))
   where
     same : takeSlot l (useChildren node p) .refused ≡ false → p .refused ≡ false
-    same h = sym (children-keep node p .1 .1) ∙ sym slot ∙ h
-      where
-        slot : takeSlot l (useChildren node p) .refused ≡ useChildren node p .refused
-        slot = unfold takeSlot in (by-if (λ (q : Pack). q .refused ≡ useChildren node p .refused) _ _ _ refl refl)
+    same h = sym (children-keep node p .1 .1) ∙ sym (slot-refused l (useChildren node p)) ∙ h
 
 packFrom-stays : (l : ℕ) (rs : List PauliRef) (vs : List Value) (n : ℕ) (nodes : List Node) (p : Pack)
     → packFrom l rs vs n nodes p .refused ≡ false

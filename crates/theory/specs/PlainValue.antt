@@ -1,8 +1,7 @@
 -- A node's value by plain recursion on its children is the value that packing finds for it. Assumes nothing.
 use mathlib.Core.Path.{_≡_, refl, sym, _∙_}
-use mathlib.Core.List.{List, [], _∷_}
-use Prim.Native.Nat.{ℕ, zero, suc, _+_, _<_}
-use native.Mathlib.Nat.{zero-add, add-zero}
+use mathlib.Core.List.{List, []}
+use Prim.Native.Nat.{ℕ, zero, suc, _<_}
 use native.Mathlib.Omega.{arith}
 use lib.ListN.{length, getD}
 use Rattle.pauli.specs.Word.{width}
@@ -13,31 +12,18 @@ use Rattle.model.specs.Words.{Value, asValue}
 use Rattle.model.specs.Value.{nodeValue, valueAt, valuesFrom, values, plainValueWithin, plainValue}
 use Rattle.model.specs.Packing.{valuesOf}
 use Rattle.model.specs.Checking.{Lent, checking}
-use Rattle.theory.specs.PackedRoots.{ChildrenBefore, Ordered}
-use Rattle.theory.specs.ByNode.{children-of, all-own}
+use Rattle.theory.specs.ByNode.{Ordered, children-before, children-of, all-own}
 use Rattle.theory.specs.Checked.{nodes-length, checked-fine}
 use Rattle.theory.specs.NodeValue.{nodeValue-same}
 
--- in a list whose first node has number n, node k's children stand before it
-ordered-at : (n : ℕ) (nodes : List Node) (k : ℕ) → Ordered n nodes → k < length nodes → ChildrenBefore (k + n) (getD nodes k identity)
-ordered-at n [] k o h = absurd (omega arith)
-ordered-at n (node ∷ rest) zero o h = rw zero-add (o .0)
-ordered-at n (node ∷ rest) (suc k) o h =
-    let e : k + suc n ≡ suc k + n = omega arith in
-    rw e at (ordered-at (suc n) rest k (o .1) (omega arith))
-
--- a node's children stand before it
-pub children-before : (nodes : List Node) → Ordered 0 nodes → (n : ℕ) → n < length nodes → ChildrenBefore n (getD nodes n identity)
-children-before nodes o n h = let e : n + 0 ≡ n = add-zero n in rw e at (ordered-at 0 nodes n o h)
-
 module _ (l : ℕ) (nodes : List Node) (o : Ordered 0 nodes) where
-  abbrev pub vs : List Value
+  abbrev vs : List Value
   vs = values l nodes
 
   -- a node's value is worked out from those of its children
-  pub own : (n : ℕ) → n < length nodes → valueAt vs n ≡ nodeValue l (valueAt vs) (getD nodes n identity)
+  pub values-own : (n : ℕ) → n < length nodes → valueAt vs n ≡ nodeValue l (valueAt vs) (getD nodes n identity)
   unfolding values valuesFrom
-  own n h = all-own (asValue []) (nodeValue l) (valuesFrom l) (λ before. refl) (λ before node rest. refl) (nodeValue-same l) nodes o n h
+  values-own n h = all-own (asValue []) (nodeValue l) (valuesFrom l) (λ before. refl) (λ before node rest. refl) (nodeValue-same l) nodes o n h
 
   within-levels : (levels n : ℕ) → n < levels → n < length nodes → plainValueWithin levels l nodes n ≡ valueAt vs n
   unfolding plainValueWithin
@@ -45,7 +31,7 @@ module _ (l : ℕ) (nodes : List Node) (o : Ordered 0 nodes) where
   within-levels (suc levels) n h b =
       nodeValue-same l (λ child. plainValueWithin levels l nodes child) (valueAt vs) (getD nodes n identity)
       (children-of n (getD nodes n identity) (children-before nodes o n b) (λ i c. within-levels levels i (omega arith) (omega arith)))
-      ∙ sym (own n b)
+      ∙ sym (values-own n b)
 
   -- the plain value of a node is the value in packing's list
   pub plain-value : (n : ℕ) → n < length nodes → plainValue l nodes n ≡ valueAt vs n
