@@ -1,10 +1,11 @@
 -- The rows of the number store by name, as in src/lib.rt. Assumes nothing.
 use mathlib.Core.Path.{_≡_, ap, _∙_}
+use mathlib.Core.Logic.{_≢_}
 use mathlib.Core.List.{List}
 use Prim.Native.Nat.{ℕ, _*_, _≤_, _<_}
 use native.Mathlib.Omega.{arith}
 use lib.ListN.{length, getD, set, take, drop, replicate, length-replicate}
-use lib.Seq.{length-take-le, getD-take, take-take}
+use lib.Seq.{length-take-le, getD-take, getD-set-same, getD-set-other, take-take}
 use Rattle.store.specs.Part.{part, put, part-put-same}
 use Rattle.model.specs.Program.{minusOne}
 use Rattle.store.specs.Row.{row, Written, row-length, row-set, row-in}
@@ -74,7 +75,17 @@ module _ (s : List ℕ) (u r n : ℕ) (long : rowCount * u ≤ length s) (l : r 
       ∙ take-take n u (drop (r * u) (put s (r * u) (replicate n 0))) h
       ∙ part-put-same s (r * u) n (replicate n 0) (omega arith) k
 
--- an entry is written: the row
+-- ---- an entry of row r is written
+
+-- the row
 pub written-row : {s t : List ℕ} {u r i v : ℕ} → rowCount * u ≤ length s → r < rowCount → i < u → Written s u r i v t
     → row t u r ≡ set (row s u r) i v
 written-row {s} {t} {u} {r} {i} {v} h l k w = ap (λ (x : List ℕ). row x u r) (w .store) ∙ row-set s u rowCount r i v h l k
+
+-- its entries
+module _ (xs : List ℕ) (u r j v : ℕ) {q : List ℕ} (e : q ≡ set (row xs u r) j v) where
+  pub entry-own : rowCount * u ≤ length xs → r < rowCount → j < u → getD q j 0 ≡ v
+  entry-own long h b = ap (λ (y : List ℕ). getD y j 0) e ∙ getD-set-same (row xs u r) j v 0 (omega (arith, row-length xs u rowCount r long h))
+
+  pub entry-other : (i : ℕ) → i ≢ j → getD q i 0 ≡ getD (row xs u r) i 0
+  entry-other i n = ap (λ (y : List ℕ). getD y i 0) e ∙ getD-set-other (row xs u r) j i v 0 n

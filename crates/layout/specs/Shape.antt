@@ -44,7 +44,6 @@ pub record Sized (z : Shape) : Type 0 where
   pub nodes : z .nodes ≤ 65535
   pub operations : z .operations ≤ 65535
   pub limit : z .limit ≤ 1048576
-  pub some : 0 < z .l
   pub few : z .l ≤ 64
   -- the qubits have their bits
   pub bits : z .qubits ≤ 64 * z .l
@@ -85,7 +84,6 @@ sized c limit h k =
       nodes = b .nodes;
       operations = b .operations;
       limit = k;
-      some = b .some;
       few = b .few;
       bits = width-holds (c .qubits);
       l-is = refl;

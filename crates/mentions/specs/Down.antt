@@ -11,7 +11,7 @@ use Rattle.model.specs.Lists.{allOf, anyOf, member}
 use Rattle.model.specs.Program.{Node, identity, letter, product}
 use Rattle.model.specs.Value.{nodeMentions, mentionsAt, mentions}
 use Rattle.theory.specs.Lists.{any-append}
-use Rattle.theory.specs.PackedRoots.{ChildrenBefore, Ordered}
+use Rattle.theory.specs.ByNode.{ChildrenBefore, Ordered}
 use Rattle.theory.specs.Checked.{LeafIn}
 use Rattle.records.specs.declared.NodeRecord.{NodeRecord}
 use Rattle.records.specs.Records.{nodeRecord, said-identity, said-letter, said-product}

@@ -10,8 +10,7 @@ use Rattle.model.specs.Program.{Node, identity, letter, product}
 use Rattle.model.specs.Value.{nodeMentions, mentionsAt, mentionsFrom, mentions}
 use Rattle.theory.specs.Lists.{any-append}
 use Rattle.theory.specs.Every.{Every, every-append, every-one}
-use Rattle.theory.specs.PackedRoots.{Ordered}
-use Rattle.theory.specs.ByNode.{OfChildren, all-own}
+use Rattle.theory.specs.ByNode.{Ordered, OfChildren, all-own}
 use Rattle.theory.specs.Checked.{LeafIn}
 
 -- ---- tests of lists

@@ -43,7 +43,7 @@ module _ {ns : List ℕ} {u n : ℕ} {xs : List ℕ} (h : NodePre ns u n xs) (x 
   product-inside = rw here (h .node .children)
 
   pub children-inside : (x .kind ≡ 0 → ⊥) → (x .kind ≡ 1 → ⊥) → (x .a < u) × (x .b < u)
-  children-inside i k = product-inside (product-kind (x .kind) .0 (i, k))
+  children-inside i k = product-inside (product-kind (x .kind) (i, k))
 
 -- what it says is the node
 pub said-here : (ns : List ℕ) (n : ℕ) (x : NodeRecord) → x ≡ nodeRecord ns n → (node : Node) → nodeSaid x ≡ node → nodeHere ns n ≡ node

@@ -1,7 +1,7 @@
 -- relevance: what its calls demand, and what they leave together. Assumes nothing.
 use mathlib.Core.Path.{_≡_, refl, sym, ap, ap₂, _∙_}
 use mathlib.Core.Bool.{Bool, false, _&&_, _||_}
-use mathlib.Core.List.{List, [], _∷_}
+use mathlib.Core.List.{List}
 use Prim.Native.Nat.{ℕ, _*_, _≤_, _<_}
 use native.Mathlib.Omega.{arith}
 use lib.ListN.{length, getD, replicate}
@@ -20,7 +20,7 @@ use Rattle.layout.specs.Only.{Only, only-of, only-then}
 use Rattle.records.specs.Nodes.{nodesIn}
 use Rattle.records.specs.Records.{operationSaid, operation-said}
 use Rattle.records.specs.Given.{programIn}
-use Rattle.layout.specs.Cleared.{cleared-only, cleared-at}
+use Rattle.layout.specs.Cleared.{both-only, both-first, both-second}
 use Rattle.packing_states.specs.InMemory.{operations-count, operation-reference, reference-node, given-whole}
 use Rattle.packing_states.specs.NodeRows.{given-rows}
 use Rattle.mentions.specs.Marks.{isSet, set-zero, someBelow, some-same, some-none, some-any, someMarked}
@@ -124,35 +124,34 @@ module _ {z : Shape} {ns os s : List ℕ} (h : RelevancePre z ns os s) where
 
 module _ {z : Shape} {ns os s a t : List ℕ} (h : RelevancePre z ns os s) (marks : a ≡ put s (mark * z .u) (replicate (z .nodes) 0))
     (acts : t ≡ put a (acted * z .u) (replicate (z .qubits) 0)) where
-  first : Only (mark ∷ []) (z .u) s a
-  first = cleared-only s (z .u) mark (z .nodes) (h .numbers-long) (omega arith) (nodes-fit h) marks
-
-  first-long : rowCount * z .u ≤ length a
-  first-long = let l = first .long in let k = h .numbers-long in omega arith
-
-  second : Only (acted ∷ []) (z .u) a t
-  second = cleared-only a (z .u) acted (z .qubits) first-long (omega arith) (qubits-fit h) acts
+  both : Only relevanceRows (z .u) s t
+  unfolding member anyOf allOf
+  both =
+      both-only s (z .u) mark (z .nodes) acted (z .qubits) (h .numbers-long) (omega arith) (omega arith) (nodes-fit h) (qubits-fit h) refl
+      marks acts relevanceRows refl refl
 
   pub both-long : length t ≡ length s
-  both-long = second .long ∙ first .long
+  both-long = both .long
 
   unmarked : (m : ℕ) → m < z .nodes → getD (row t (z .u) mark) m 0 ≡ 0
   unfolding member anyOf
-  unmarked m b =
-      ap (λ (xs : List ℕ). getD xs m 0) (second .rows mark (omega arith) refl)
-      ∙ cleared-at s (z .u) mark (z .nodes) (h .numbers-long) (omega arith) (nodes-fit h) marks m b
+  unmarked =
+      both-first s (z .u) mark (z .nodes) acted (z .qubits) (h .numbers-long) (omega arith) (omega arith) (nodes-fit h) (qubits-fit h) refl
+      marks acts
 
   clear : (i : ℕ) → i < z .qubits → getD (row t (z .u) acted) i 0 ≡ 0
-  clear i b = cleared-at a (z .u) acted (z .qubits) first-long (omega arith) (qubits-fit h) acts i b
+  unfolding member anyOf
+  clear =
+      both-second s (z .u) mark (z .nodes) acted (z .qubits) (h .numbers-long) (omega arith) (omega arith) (nodes-fit h) (qubits-fit h) refl
+      marks acts
 
   module _ {v w x : List ℕ} (ops : MarkedOperations os (z .u) (z .operations) t v) (down : MarkedDown ns (z .u) (z .nodes) v w)
       (last : RelevantNodes ns (z .u) (z .nodes) (z .nodes) w x) where
     all-only : Only relevanceRows (z .u) s x
     unfolding allOf member anyOf
     all-only =
-        only-then (only-of relevanceRows refl first) (only-then (only-of relevanceRows refl second)
-        (only-then (only-of relevanceRows refl (ops .only)) (only-then (only-of relevanceRows refl (down .only))
-        (only-of relevanceRows refl (last .only)))))
+        only-then both (only-then (only-of relevanceRows refl (ops .only)) (only-then (only-of relevanceRows refl (down .only))
+        (only-of relevanceRows refl (last .only))))
 
     same : (rs : List ℕ) (n : ℕ) → mentionsActed (nodesIn (z .nodes) ns) (row w (z .u) acted) n ≡ relevant (programIn z ns os rs) n
     unfolding mentionsActed relevant programIn programOf nodesIn

@@ -7,17 +7,16 @@ use native.Mathlib.Omega.{arith}
 use native.Mathlib.Decide.{ℕ-discrete}
 use lib.Dec.{eqb}
 use lib.ListN.{length, getD, set}
-use lib.Seq.{getD-set-same, getD-set-other}
-use Rattle.store.specs.Row.{row, row-length, Written}
+use Rattle.store.specs.Row.{row, Written}
 use Rattle.model.specs.Lists.{if_then_else_, anyOf, member}
 use Rattle.model.specs.Program.{Node, identity, letter, product}
 use Rattle.model.specs.Value.{nodeMentions, mentionsAt, mentions}
 use Rattle.theory.specs.Lists.{any-append}
-use Rattle.theory.specs.PackedRoots.{ChildrenBefore, Ordered}
+use Rattle.theory.specs.ByNode.{ChildrenBefore, Ordered}
 use Rattle.records.specs.declared.NodeRecord.{NodeRecord}
 use Rattle.records.specs.Records.{nodeRecord, said-identity, said-letter, said-product}
 use Rattle.records.specs.Nodes.{nodesIn, nodeHere, nodes-count, node-here}
-use Rattle.layout.specs.Rows.{rowCount, acted, relevantRow, written-row}
+use Rattle.layout.specs.Rows.{rowCount, acted, relevantRow, written-row, entry-own, entry-other}
 use Rattle.layout.specs.Only.{Only, only-none, only-then, only-written}
 use Rattle.packing_states.specs.NodeRows.{children-here}
 use Rattle.mentions.specs.Marks.{isSet, set-zero, set-nonzero}
@@ -127,10 +126,8 @@ relevant-next {ns} {u} {count} {n} {s} {t} {w} h l r b e v bit y =
 
     go : (m : ℕ) → m < n + 1 → Dec (m ≡ n) → getD (row w u relevantRow) m 0 ≡ (if mentionsActed (nodesIn count ns) (row s u acted) m then 1 else 0)
     go m k (yes i) =
-        rw (changed, i) (getD-set-same (row t u relevantRow) n v 0 (omega (arith, row-length t u rowCount relevantRow long (omega arith)))
-        ∙ bit ∙ ap (λ (x : Bool). if x then 1 else 0) truth)
-    go m k (no i) =
-        rw changed (getD-set-other (row t u relevantRow) n m v 0 i ∙ r .tells m (omega arith))
+        rw i (entry-own t u relevantRow n v changed long (omega arith) inside ∙ bit ∙ ap (λ (x : Bool). if x then 1 else 0) truth)
+    go m k (no i) = entry-other t u relevantRow n v changed m i ∙ r .tells m (omega arith)
 
 pub relevant-all : {ns : List ℕ} {u count n : ℕ} {s t : List ℕ} → count ≡ n → RelevantNodes ns u count n s t → RelevantNodes ns u count count s t
 relevant-all e r = rw (sym e) at r

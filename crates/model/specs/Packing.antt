@@ -1,5 +1,4 @@
--- 01, "words.rs", `pack`: use counts, slots, ids, signs, tested sums. Which slot is reused cannot be seen, only how many there are. Assumes
--- nothing.
+-- 01, "words.rs", `pack`: use counts, slots, ids, signs, tested sums. How many slots there are is seen, not which is reused. Assumes nothing.
 use mathlib.Core.Bool.{Bool, true, false, _||_}
 use mathlib.Core.List.{List, [], _∷_, map}
 use Prim.Native.Nat.{ℕ, zero, suc, _+_, _-_, _*_, _%_}

@@ -9,7 +9,7 @@ use Rattle.model.specs.Words.{Value, multiply}
 use Rattle.model.specs.Value.{nodeValue}
 use Rattle.theory.specs.Every.{every-at}
 use Rattle.theory.specs.Checked.{LeafIn, Fine}
-use Rattle.theory.specs.PlainValue.{own}
+use Rattle.theory.specs.PlainValue.{values-own}
 use Rattle.packing_states.specs.States.{nodeAt, valueOf}
 
 -- a node's value has a phase of 0 to 3
@@ -25,7 +25,7 @@ module _ (p : Program) (fine : Fine p) (n : ℕ) (b : n < length (p .nodes)) whe
   -- a node's value is worked out from the values of its children
   pub value-own : valueOf p n ≡ nodeValue (width (p .qubits)) (valueOf p) (nodeAt p n)
   unfolding valueOf nodeAt
-  value-own = own (width (p .qubits)) (p .nodes) (fine .ordered) n b
+  value-own = values-own (width (p .qubits)) (p .nodes) (fine .ordered) n b
 
   -- its phase is 0 to 3
   pub value-turns : valueOf p n .turns < 4

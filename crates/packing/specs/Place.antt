@@ -14,11 +14,10 @@ use Rattle.model.specs.Program.{Node, product, Program}
 use Rattle.model.specs.Words.{Value, Store}
 use Rattle.model.specs.Value.{nodeValue}
 use Rattle.model.specs.Packing.{oneUseLess, Pack, useNode, useChildren, takeSlot}
-use Rattle.theory.specs.ByNode.{OfChildren}
+use Rattle.theory.specs.ByNode.{OfChildren, children-before}
 use Rattle.theory.specs.Checked.{Fine}
 use Rattle.theory.specs.NodeValue.{nodeValue-same, nodeValue-length}
 use Rattle.theory.specs.PackedRoots.{children-keep}
-use Rattle.theory.specs.PlainValue.{children-before}
 use Rattle.axes.specs.View.{axesOf, axes-length, axes-apart}
 use Rattle.layout.specs.declared.Shape.{Shape}
 use Rattle.layout.specs.Rows.{rowCount, usesRow, firstRoot, nextRoot, nodeSlot, nodePhase, freeRow, rootAxis, rootSign, entries}

@@ -1,17 +1,15 @@
 -- A node's plain value is of the program's width. Assumes nothing.
 use mathlib.Core.Path.{_≡_}
 use mathlib.Core.List.{List}
-use Prim.Native.Nat.{ℕ, zero, suc, _+_, _*_, _<_, _≤_}
+use Prim.Native.Nat.{ℕ, zero, suc, _*_, _<_, _≤_}
 use native.Mathlib.Omega.{arith}
 use lib.ListN.{length, getD}
 use Rattle.model.specs.Program.{Node, identity}
 use Rattle.model.specs.Value.{plainValueWithin, plainValue}
 use Rattle.theory.specs.Every.{Every, every-at}
-use Rattle.theory.specs.PackedRoots.{Ordered}
-use Rattle.theory.specs.ByNode.{children-of}
+use Rattle.theory.specs.ByNode.{Ordered, children-of, children-before}
 use Rattle.theory.specs.Checked.{LeafIn}
 use Rattle.theory.specs.NodeValue.{nodeValue-length}
-use Rattle.theory.specs.PlainValue.{children-before}
 
 module _ (l : ℕ) (nodes : List Node) (o : Ordered 0 nodes) (q : ℕ) (wide : q ≤ 64 * l) (leaves : Every (LeafIn q) nodes) where
   levels-length : (levels n : ℕ) → n < levels → n < length nodes → length (plainValueWithin levels l nodes n .word) ≡ 2 * l

@@ -6,22 +6,17 @@ use native.Mathlib.Nat.{le-refl}
 use native.Mathlib.Omega.{arith}
 use lib.Dec.{eqb}
 use lib.ListN.{length, getD, length-set, length-map}
-use lib.Seq.{getD-set-other}
+use lib.Seq.{getD-set-same, getD-set-other}
 use borrow.Author.Tests.{eqb-true, eqb-false}
 use Rattle.model.specs.Lists.{if_then_else_, numbersFrom}
 use Rattle.model.specs.Program.{Node, identity, letter, product, PauliRef}
 use Rattle.model.specs.Packing.{rootsAt, oneUseMore, oneUseLess, countChildren, Pack, useNode, useChildren}
-use Rattle.theory.specs.Lists.{numbers-length}
+use Rattle.theory.specs.Lists.{numbers-length, map-range}
 use Rattle.theory.specs.Cases.{by-if, on-if}
-use Rattle.theory.specs.PackedRoots.{map-range, ChildrenBefore}
+use Rattle.theory.specs.ByNode.{ChildrenBefore}
+use Rattle.theory.specs.PackedRoots.{less-other}
 
 -- ---- one entry more or less
-
-more-same : (uses : List ℕ) (n : ℕ) → n < length uses → getD (oneUseMore n uses) n 0 ≡ suc (getD uses n 0)
-unfolding oneUseMore
-more-same [] n h = absurd (omega arith)
-more-same (u ∷ uses) zero h = refl
-more-same (u ∷ uses) (suc n) h = more-same uses n (omega arith)
 
 -- a node's own entry
 pub less-same : (uses : List ℕ) (n : ℕ) → getD (oneUseLess n uses) n 0 ≡ getD uses n 0 - 1
@@ -30,17 +25,12 @@ less-same [] n = refl
 less-same (u ∷ uses) zero = refl
 less-same (u ∷ uses) (suc n) = less-same uses n
 
--- the other entries
-pub less-other : (uses : List ℕ) (n c : ℕ) → (c ≡ n → ⊥) → getD (oneUseLess n uses) c 0 ≡ getD uses c 0
-unfolding oneUseLess
-less-other uses n c ne = getD-set-other uses n c (getD uses n 0 - 1) 0 ne
-
 -- the entry at place c after one use more of node a
 pub more-at : (uses : List ℕ) (a c : ℕ) → c < length uses → getD (oneUseMore a uses) c 0 ≡ getD uses c 0 + (if eqb a c then 1 else 0)
 unfolding oneUseMore
 more-at uses a c h =
     on-if (λ (x : ℕ). getD (oneUseMore a uses) c 0 ≡ getD uses c 0 + x) (eqb a c) 1 0
-    (λ e. rw (eqb-true a c e) (omega (arith, more-same uses c h)))
+    (λ e. rw (eqb-true a c e) (omega (arith, getD-set-same uses c (suc (getD uses c 0)) 0 h)))
     (λ e. omega (arith, getD-set-other uses a c (suc (getD uses a 0)) 0 (λ z. eqb-false a c e (sym z))))
 
 -- the same after one use less
@@ -116,11 +106,9 @@ abbrev pub countNode : ℕ → Node → List ℕ → List ℕ
 countNode n node uses = if eqb (getD uses n 0) 0 then uses else countChildren node uses
 
 -- it adds at most 2 to an entry
-pub countUses-bound : (node : Node) (uses : List ℕ) (n bound : ℕ) → ((m : ℕ) → getD uses m 0 ≤ bound)
-    → (m : ℕ) → getD (countNode n node uses) m 0 ≤ bound + 2
-countUses-bound node uses n bound h m =
-    by-if (λ (x : List ℕ). getD x m 0 ≤ bound + 2) _ uses (countChildren node uses) (omega (arith, h m))
-    (omega (arith, h m, counted-most node uses m))
+pub countNode-most : (n : ℕ) (node : Node) (uses : List ℕ) (m : ℕ) → getD (countNode n node uses) m 0 ≤ getD uses m 0 + 2
+countNode-most n node uses m =
+    by-if (λ (x : List ℕ). getD x m 0 ≤ getD uses m 0 + 2) _ uses (countChildren node uses) (omega arith) (counted-most node uses m)
 
 -- before the count: how many roots each node has
 abbrev pub rootCounts : List PauliRef → ℕ → List ℕ

@@ -3,8 +3,7 @@ use mathlib.Core.Path.{_≡_, refl, ap, _∙_}
 use mathlib.Core.List.{List, map, _++_}
 use Prim.Native.Nat.{ℕ, _+_, _*_, _<_}
 use native.Mathlib.Omega.{arith}
-use lib.ListN.{length, length-map, List·getD-append, List·getD-map}
-use lib.Seq.{getD-append-add}
+use lib.ListN.{length, List·getD-map}
 use Rattle.model.specs.Program.{operationOf, rowOf, Program, programOf}
 use Rattle.model.specs.Roots.{operationRoot}
 use Rattle.model.specs.Results.{noOperation}
@@ -15,7 +14,7 @@ use Rattle.records.specs.Records.{operationRecord, rowRecord, operationSaid, ro
 use Rattle.records.specs.Nodes.{nodeHere, nodes-count, node-here}
 use Rattle.records.specs.Given.{programIn, nodes-in, Given}
 use Rattle.packing_states.specs.References.{references, noReference, referenceAt, total}
-use Rattle.packing_states.specs.ReferenceLaws.{total-sum}
+use Rattle.packing_states.specs.ReferenceLaws.{total-sum, operation-at, row-behind}
 use Rattle.packing_states.specs.States.{nodeAt}
 
 module _ (z : Shape) (ns os rs : List ℕ) where
@@ -29,9 +28,6 @@ module _ (z : Shape) (ns os rs : List ℕ) where
   unfolding programIn programOf
   rows-count = records-length rowOf 4 (2 * z .qubits) rs
 
-  roots-count : length (map operationRoot (programIn z ns os rs .operations)) ≡ z .operations
-  roots-count = length-map (programIn z ns os rs .operations) operationRoot ∙ operations-count
-
   pub total-is : total (programIn z ns os rs) ≡ z .operations + 2 * z .qubits
   total-is = omega (arith, total-sum (programIn z ns os rs), operations-count, rows-count)
 
@@ -44,22 +40,20 @@ module _ (z : Shape) (ns os rs : List ℕ) where
   -- operation j is reference j
   pub operation-reference : (j : ℕ) → j < z .operations
       → referenceAt (programIn z ns os rs) j ≡ record { node = operationRecord os j .node; phase = operationRecord os j .phase }
-  unfolding referenceAt references programIn programOf noOperation operationRoot operationSaid
+  unfolding programIn programOf noOperation operationRoot operationSaid
   operation-reference j h =
-      let ops = programIn z ns os rs .operations in
-      List·getD-append (map operationRoot ops) (programIn z ns os rs .rows) (operationRoot noOperation) j (omega (arith, roots-count))
-      ∙ List·getD-map operationRoot ops j noOperation
+      let p = programIn z ns os rs in
+      operation-at p j (omega (arith, operations-count)) ∙ List·getD-map operationRoot (p .operations) j noOperation
       ∙ ap operationRoot (operation-said (z .operations) os j h)
 
   -- frame row r is reference operations + r
   pub row-reference : (r : ℕ) → r < 2 * z .qubits
       → referenceAt (programIn z ns os rs) (z .operations + r) ≡ record { node = rowRecord rs r .node; phase = rowRecord rs r .phase }
-  unfolding referenceAt references programIn programOf rowSaid
+  unfolding programIn programOf rowSaid
   row-reference r h =
       let p = programIn z ns os rs in
-      let e : z .operations + r ≡ length (map operationRoot (p .operations)) + r = omega (arith, roots-count) in
-      rw e (getD-append-add (map operationRoot (p .operations)) (p .rows) r noReference
-      ∙ row-said (2 * z .qubits) rs r h)
+      let e : z .operations + r ≡ length (p .operations) + r = omega (arith, operations-count) in
+      rw e (row-behind p r ∙ row-said (2 * z .qubits) rs r h)
 
 -- a fine program's references are to its nodes
 pub reference-node : (p : Program) → Fine p → (j : ℕ) → j < total p → referenceAt p j .node < length (p .nodes)

@@ -10,7 +10,8 @@ use borrow.Author.Tests.{eqb-true, eqb-false, eq-eqb, ne-eqb}
 use Rattle.model.specs.Lists.{if_then_else_}
 use Rattle.model.specs.Packing.{oneUseLess, Pack, useNode}
 use Rattle.theory.specs.Cases.{on-if, if-true, if-false}
-use Rattle.packing_states.specs.Counts.{less-same, less-other}
+use Rattle.theory.specs.PackedRoots.{less-other}
+use Rattle.packing_states.specs.Counts.{less-same}
 
 -- how many of the nodes below b are still to be used
 unfoldable pub usedBelow : ℕ → List ℕ → ℕ

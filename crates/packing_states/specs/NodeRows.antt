@@ -8,8 +8,7 @@ use Rattle.store.specs.Row.{row}
 use Rattle.model.specs.Lists.{if_then_else_}
 use Rattle.model.specs.Program.{Program}
 use Rattle.model.specs.Roots.{relevant}
-use Rattle.theory.specs.PackedRoots.{ChildrenBefore, Ordered}
-use Rattle.theory.specs.PlainValue.{children-before}
+use Rattle.theory.specs.ByNode.{ChildrenBefore, Ordered, children-before}
 use Rattle.layout.specs.declared.Shape.{Shape}
 use Rattle.layout.specs.Rows.{rowCount, relevantRow}
 use Rattle.layout.specs.Shape.{Sized}

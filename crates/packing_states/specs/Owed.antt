@@ -12,8 +12,7 @@ use Rattle.model.specs.Lists.{if_then_else_}
 use Rattle.model.specs.Program.{Node, identity, PauliRef}
 use Rattle.model.specs.Packing.{rootsAt, countChildren, countUses, useCounts}
 use Rattle.theory.specs.Cases.{on-if, if-true, if-false}
-use Rattle.theory.specs.PackedRoots.{Ordered}
-use Rattle.theory.specs.PlainValue.{children-before}
+use Rattle.theory.specs.ByNode.{Ordered, children-before}
 use Rattle.packing_states.specs.Counts.{edges, edges-later, counted-at, counted-length, countNode}
 use Rattle.packing_states.specs.Counts.{rootCounts, rootCounts-at, rootCounts-length}
 

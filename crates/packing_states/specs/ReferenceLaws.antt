@@ -32,20 +32,29 @@ module _ (p : Program) where
   unfolding total references
   total-sum = omega (arith, length-append operationRoots (p .rows), operationRoots-length)
 
-  -- operation k is reference k, and a root
-  pub operation-kept : (k : ℕ) → k < length operationRoots
-      → (isRootAt p (k + 0) ≡ true) × (referenceAt p (k + 0) ≡ getD operationRoots k noReference)
-  unfolding isRootAt referenceAt references
-  operation-kept k h =
-      let test = lt-ltb k (length (p .operations)) (omega (arith, operationRoots-length)) in
-      rw (add-zero k) (rw test refl, List·getD-append operationRoots (p .rows) noReference k h)
+  -- operation k is reference k
+  pub operation-at : (k : ℕ) → k < length (p .operations) → referenceAt p k ≡ getD operationRoots k noReference
+  unfolding referenceAt references
+  operation-at k h = List·getD-append operationRoots (p .rows) noReference k (omega (arith, operationRoots-length))
 
   -- frame row k stands behind the operations
-  pub row-at : (k : ℕ) → referenceAt p (k + (length operationRoots + 0)) ≡ getD (p .rows) k noReference
+  pub row-behind : (k : ℕ) → referenceAt p (length (p .operations) + k) ≡ getD (p .rows) k noReference
   unfolding referenceAt references
+  row-behind k = rw (sym operationRoots-length) (getD-append-add operationRoots (p .rows) k noReference)
+
+  -- where they are counted from 0 on: an operation is a root
+  pub operation-kept : (k : ℕ) → k < length operationRoots
+      → (isRootAt p (k + 0) ≡ true) × (referenceAt p (k + 0) ≡ getD operationRoots k noReference)
+  unfolding isRootAt
+  operation-kept k h =
+      let in-all : k < length (p .operations) = omega (arith, operationRoots-length) in
+      rw (add-zero k) (rw (lt-ltb k (length (p .operations)) in-all) refl, operation-at k in-all)
+
+  -- a frame row stands behind them
+  pub row-at : (k : ℕ) → referenceAt p (k + (length operationRoots + 0)) ≡ getD (p .rows) k noReference
   row-at k =
-      let e : k + (length operationRoots + 0) ≡ length operationRoots + k = omega arith in
-      rw e (getD-append-add operationRoots (p .rows) k noReference)
+      let e : k + (length operationRoots + 0) ≡ length (p .operations) + k = omega (arith, operationRoots-length) in
+      rw e (row-behind k)
 
   -- and is a root where the model keeps it
   pub row-kept : (k : ℕ) → isRootAt p (k + (length operationRoots + 0)) ≡ isRoot p (getD (p .rows) k noReference)

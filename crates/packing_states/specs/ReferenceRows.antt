@@ -5,22 +5,10 @@ use mathlib.Core.List.{List, [], _∷_}
 use Prim.Native.Nat.{ℕ, _*_, _≤_, _<_}
 use native.Mathlib.Omega.{arith}
 use lib.ListN.{length, getD, set}
-use lib.Seq.{getD-set-same, getD-set-other}
-use Rattle.store.specs.Row.{row, Written, row-length}
+use Rattle.store.specs.Row.{row, Written}
 use Rattle.model.specs.Lists.{anyOf, member, allOf}
-use Rattle.layout.specs.Rows.{rowCount, rootAxis, rootSign, written-row}
+use Rattle.layout.specs.Rows.{rowCount, rootAxis, rootSign, written-row, entry-own, entry-other}
 use Rattle.layout.specs.Only.{Only, only-then, only-of, only-written}
-
--- ---- one entry of row r is written
-
-module _ (xs : List ℕ) (u r j v : ℕ) {q : List ℕ} (e : q ≡ set (row xs u r) j v) where
-  pub entry-own : rowCount * u ≤ length xs → r < rowCount → j < u → getD q j 0 ≡ v
-  entry-own long h b = ap (λ (y : List ℕ). getD y j 0) e ∙ getD-set-same (row xs u r) j v 0 (omega (arith, row-length xs u rowCount r long h))
-
-  pub entry-other : (i : ℕ) → i ≢ j → getD q i 0 ≡ getD (row xs u r) i 0
-  entry-other i n = ap (λ (y : List ℕ). getD y i 0) e ∙ getD-set-other (row xs u r) j i v 0 n
-
--- ---- the axis and the sign
 
 -- reference j's are written, and of the other rows only some change
 pub record ReferenceRows (rs : List ℕ) (u j id turns : ℕ) (xs t : List ℕ) : Type 0 where

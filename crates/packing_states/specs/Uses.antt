@@ -15,14 +15,14 @@ use Rattle.model.specs.Words.{Value}
 use Rattle.model.specs.Roots.{roots}
 use Rattle.model.specs.Packing.{oneUseLess, Pack, useNode, useChildren, takeSlot, packRoot, emptyPack}
 use Rattle.theory.specs.Cases.{by-if, on-if, if-true, if-false}
-use Rattle.theory.specs.PackedRoots.{ChildrenBefore, Ordered}
+use Rattle.theory.specs.ByNode.{Ordered, children-before}
+use Rattle.theory.specs.PackedRoots.{less-other}
 use Rattle.theory.specs.Checked.{Fine}
-use Rattle.theory.specs.PlainValue.{children-before}
 use Rattle.packing_states.specs.References.{referenceAt, total, rootOf}
 use Rattle.packing_states.specs.ReferenceLaws.{rootsFrom, roots-from-end, roots-from-step, roots-from-all, roots-from-none}
 use Rattle.packing_states.specs.States.{nodeAt, before, slotted, within}
 use Rattle.packing_states.specs.StateLaws.{skip-reference, pack-reference, before-unused, before-used, refused-before, refused-within}
-use Rattle.packing_states.specs.Counts.{less-same, less-other, less-at, edges, edges-later, used-at}
+use Rattle.packing_states.specs.Counts.{less-same, less-at, edges, edges-later, used-at}
 use Rattle.packing_states.specs.Owed.{owed, owed-unused, owed-used, owed-same, counts-enough}
 
 -- ---- what the entries cover before reference j within node n's turn: what the nodes from m on owe, and the roots that are left
@@ -185,13 +185,10 @@ itself : (a : ℕ) → _≡_ {A = ℕ} (if eqb a a then 1 else 0) 1
 itself a = if-true _ _ (eq-eqb a a refl)
 
 module _ (p : Program) (fine : Fine p) (n : ℕ) (b : n < length (p .nodes)) where
-  children-are : {a u c v : ℕ} → nodeAt p n ≡ product a u c v → ChildrenBefore n (product a u c v)
-  unfolding nodeAt
-  children-are e = rw e at (children-before (p .nodes) (fine .ordered) n b)
-
   -- children stand before their product
   pub children-below : {a u c v : ℕ} → nodeAt p n ≡ product a u c v → (a < n) × (c < n)
-  children-below e = children-are e
+  unfolding nodeAt
+  children-below e = rw e at (children-before (p .nodes) (fine .ordered) n b)
 
   module _ (f : before p n .refused ≡ false) where
     covered : Covers p n 0 n (before p n .uses)

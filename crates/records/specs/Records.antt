@@ -1,6 +1,5 @@
 -- A program's records as the code reads them, and the model's nodes, operations and rows. Assumes nothing.
 use mathlib.Core.Path.{_≡_, refl, ap, _∙_}
-use mathlib.Core.Logic.{_↔_}
 use mathlib.Core.List.{List, [], map}
 use Prim.Native.Nat.{ℕ, zero, suc, _+_, _*_, _≤_, _<_}
 use native.Mathlib.Nat.{add-zero}
@@ -96,14 +95,9 @@ pub leaf-of : {A : Type 0} (f : Node → A) (x : A) (r : NodeRecord) → r .kind
     → f (nodeSaid r) ≡ x
 leaf-of f x r h i l = said-by (λ node. f node ≡ x) r i (l (r .a) (r .p)) (λ k. absurd (omega arith))
 
--- a product's kind, said in two ways
-pub product-kind : (k : ℕ) → ((k ≡ 0 → ⊥) × (k ≡ 1 → ⊥)) ↔ (2 ≤ k)
-product-kind k = (from k, λ h. (λ e. omega arith, λ e. omega arith))
-  where
-    from : (k : ℕ) → (k ≡ 0 → ⊥) × (k ≡ 1 → ⊥) → 2 ≤ k
-    from zero h = absurd (h .0 refl)
-    from (suc zero) h = absurd (h .1 refl)
-    from (suc (suc k)) h = omega arith
+-- the kind of a node that is neither the identity nor a letter
+pub product-kind : (k : ℕ) → (k ≡ 0 → ⊥) × (k ≡ 1 → ⊥) → 2 ≤ k
+product-kind k h = omega (arith, h .0, h .1)
 
 pub product-of : (r : NodeRecord) → 2 ≤ r .kind → nodeSaid r ≡ product (r .a) (r .p) (r .b) (r .q)
 unfolding nodeSaid nodeSaidOfKind
@@ -115,7 +109,7 @@ product-of r h = go (r .kind) h
     go (suc (suc k)) h = refl
 
 pub said-product : (r : NodeRecord) → (r .kind ≡ 0 → ⊥) → (r .kind ≡ 1 → ⊥) → nodeSaid r ≡ product (r .a) (r .p) (r .b) (r .q)
-said-product r f g = product-of r (product-kind (r .kind) .0 (f, g))
+said-product r f g = product-of r (product-kind (r .kind) (f, g))
 
 -- ---- record i of the counted ones is the model's i
 

@@ -14,23 +14,16 @@ use Rattle.model.specs.Program.{Program}
 use Rattle.model.specs.Packing.{oneUseMore}
 use Rattle.theory.specs.Cases.{if-false}
 use Rattle.layout.specs.declared.Shape.{Shape}
-use Rattle.layout.specs.Rows.{rowCount, relevantRow, usesRow, firstRoot, nextRoot, rootAxis, rootSign, noAxis, written-row}
+use Rattle.layout.specs.Rows.{rowCount, relevantRow, usesRow, firstRoot, nextRoot, rootAxis, rootSign, noAxis, written-row, entry-own, entry-other}
 use Rattle.layout.specs.Only.{Only, only-of, only-then, only-written}
 use Rattle.packing_states.specs.References.{referenceAt, total, isRootAt, rootOf, linkFrom}
 use Rattle.packing_states.specs.ReferenceLaws.{rootsFrom, roots-from-step, roots-from-end, link-end, link-here, link-past}
 use Rattle.packing_states.specs.Counts.{more-at}
-use Rattle.packing_states.specs.ReferenceRows.{entry-own, entry-other, axis-own, sign-own, axis-other, sign-other}
-use Rattle.roots.specs.Links.{AddPre, Added, FrontPre, frontRows, InFront, NoRoot, linkRows, RowLinked, LinksFrom}
+use Rattle.packing_states.specs.ReferenceRows.{axis-own, sign-own, axis-other, sign-other}
+use Rattle.roots.specs.UseCounts.{AddPre, Added}
+use Rattle.roots.specs.Links.{FrontPre, frontRows, InFront, NoRoot, linkRows, RowLinked, LinksFrom}
 
 -- ---- what the writes leave
-
-pub added : {s t : List ℕ} {u n x : ℕ} → AddPre s u n → x ≡ getD (row s u usesRow) n 0 → Written s u usesRow n (x + 1) t → Added s u n t
-unfolding oneUseMore
-added {s} {t} {u} {n} {x} pre e w = record {
-  only = only-written (pre .long) (omega arith) (pre .node) w;
-  uses = written-row (pre .long) (omega arith) (pre .node) w
-      ∙ ap (set (row s u usesRow) n) (let z : x + 1 ≡ suc (getD (row s u usesRow) n 0) = omega arith in z);
-}
 
 module _ {s s₁ s₂ : List ℕ} {u j n x : ℕ} (pre : FrontPre s u j n)
     (w₁ : Written s u nextRoot j x s₁) (w₂ : Written s₁ u firstRoot n (j + 1) s₂) where

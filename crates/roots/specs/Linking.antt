@@ -1,7 +1,7 @@
 -- Linking the frame rows and then the operations, each the last one first: the loops' turns. Assumes nothing.
 use mathlib.Core.Path.{_≡_, refl, sym, ap, _∙_}
 use mathlib.Core.Bool.{Bool, true, false}
-use mathlib.Core.List.{List, [], _∷_}
+use mathlib.Core.List.{List}
 use Prim.Native.Nat.{ℕ, suc, _+_, _-_, _*_, _≤_, _<_}
 use native.Mathlib.Omega.{arith}
 use lib.ListN.{length, getD, replicate}
@@ -21,7 +21,7 @@ use Rattle.packing_states.specs.References.{referenceAt, total, isRootAt}
 use Rattle.packing_states.specs.ReferenceLaws.{roots-from-le, roots-from-all}
 use Rattle.packing_states.specs.Counts.{rootCounts, rootCounts-at, rootCounts-length}
 use Rattle.packing_states.specs.InMemory.{reference-node}
-use Rattle.layout.specs.Cleared.{cleared-only, cleared-at}
+use Rattle.layout.specs.Cleared.{both-only, both-first, both-second}
 use Rattle.packing_states.specs.SomeProgram.{SomeProgram}
 use Rattle.roots.specs.Links.{FrontPre, frontRows, InFront, OperationPre, RowPre, linkRows, RowLinked, LinksFrom, Sizes, RowsIn}
 use Rattle.roots.specs.Links.{RowsPre, RowsLinked, OperationsPre, OperationsLinked, LinkPre, Links, RootsLinked}
@@ -54,7 +54,7 @@ front-pre p z j n x a b e f =
     let h : n < z .nodes = rw (e, w .nodes) at (reference-node p (w .fine) j b) in
     record {
       long = a .long;
-      u-small = d .u-small;
+      small = omega (arith, d .row, d .u-small, w .references);
       root = omega (arith, d .row, w .references);
       node = omega (arith, d .row);
       uses = omega (arith, f .uses n h, roots-from-le p n (suc j), w .references, d .operations, d .qubits);
@@ -224,31 +224,25 @@ module _ (z : Shape) (os rs s s₁ s₂ : List ℕ) (some : SomeProgram (λ (p :
   fits : z .nodes ≤ z .u
   fits = omega (arith, some .it .sizes .sized .row)
 
-  only₁ : Only (firstRoot ∷ []) (z .u) s s₁
-  only₁ = cleared-only s (z .u) firstRoot (z .nodes) long (omega arith) fits e
-
-  long₁ : rowCount * z .u ≤ length s₁
-  long₁ = omega (arith, long, only₁ .long)
-
-  only₂ : Only (usesRow ∷ []) (z .u) s₁ s₂
-  only₂ = cleared-only s₁ (z .u) usesRow (z .nodes) long₁ (omega arith) fits d
-
   only-both : Only linkRows (z .u) s s₂
   unfolding member anyOf allOf
-  only-both = only-then (only-of linkRows refl only₁) (only-of linkRows refl only₂)
+  only-both =
+      both-only s (z .u) firstRoot (z .nodes) usesRow (z .nodes) long (omega arith) (omega arith) fits fits refl e d linkRows refl refl
 
   cleared-first : (n : ℕ) → n < z .nodes → getD (row s₂ (z .u) firstRoot) n 0 ≡ 0
   unfolding member anyOf
-  cleared-first n h =
-      ap (λ (x : List ℕ). getD x n 0) (only₂ .rows firstRoot (omega arith) refl)
-      ∙ cleared-at s (z .u) firstRoot (z .nodes) long (omega arith) fits e n h
+  cleared-first = both-first s (z .u) firstRoot (z .nodes) usesRow (z .nodes) long (omega arith) (omega arith) fits fits refl e d
+
+  cleared-uses : (n : ℕ) → n < z .nodes → getD (row s₂ (z .u) usesRow) n 0 ≡ 0
+  unfolding member anyOf
+  cleared-uses = both-second s (z .u) firstRoot (z .nodes) usesRow (z .nodes) long (omega arith) (omega arith) fits fits refl e d
 
   -- the rows are cleared
   cleared-rows : (p : Program) → LinkPre p z os rs s → RowsPre p z rs s₂
   cleared-rows p a = record {
     sizes = sizes-kept (only-both .long) (a .sizes);
     records = rows-kept only-both (a .rows);
-    start = linked-none p z s₂ cleared-first (cleared-at s₁ (z .u) usesRow (z .nodes) long₁ (omega arith) fits d);
+    start = linked-none p z s₂ cleared-first cleared-uses;
   }
 
   pub first-rows : SomeProgram (λ (p : Program). RowsPre p z rs s₂)

@@ -10,7 +10,7 @@ use Rattle.model.specs.Packing.{oneUseMore}
 use Rattle.layout.specs.declared.Shape.{Shape}
 use Rattle.layout.specs.Rows.{rowCount, relevantRow, usesRow, firstRoot, nextRoot, rootAxis, rootSign, noAxis, entries}
 use Rattle.layout.specs.Only.{Only}
-use Rattle.layout.specs.Shape.{longestRow, Sized}
+use Rattle.layout.specs.Shape.{Sized}
 use Rattle.records.specs.Records.{operationRecord, rowRecord}
 use Rattle.packing_states.specs.References.{referenceAt, total}
 use Rattle.packing_states.specs.ReferenceLaws.{rootsFrom}
@@ -20,25 +20,12 @@ use Rattle.packing_states.specs.ReferenceRows.{ReferenceRows, referenceRows}
 use Rattle.packing_states.specs.InMemory.{Whole}
 use Rattle.packing_states.specs.NodeRows.{TellsRelevant}
 
--- ---- one use more
-
--- the count still fits 32 bits
-pub record AddPre (s : List ℕ) (u n : ℕ) : Type 0 where
-  pub long : rowCount * u ≤ length s
-  pub node : n < u
-  pub uses : getD (row s u usesRow) n 0 < 4294967295
-
--- the model's one use more
-pub record Added (s : List ℕ) (u n : ℕ) (t : List ℕ) : Type 0 where
-  pub only : Only (usesRow ∷ []) u s t
-  pub uses : row t u usesRow ≡ oneUseMore n (row s u usesRow)
-
 -- ---- one reference
 
 -- both have their entries, and j + 1 fits 32 bits
 pub record FrontPre (s : List ℕ) (u j n : ℕ) : Type 0 where
   pub long : rowCount * u ≤ length s
-  pub u-small : u ≤ longestRow
+  pub small : j < 4294967295
   pub root : j < u
   pub node : n < u
   pub uses : getD (row s u usesRow) n 0 < 4294967295

@@ -1,11 +1,9 @@
 -- Links, then use counts, leave what packing starts from. Assumes nothing.
 use mathlib.Core.Path.{_≡_, refl, sym, ap, _∙_}
-use mathlib.Core.Logic.{⊎-elim}
 use mathlib.Core.List.{List, [], _∷_}
 use Prim.Native.Nat.{ℕ, _≤_, _<_}
 use native.Mathlib.Omega.{arith}
-use lib.ListN.{length, getD, List·getD-eq-default}
-use Rattle.bits.specs.Remainder.{lt-or-ge}
+use lib.ListN.{getD}
 use Rattle.model.specs.Lists.{allOf, anyOf, member}
 use Rattle.model.specs.Program.{Node, PauliRef, Program}
 use Rattle.model.specs.Roots.{roots}
@@ -17,7 +15,7 @@ use Rattle.records.specs.Nodes.{nodesIn}
 use Rattle.records.specs.Given.{programIn, nodes-in}
 use Rattle.packing_states.specs.References.{total}
 use Rattle.packing_states.specs.ReferenceLaws.{roots-from-le, roots-from-all}
-use Rattle.packing_states.specs.Counts.{rootCounts, rootCounts-at, rootCounts-length}
+use Rattle.packing_states.specs.Counts.{rootCounts, rootCounts-at}
 use Rattle.packing_states.specs.Linked.{Linked, linked-same}
 use Rattle.packing_states.specs.InMemory.{operation-reference, row-reference, Whole, given-whole}
 use Rattle.packing_states.specs.NodeRows.{given-rows}
@@ -34,13 +32,8 @@ linked-kept o f =
     (o .rows rootAxis (omega arith) refl) (o .rows rootSign (omega arith) refl) f
 
 -- a node has at most as many roots as there are references
-counts-small : (p : Program) (count m : ℕ) → getD (rootCounts (roots p) count) m 0 ≤ total p
-counts-small p count m =
-    ⊎-elim (λ (h : m < count). omega (arith, rootCounts-at (roots p) count m h, roots-from-all p m, roots-from-le p m 0))
-    (λ (h : count ≤ m).
-    let b : length (rootCounts (roots p) count) ≤ m = omega (arith, rootCounts-length (roots p) count) in
-    omega (arith, List·getD-eq-default (rootCounts (roots p) count) 0 b))
-    (lt-or-ge m count)
+counts-small : (p : Program) (count m : ℕ) → m < count → getD (rootCounts (roots p) count) m 0 ≤ total p
+counts-small p count m h = omega (arith, rootCounts-at (roots p) count m h, roots-from-all p m, roots-from-le p m 0)
 
 module _ (z : Shape) (ns os rs s : List ℕ) (pre : PreparePre z ns os rs s) where
   abbrev p : Program
@@ -74,9 +67,9 @@ module _ (z : Shape) (ns os rs s : List ℕ) (pre : PreparePre z ns os rs s) whe
     then-uses = record {
       nodes = given-rows (pre .sized) (pre .given) (omega (arith, pre .numbers-long, l .only .long));
       few = pre .sized .nodes;
-      uses = λ m.
+      uses = λ m h.
           let d = pre .sized in
-          rw (links .uses) (omega (arith, counts-small p (z .nodes) m, whole .references, d .operations, d .qubits));
+          rw (links .uses) (omega (arith, counts-small p (z .nodes) m h, whole .references, d .operations, d .qubits));
     }
 
     -- the model counts for as many nodes as there are

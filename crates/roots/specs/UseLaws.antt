@@ -1,4 +1,4 @@
--- Counting the uses of one node's children, and of all nodes', the last node first. Assumes nothing.
+-- One use more; counting the uses of one node's children, and of all nodes', the last node first. Assumes nothing.
 use mathlib.Core.Path.{_≡_, refl, sym, ap, _∙_}
 use mathlib.Core.Bool.{Bool, true, false}
 use mathlib.Core.List.{List, [], _∷_}
@@ -8,20 +8,29 @@ use lib.Dec.{eqb}
 use lib.ListN.{length, getD, set, take}
 use lib.Seq.{getD-take, take-set-lt}
 use borrow.Author.Tests.{eq-eqb, ne-eqb}
-use Rattle.store.specs.Row.{row, row-length}
+use Rattle.store.specs.Row.{row, row-length, Written}
 use Rattle.model.specs.Lists.{if_then_else_}
 use Rattle.model.specs.Program.{Node, identity, letter, product}
 use Rattle.model.specs.Packing.{oneUseMore, countChildren, countUses}
 use Rattle.theory.specs.Cases.{by-if, if-true, if-false}
-use Rattle.theory.specs.PackedRoots.{ChildrenBefore}
-use Rattle.layout.specs.Rows.{rowCount, usesRow, entries, entries-at}
-use Rattle.layout.specs.Only.{Only, only-none, only-then}
+use Rattle.theory.specs.ByNode.{ChildrenBefore}
+use Rattle.layout.specs.Rows.{rowCount, usesRow, entries, entries-at, written-row}
+use Rattle.layout.specs.Only.{Only, only-none, only-then, only-written}
 use Rattle.records.specs.Records.{nodeRecord, leaf-of, product-of}
 use Rattle.records.specs.Nodes.{nodesIn, nodeHere, node-here}
-use Rattle.packing_states.specs.Counts.{more-at, countNode, countUses-bound}
+use Rattle.packing_states.specs.Counts.{more-at, countNode, countNode-most}
 use Rattle.packing_states.specs.NodeRows.{children-here, children-under, node-in-rows}
-use Rattle.roots.specs.Links.{AddPre, Added}
-use Rattle.roots.specs.UseCounts.{UsePre, ChildrenUsed, CountPre, UsesCounted}
+use Rattle.roots.specs.UseCounts.{AddPre, Added, UsePre, ChildrenUsed, CountPre, UsesCounted}
+
+-- ---- one use more
+
+pub added : {s t : List ℕ} {u n x : ℕ} → AddPre s u n → x ≡ getD (row s u usesRow) n 0 → Written s u usesRow n (x + 1) t → Added s u n t
+unfolding oneUseMore
+added {s} {t} {u} {n} {x} pre e w = record {
+  only = only-written (pre .long) (omega arith) (pre .node) w;
+  uses = written-row (pre .long) (omega arith) (pre .node) w
+      ∙ ap (set (row s u usesRow) n) (let z : x + 1 ≡ suc (getD (row s u usesRow) n 0) = omega arith in z);
+}
 
 -- ---- one node
 
@@ -95,14 +104,14 @@ module _ (ns s : List ℕ) (u count : ℕ) where
     pub most : n ≤ count
     pub only : Only (usesRow ∷ []) u s x
     pub uses : countUses (nodesIn count ns) n (entries x u usesRow count) ≡ countUses (nodesIn count ns) count (entries s u usesRow count)
-    pub small : (m : ℕ) → getD (entries x u usesRow count) m 0 ≤ 73727 + 2 * (count - n)
+    pub small : (m : ℕ) → m < count → getD (entries x u usesRow count) m 0 ≤ 73727 + 2 * (count - n)
 
   pub uses-start : CountPre ns s u count → UsesAt count s
   uses-start pre = record {
     most = omega arith;
     only = only-none _ u s;
     uses = refl;
-    small = λ m. omega (arith, pre .uses m);
+    small = λ m b. omega (arith, pre .uses m b);
   }
 
   module _ (pre : CountPre ns s u count) (n : ℕ) (x : List ℕ) (h : 0 < n) (i : UsesAt n x) where
@@ -115,7 +124,7 @@ module _ (ns s : List ℕ) (u count : ℕ) where
     few : (m : ℕ) → m < n - 1 → getD (row x u usesRow) m 0 < 4294967294
     few m b =
         let e = entries-at x u usesRow count long (let z : usesRow < rowCount = omega arith in z) (pre .nodes .fits) m (omega arith) in
-        omega (arith, e, i .small m, pre .few)
+        omega (arith, e, i .small m (omega (arith, i .most)), pre .few)
 
     pub uses-need : UsePre ns x u (n - 1)
     uses-need = record {
@@ -142,9 +151,9 @@ module _ (ns s : List ℕ) (u count : ℕ) where
         most = omega arith;
         only = only-then (i .only) (w .only);
         uses = counts ∙ i .uses;
-        small = λ m.
-            let b = countUses-bound (nodeHere ns (n - 1)) (entries x u usesRow count) (n - 1) (73727 + 2 * (count - n)) (i .small) m in
-            rw counted (omega (arith, b));
+        small = λ m b.
+            let most = countNode-most (n - 1) (nodeHere ns (n - 1)) (entries x u usesRow count) m in
+            rw counted (omega (arith, most, i .small m b, i .most));
       }
 
   pub uses-end : {n : ℕ} {x : List ℕ} → n ≡ 0 → UsesAt n x → UsesCounted ns s u count x

@@ -17,17 +17,14 @@ use Rattle.model.specs.Layering.{sweepsFrom}
 use Rattle.model.specs.Layering.{height, layerSegment}
 use Rattle.theory.specs.Cases.{by-if}
 use Rattle.theory.specs.Every.{Every, every-append, every-one, every-take}
-use Rattle.theory.specs.Lists.{sumOf-one, sumOf-keep}
+use Rattle.theory.specs.Lists.{sumOf-one, sumOf-keep, keep-count, count-le}
 
 one-more : {A : Type 0} (xs : List A) (x : A) → length (xs ++ (x ∷ [])) ≡ suc (length xs)
 one-more xs x = omega (arith, length-append xs (x ∷ []))
 
 -- what is kept is no longer
 pub keep-length : {A : Type 0} (f : A → Bool) (xs : List A) → length (keep f xs) ≤ length xs
-unfolding keep
-keep-length f [] = le-refl _
-keep-length {A} f (x ∷ xs) =
-    by-if (λ (r : List A). length r ≤ suc (length xs)) _ _ _ (omega (arith, keep-length f xs)) (omega (arith, keep-length f xs))
+keep-length f xs = rw (keep-count f xs) (count-le f xs)
 
 dropZeroRots-length : (rs : List Rot) → length (dropZeroRots rs) ≤ length rs
 unfolding dropZeroRots

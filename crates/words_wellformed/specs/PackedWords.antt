@@ -15,7 +15,7 @@ use Rattle.model.specs.Packing.{Pack, useNode, useChildren, takeSlot, packRoot,
 use Rattle.model.specs.Packing.{packed}
 use Rattle.theory.specs.Cases.{by-if}
 use Rattle.theory.specs.Every.{Every, every-one, every-at}
-use Rattle.theory.specs.PackedRoots.{ChildrenBefore, Ordered}
+use Rattle.theory.specs.ByNode.{ChildrenBefore, Ordered}
 use Rattle.theory.specs.Checked.{LeafIn, Fine}
 use Rattle.words_wellformed.specs.StoredWords.{StoredWords, none-stored, intern-stored}
 

@@ -1,5 +1,5 @@
 -- One entry is written. Assumes nothing.
-use Rattle.roots.specs.LinkLaws.{added}
+use Rattle.roots.specs.UseLaws.{added}
 use borrow.Author.Needs.{needs}
 use Rattle.roots.proofs.add_use.Statement.{statement}
 use Rattle.roots.proofs.add_use.Tie as tie

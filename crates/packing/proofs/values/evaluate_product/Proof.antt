@@ -14,19 +14,19 @@ small : (f : tie.After-product-in)
 small f =
     let b = f .before .before .before in
     let p = b .before .before .before .before .before .before .pre in
-    phases-small _ _ _ (p .0) (product-kind _ .0 (p .1)) (b .before .before .held .ensures) (b .held2 .ensures) (f .product-in .ensures)
+    phases-small _ _ _ (p .0) (product-kind _ (p .1)) (b .before .before .held .ensures) (b .held2 .ensures) (f .product-in .ensures)
 
 cast-held : tie.Need-cast-held
 cast-held c = search needs
 
 held-requires : tie.Need-held-requires
-held-requires c κs = let p = c .before .before .before .pre in p .0 .first (product-kind _ .0 (p .1))
+held-requires c κs = let p = c .before .before .before .pre in p .0 .first (product-kind _ (p .1))
 
 cast-held-2 : tie.Need-cast-held-2
 cast-held-2 c = search needs
 
 held-requires-2 : tie.Need-held-requires-2
-held-requires-2 c κs = let p = c .before .before .before .before .before .pre in p .0 .second (product-kind _ .0 (p .1))
+held-requires-2 c κs = let p = c .before .before .before .before .before .pre in p .0 .second (product-kind _ (p .1))
 
 scratch-at-requires : tie.Need-scratch-at-requires
 scratch-at-requires c κs = search needs
@@ -35,7 +35,7 @@ product-in-requires : tie.Need-product-in-requires
 product-in-requires c κs =
     let b = c .before .before in
     let p = b .before .before .before .before .before .before .pre in
-    stored-pre _ _ _ (p .0) (product-kind _ .0 (p .1)) (b .before .before .held .ensures) (b .held2 .ensures) (c .before .scratch-at .ensures)
+    stored-pre _ _ _ (p .0) (product-kind _ (p .1)) (b .before .before .held .ensures) (b .held2 .ensures) (c .before .scratch-at .ensures)
 
 cast-t12 : tie.Need-cast-t12
 cast-t12 c = search needs
