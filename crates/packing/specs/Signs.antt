@@ -64,6 +64,7 @@ module _ {p : Program} {z : Shape} {xs : List ℕ} (w : Whole p z) (linked : Lin
   unfolding signsIn signsOf
   signs-are =
       let ops = p .operations in
-      map-front (signAt z xs) (λ o. signOf (operationRoot o)) noOperation ops 0 (length (p .rows)) _ (sym (w .references) ∙ total-sum p) operation-sign
+      map-front (signAt z xs) (λ o. signOf (operationRoot o)) noOperation ops 0 (length (p .rows)) _ (sym (w .references) ∙ total-sum p)
+      operation-sign
       ∙ ap (λ (ys : List SignedAxis). map (λ o. signOf (operationRoot o)) ops ++ ys)
       (map-all (signAt z xs) (rowSign p) noReference (p .rows) (length ops + 0) row-sign)

@@ -74,7 +74,8 @@ useChildren-later : (n : ℕ) (node : Node) (p : Pack) → ChildrenBefore n node
 unfolding useChildren useNode
 useChildren-later n identity p h k b = refl
 useChildren-later n (letter q c) p h k b = refl
-useChildren-later n (product a u c v) p h k b = less-other (oneUseLess a (p .uses)) c k (λ e. omega arith) ∙ less-other (p .uses) a k (λ e. omega arith)
+useChildren-later n (product a u c v) p h k b =
+    less-other (oneUseLess a (p .uses)) c k (λ e. omega arith) ∙ less-other (p .uses) a k (λ e. omega arith)
 
 takeSlot-later : (n l : ℕ) (p : Pack) → Later n p (takeSlot l p)
 unfolding takeSlot
@@ -82,7 +83,8 @@ takeSlot-later n l p k b = by-if (λ (q : Pack). getD (q .uses) k 0 ≡ getD (p 
 
 packRoot-later : (l n : ℕ) (v : Value) (p : Pack) (r : PauliRef) → Later n p (packRoot l n v p r)
 unfolding packRoot useNode
-packRoot-later l n v p r k b = by-if (λ (q : Pack). getD (q .uses) k 0 ≡ getD (p .uses) k 0) _ _ _ refl (less-other (p .uses) n k (λ e. omega arith))
+packRoot-later l n v p r k b =
+    by-if (λ (q : Pack). getD (q .uses) k 0 ≡ getD (p .uses) k 0) _ _ _ refl (less-other (p .uses) n k (λ e. omega arith))
 
 packRoots-later : (l n : ℕ) (v : Value) (p : Pack) (rs : List PauliRef) → Later n p (packRoots l n v p rs)
 unfolding packRoots
