@@ -47,6 +47,49 @@ rootAxis = 15
 abbrev pub rootSign : ℕ
 rootSign = 16
 
+-- lists of items: tags, then axes, then angles
+abbrev pub itemsRow : ℕ
+itemsRow = 0
+
+abbrev pub outRow : ℕ
+outRow = 3
+
+abbrev pub trialRow : ℕ
+trialRow = 6
+
+abbrev pub layersRow : ℕ
+layersRow = 6
+
+abbrev pub sweptRow : ℕ
+sweptRow = 9
+
+abbrev pub stayRow : ℕ
+stayRow = 12
+
+abbrev pub lastRow : ℕ
+lastRow = 17
+
+abbrev pub waitingRow : ℕ
+waitingRow = 18
+
+abbrev pub fSlot : ℕ
+fSlot = 19
+
+abbrev pub fPhase : ℕ
+fPhase = 20
+
+abbrev pub levelRow : ℕ
+levelRow = 18
+
+abbrev pub depthRow : ℕ
+depthRow = 17
+
+abbrev pub layerEnd : ℕ
+layerEnd = 17
+
+abbrev pub sweptEnd : ℕ
+sweptEnd = 18
+
 -- what stands for the axis of a row that is no root
 abbrev pub noAxis : ℕ
 noAxis = minusOne

@@ -42,11 +42,48 @@ pub const NODE_PHASE: usize = 7;
 // Slots that are free again; the one freed last is on top.
 pub const FREE: usize = 8;
 
+// Lists of items take three rows each: tag, axis, angle. The items of a pass, and what it puts out.
+pub const ITEMS: usize = 0;
+
+pub const OUT: usize = 3;
+
+// Exchange: the rotations that an exchange would give.
+pub const TRIAL: usize = 6;
+
+// Layering: the rotations of a segment's layers, those of a sweep's, and what stays in a layer.
+pub const LAYERS: usize = 6;
+
+pub const SWEPT: usize = 9;
+
+pub const STAY: usize = 12;
+
 // A root's axis, by reference; NO_AXIS for a row that is no root.
 pub const ROOT_AXIS: usize = 15;
 
 // A root's sign, 0 or 2 quarter turns, by reference.
 pub const ROOT_SIGN: usize = 16;
+
+// Where `last` names a rotation of an axis, by axis: 0, or its place in the output plus 1.
+pub const LAST: usize = 17;
+
+// The places of the rotations that wait in the output, rising.
+pub const WAITING: usize = 18;
+
+// The slot of a touched qubit in F, plus 1; 0 for a qubit that is not touched. By qubit.
+pub const F_SLOT: usize = 19;
+
+// The phases of F's images, three a slot.
+pub const F_PHASE: usize = 20;
+
+// T-depth: a rotation's level, and the depth of its segment up to it. By item.
+pub const LEVEL: usize = 18;
+
+pub const DEPTH: usize = 17;
+
+// Layering: where each layer of LAYERS ends, and each of SWEPT. By layer.
+pub const LAYER_END: usize = 17;
+
+pub const SWEPT_END: usize = 18;
 
 // 01's "-1 there is .. 4,294,967,295".
 pub const NO_AXIS: u32 = 4294967295;

@@ -186,43 +186,43 @@ module _ (P : ℕ → Type 0) where
 
   -- ---- layering
 
-  abbrev LayersHave : List (List Rot) → Type 0
+  abbrev pub LayersHave : List (List Rot) → Type 0
   LayersHave = Every AllHave
 
-  mergeInto-has : (layer : List Rot) (r : Rot) → AllHave layer → Has r → AllHave (mergeInto layer r)
+  pub mergeInto-has : (layer : List Rot) (r : Rot) → AllHave layer → Has r → AllHave (mergeInto layer r)
   unfolding mergeInto
   mergeInto-has [] r h k = (k, tt)
   mergeInto-has (x ∷ layer) r h k = by-if AllHave _ _ (x ∷ mergeInto layer r) (h .0, h .1) (h .0, mergeInto-has layer r (h .1) k)
 
   module _ (l : ℕ) (axes : List (List ℕ)) where
-    abbrev JoinedHas : Layers → Type 0
+    abbrev pub JoinedHas : Layers → Type 0
     JoinedHas s = LayersHave (s .done) × AllHave (s .layer)
 
-    joinLayer-has : (s : Layers) (r : Rot) → JoinedHas s → Has r → JoinedHas (joinLayer l axes s r)
+    pub joinLayer-has : (s : Layers) (r : Rot) → JoinedHas s → Has r → JoinedHas (joinLayer l axes s r)
     unfolding joinLayer
     joinLayer-has s r h k =
         by-if JoinedHas _ _ _ (h .0, mergeInto-has (s .layer) r (h .1) k)
         (every-append AllHave (s .done) (s .layer ∷ []) (h .0) (h .1, tt), (k, tt))
 
-    joinLayers-has : (s : Layers) (rs : List Rot) → JoinedHas s → AllHave rs → JoinedHas (joinLayers l axes s rs)
+    pub joinLayers-has : (s : Layers) (rs : List Rot) → JoinedHas s → AllHave rs → JoinedHas (joinLayers l axes s rs)
     unfolding joinLayers
     joinLayers-has s [] h k = h
     joinLayers-has s (r ∷ rs) h k = joinLayers-has (joinLayer l axes s r) rs (joinLayer-has s r h (k .0)) (k .1)
 
-    abbrev ShiftHas : Shift → Type 0
+    abbrev pub ShiftHas : Shift → Type 0
     ShiftHas s = AllHave (s .layer) × AllHave (s .stay)
 
-    moveRotation-has : (s : Shift) (r : Rot) → ShiftHas s → Has r → ShiftHas (moveRotation l axes s r)
+    pub moveRotation-has : (s : Shift) (r : Rot) → ShiftHas s → Has r → ShiftHas (moveRotation l axes s r)
     unfolding moveRotation
     moveRotation-has s r h k =
         by-if ShiftHas _ _ _ (mergeInto-has (s .layer) r (h .0) k, h .1) (h .0, every-append Has (s .stay) (r ∷ []) (h .1) (k, tt))
 
-    moveRotations-has : (s : Shift) (rs : List Rot) → ShiftHas s → AllHave rs → ShiftHas (moveRotations l axes s rs)
+    pub moveRotations-has : (s : Shift) (rs : List Rot) → ShiftHas s → AllHave rs → ShiftHas (moveRotations l axes s rs)
     unfolding moveRotations
     moveRotations-has s [] h k = h
     moveRotations-has s (r ∷ rs) h k = moveRotations-has (moveRotation l axes s r) rs (moveRotation-has s r h (k .0)) (k .1)
 
-    sweepFrom-has : (layer : List Rot) (n : ℕ) (b : Bool) (ls : List (List Rot)) → AllHave layer → LayersHave ls → LayersHave
+    pub sweepFrom-has : (layer : List Rot) (n : ℕ) (b : Bool) (ls : List (List Rot)) → AllHave layer → LayersHave ls → LayersHave
         (sweepFrom l axes layer n b ls .layers)
     unfolding sweepFrom
     sweepFrom-has layer n b [] h k = (h, tt)
@@ -232,12 +232,12 @@ module _ (P : ℕ → Type 0) where
         let g = moveRotations-has s next (h, tt) (k .0) in
         (g .0, sweepFrom-has (q .stay) (q .merged) (q .moved) ls (g .1) (k .1))
 
-    sweep-has : (n : ℕ) (ls : List (List Rot)) → LayersHave ls → LayersHave (sweep l axes n ls .layers)
+    pub sweep-has : (n : ℕ) (ls : List (List Rot)) → LayersHave ls → LayersHave (sweep l axes n ls .layers)
     unfolding sweep
     sweep-has n [] h = tt
     sweep-has n (layer ∷ ls) h = sweepFrom-has layer n false ls (h .0) (h .1)
 
-    zeros-has : (ls : List (List Rot)) → LayersHave ls → LayersHave (map dropZeroRots ls)
+    pub zeros-has : (ls : List (List Rot)) → LayersHave ls → LayersHave (map dropZeroRots ls)
     unfolding dropZeroRots
     zeros-has [] h = tt
     zeros-has (layer ∷ ls) h = (every-keep Has isNonzero layer (h .0), zeros-has ls (h .1))

@@ -14,7 +14,7 @@ use Rattle.theory.specs.Cases.{by-if}
 le-lt : {a b c : ℕ} → a ≤ b → b < c → a < c
 le-lt h g = omega arith
 
-mergeInto-length : (layer : List Rot) (r : Rot) → length (mergeInto layer r) ≤ suc (length layer)
+pub mergeInto-length : (layer : List Rot) (r : Rot) → length (mergeInto layer r) ≤ suc (length layer)
 unfolding mergeInto
 mergeInto-length [] r = le-refl _
 mergeInto-length (x ∷ layer) r =
@@ -129,13 +129,13 @@ module _ (l : ℕ) (axes : List (List ℕ)) where
       (record { size = omega (arith, h .size); high = omega (arith, h .size, h .high) })
       (record { size = omega (arith, h .size); high = omega (arith, h .high) })
 
-  dropZeroLayers-height : (ls : List (List Rot)) → height (dropZeroLayers ls) ≤ height ls
+  pub dropZeroLayers-height : (ls : List (List Rot)) → height (dropZeroLayers ls) ≤ height ls
   unfolding dropZeroLayers
   dropZeroLayers-height ls = le-trans (keep-small _ (map dropZeroRots ls) .high) (zeros-small ls .high)
 
   -- ---- the theorem
 
-  sweeps-stopped : (k m : ℕ) (ls : List (List Rot)) → sweepsFrom l axes k false m ls ≡ record { rots = flatten ls; changes = m }
+  pub sweeps-stopped : (k m : ℕ) (ls : List (List Rot)) → sweepsFrom l axes k false m ls ≡ record { rots = flatten ls; changes = m }
   unfolding sweepsFrom
   sweeps-stopped zero m ls = refl
   sweeps-stopped (suc k) m ls = refl
