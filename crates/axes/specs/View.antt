@@ -2,15 +2,16 @@
 use mathlib.Core.Path.{_≡_, ap, ap₂, _∙_}
 use mathlib.Core.Bool.{Bool}
 use mathlib.Core.List.{List, [], _∷_, _++_}
+use mathlib.Core.Logic.{inl}
 use Prim.Native.Nat.{ℕ, _+_, _*_, _/_, _≤_, _<_}
 use native.Mathlib.Nat.{mul-div-cancel}
 use native.Mathlib.Omega.{arith}
 use lib.ListN.{length}
 use Rattle.store.specs.Part.{part, put, part-length}
-use Rattle.store.specs.Chunk.{chunks, chunks-length, chunks-at, chunks-apart, chunks-put}
+use Rattle.store.specs.Chunk.{chunks, chunks-length, chunks-at, chunks-apart, chunks-put, chunks-ext, chunk-in}
 use Rattle.pauli.specs.Word.{anticommutes}
 use Rattle.model.specs.Words.{wordOf, anticommute}
-use Rattle.layout.specs.Words.{axisPlace}
+use Rattle.layout.specs.Words.{axisPlace, OnlyWords, words-part}
 
 unfoldable pub axesOf : ℕ → ℕ → List ℕ → List (List ℕ)
 axesOf l n s = chunks (2 * l) n s
@@ -63,3 +64,11 @@ pub axes-apart : (l n : ℕ) (s : List ℕ) (b : ℕ) (w : List ℕ) → b + len
     → axesOf l n (put s b w) ≡ axesOf l n s
 unfolding axesOf
 axes-apart l n s b w h k = chunks-apart (2 * l) n s b w h k
+
+-- the axes, which end before
+pub axes-words : {a b : ℕ} {s t : List ℕ} → OnlyWords a b s t → (l n : ℕ) → axisPlace l n ≤ a → axisPlace l n ≤ length s
+    → axesOf l n t ≡ axesOf l n s
+unfolding axesOf
+axes-words {s = s} {t} x l n h k =
+    chunks-ext (2 * l) n t s (λ i c. words-part x (i * (2 * l)) (2 * l) (omega (arith, chunk-in (2 * l) n i c))
+    (inl (omega (arith, chunk-in (2 * l) n i c))))

@@ -6,7 +6,7 @@ use native.Mathlib.Nat.{pow-suc}
 use native.Mathlib.Omega.{arith}
 use lib.Arith.{bin-ind}
 use lib.Bits.{bitAnd, bitXor}
-use lib.Count.{ones, ones-step, ones-le}
+use lib.Count.{ones, ones-step}
 use Rattle.bits.specs.Digit.{low, differ-sum}
 use Rattle.bits.specs.Bit.{bit, xor-half, xor-low, and-half, and-low, and-xor}
 use Rattle.bits.specs.Sum.{sumTo, sum-first}
@@ -41,9 +41,6 @@ popcount-ones n = in-ones n n (omega arith)
 
 pub popcount-zero : popcount 0 ≡ 0
 popcount-zero = popcount-ones 0 ∙ ones-zero
-
-pub popcount-le : (k n : ℕ) → n < 2 ^ k → popcount n ≤ k
-popcount-le k n h = rw popcount-ones (ones-le k n h)
 
 popcount-step : (n : ℕ) → popcount n ≡ n % 2 + popcount (n / 2)
 popcount-step n = simp popcount-ones (ones-step n)

@@ -1,7 +1,7 @@
 -- The rows of the number store by name, as in src/lib.rt. Assumes nothing.
 use mathlib.Core.Path.{_≡_, ap, _∙_}
 use mathlib.Core.Logic.{_≢_}
-use mathlib.Core.List.{List}
+use mathlib.Core.List.{List, [], _∷_}
 use Prim.Native.Nat.{ℕ, _*_, _≤_, _<_}
 use native.Mathlib.Omega.{arith}
 use lib.ListN.{length, getD, set, take, drop, replicate, length-replicate}
@@ -89,6 +89,10 @@ layerEnd = 17
 
 abbrev pub sweptEnd : ℕ
 sweptEnd = 18
+
+-- kept for what stands beside the axes, by axis: written only where an axis is stored
+abbrev pub axesRows : List ℕ
+axesRows = 21 ∷ 22 ∷ []
 
 -- what stands for the axis of a row that is no root
 abbrev pub noAxis : ℕ

@@ -2,12 +2,13 @@
 -- Assumes nothing.
 use mathlib.Core.Path.{_≡_, refl, sym, _∙_}
 use mathlib.Core.List.{List}
-use mathlib.Core.Logic.{_≢_, inl, inr}
+use mathlib.Core.Logic.{_≢_, _⊎_, inl, inr}
 use Prim.Native.Nat.{ℕ, _+_, _-_, _*_, _≤_, _<_}
 use native.Mathlib.Decide.{decLt}
 use native.Mathlib.Omega.{arith}
-use lib.ListN.{length, getD}
-use Rattle.store.specs.Part.{Apart, part, put, part-length, part-at, part-ext, put-length, put-above}
+use lib.ListN.{length, getD, set, length-set}
+use lib.Seq.{getD-set-other}
+use Rattle.store.specs.Part.{Apart, part, put, part-length, part-at, part-ext, put-length, put-below, put-above}
 use Rattle.store.specs.Chunk.{chunk-in}
 
 -- where axis id has its word
@@ -87,3 +88,51 @@ kept-put b s a w h k = record {
   long = put-length s a w (omega arith);
   kept = λ i m. put-above s a w (omega arith) i (omega arith);
 }
+
+-- ---- only what lies between two places is changed
+
+-- t is s but for places from a to b
+pub record OnlyWords (a b : ℕ) (s t : List ℕ) : Type 0 where
+  pub long : length t ≡ length s
+  pub below : (i : ℕ) → i < a → getD t i 0 ≡ getD s i 0
+  pub above : (i : ℕ) → b ≤ i → getD t i 0 ≡ getD s i 0
+
+pub words-none : (a b : ℕ) (s : List ℕ) → OnlyWords a b s s
+words-none a b s = record { long = refl; below = λ i h. refl; above = λ i h. refl }
+
+pub words-then : {a b : ℕ} {s t v : List ℕ} → OnlyWords a b s t → OnlyWords a b t v → OnlyWords a b s v
+words-then x y = record {
+  long = y .long ∙ x .long;
+  below = λ i h. y .below i h ∙ x .below i h;
+  above = λ i h. y .above i h ∙ x .above i h;
+}
+
+-- more may change
+pub words-in : {a b : ℕ} (c d : ℕ) {s t : List ℕ} → c ≤ a → b ≤ d → OnlyWords a b s t → OnlyWords c d s t
+words-in c d h k x = record { long = x .long; below = λ i m. x .below i (omega arith); above = λ i m. x .above i (omega arith) }
+
+-- nothing from the second place on
+pub words-kept : {a b : ℕ} {s t : List ℕ} → OnlyWords a b s t → KeptFrom b s t
+words-kept x = record { long = x .long; kept = x .above }
+
+pub words-put : (a b : ℕ) (s : List ℕ) (p : ℕ) (w : List ℕ) → a ≤ p → p + length w ≤ b → p + length w ≤ length s → OnlyWords a b s (put s p w)
+words-put a b s p w h k m = record {
+  long = put-length s p w m;
+  below = λ i c. put-below s p w (omega arith) i (omega arith);
+  above = λ i c. put-above s p w (omega arith) i (omega arith);
+}
+
+pub words-set : (a b : ℕ) (s : List ℕ) (p v : ℕ) → a ≤ p → p < b → OnlyWords a b s (set s p v)
+words-set a b s p v h k = record {
+  long = length-set s p v;
+  below = λ i c. getD-set-other s p i v 0 (omega arith);
+  above = λ i c. getD-set-other s p i v 0 (omega arith);
+}
+
+-- a part that ends before, or begins behind
+pub words-part : {a b : ℕ} {s t : List ℕ} → OnlyWords a b s t → (c m : ℕ) → c + m ≤ length s → (c + m ≤ a) ⊎ (b ≤ c) → part t c m ≡ part s c m
+words-part {a} {b} {s} {t} x c m h k = part-ext t c m (part s c m) (omega (arith, x .long)) (part-length s c m h) (λ i e. go k i e)
+  where
+    go : (c + m ≤ a) ⊎ (b ≤ c) → (i : ℕ) → i < m → getD t (c + i) 0 ≡ getD (part s c m) i 0
+    go (inl d) i e = x .below (c + i) (omega arith) ∙ sym (part-at s c m i e)
+    go (inr d) i e = x .above (c + i) (omega arith) ∙ sym (part-at s c m i e)

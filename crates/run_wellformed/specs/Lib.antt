@@ -10,3 +10,5 @@ pub mod Waiting
 pub mod RunWellFormed
 pub mod Signs
 pub mod Lengths
+pub mod PassInside
+pub mod WorkWell

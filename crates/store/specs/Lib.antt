@@ -5,3 +5,4 @@ pub mod Chunk
 pub mod Equal
 pub mod Copy
 pub mod Table
+pub mod From

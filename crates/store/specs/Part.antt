@@ -117,37 +117,6 @@ part-put-apart s b w c m h k d =
     part-ext (put s b w) c m (part s c m) (omega (arith, put-length s b w h)) (part-length s c m k)
     (λ i l. put-apart s b w c m i (omega arith) d l ∙ sym (part-at s c m i l))
 
--- ---- two puts
-
-pub put-put-same : (s : List ℕ) (b : ℕ) (w v : List ℕ) → b + length w ≤ length s → length v ≡ length w
-    → put (put s b w) b v ≡ put s b v
-put-put-same s b w v h e =
-    let k : length (put s b w) ≡ length s = put-length s b w h in
-    put-ext s b v (put (put s b w) b v) (omega arith) (put-length (put s b w) b v (omega arith) ∙ k)
-    (λ j m. put-below (put s b w) b v (omega arith) j m ∙ put-below s b w (omega arith) j m)
-    (λ i m. put-in (put s b w) b v (omega arith) i m)
-    (λ j m. put-above (put s b w) b v (omega arith) j m ∙ put-above s b w (omega arith) j (omega arith))
-
--- puts in two parts that do not meet change places
-pub put-put-apart : (s : List ℕ) (b : ℕ) (w : List ℕ) (c : ℕ) (v : List ℕ) → b + length w ≤ length s → c + length v ≤ length s
-    → Apart b (length w) c (length v) → put (put s b w) c v ≡ put (put s c v) b w
-put-put-apart s b w c v h k d =
-    let p : length (put s b w) ≡ length s = put-length s b w h in
-    let q : length (put s c v) ≡ length s = put-length s c v k in
-    put-ext (put s c v) b w (put (put s b w) c v) (omega arith) (put-length (put s b w) c v (omega arith) ∙ p ∙ sym q)
-    (λ j m. around j (put-below s b w (omega arith) j m) (spot c (length v) j))
-    (λ i m. ⊎-elim
-    (λ lo. put-below (put s b w) c v (omega arith) (b + i) (omega arith))
-    (λ hi. put-above (put s b w) c v (omega arith) (b + i) (omega arith)) d
-    ∙ put-in s b w (omega arith) i m)
-    (λ j m. around j (put-above s b w (omega arith) j m) (spot c (length v) j))
-  where
-    -- outside b's part: c's own element, or what both left
-    around : (j : ℕ) → getD (put s b w) j 0 ≡ getD s j 0 → Spot c (length v) j → getD (put (put s b w) c v) j 0 ≡ getD (put s c v) j 0
-    around j e (below l) = put-below (put s b w) c v (omega (arith, put-length s b w h)) j l ∙ e ∙ sym (put-below s c v (omega arith) j l)
-    around j e (inside i l) = put-in (put s b w) c v (omega (arith, put-length s b w h)) i l ∙ sym (put-in s c v (omega arith) i l)
-    around j e (above l) = put-above (put s b w) c v (omega (arith, put-length s b w h)) j l ∙ e ∙ sym (put-above s c v (omega arith) j l)
-
 -- ---- a store of one element
 
 -- inside a part it is a store in the part's own list

@@ -63,10 +63,6 @@ row-set-other s u m r i v k h l a n = part-set-out s (k * u) u (r * u + i) v (om
 
 -- ---- writing a row from its start
 
-pub row-put : (s : List ℕ) (u m r : ℕ) (w : List ℕ) → m * u ≤ length s → r < m → length w ≡ u → row (put s (r * u) w) u r ≡ w
-unfolding row
-row-put s u m r w h l e = part-put-same s (r * u) u w (omega (arith, row-in u m r l)) e
-
 pub row-put-other : (s : List ℕ) (u m r : ℕ) (w : List ℕ) (k : ℕ) → m * u ≤ length s → r < m → k < m → length w ≤ u → k ≢ r
     → row (put s (r * u) w) u k ≡ row s u k
 unfolding row

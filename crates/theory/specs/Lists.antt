@@ -201,3 +201,12 @@ module _ {A B : Type 0} (f : ℕ → B) (g : A → B) (d : A) where
   pub map-all : (xs : List A) (i : ℕ) → ((k : ℕ) → k < length xs → f (k + i) ≡ g (getD xs k d)) → map f (numbersFrom i (length xs)) ≡ map g xs
   unfolding numbersFrom
   map-all xs i h = map-front xs i 0 (length xs) (omega arith) h ∙ append-nil (map g xs)
+
+-- what a test takes of two lists, one behind the other
+pub keep-append : {A : Type 0} (f : A → Bool) (xs ys : List A) → keep f (xs ++ ys) ≡ keep f xs ++ keep f ys
+unfolding keep
+keep-append f [] ys = refl
+keep-append {A} f (x ∷ xs) ys =
+    on-if (λ (r : List A). (if f x then x ∷ keep f (xs ++ ys) else keep f (xs ++ ys)) ≡ r ++ keep f ys) (f x) (x ∷ keep f xs) (keep f xs)
+    (λ e. if-true _ _ e ∙ ap (λ (r : List A). x ∷ r) (keep-append f xs ys))
+    (λ e. if-false _ _ e ∙ keep-append f xs ys)

@@ -138,7 +138,7 @@ module _ (l : ℕ) where
   mergeOrPutOut-rises r p a k nowhere = le-refl _
   mergeOrPutOut-rises r p a k (at j) = by-if (Rises p) _ _ _ (mergeAt-rises (r .absorption) _ j a _) (le-refl _)
 
-  takeRotation-rises : (r : Rules) (b : Bool) (p : Pass) (a k : ℕ) → Rises p (takeRotation l r b p a k)
+  pub takeRotation-rises : (r : Rules) (b : Bool) (p : Pass) (a k : ℕ) → Rises p (takeRotation l r b p a k)
   unfolding takeRotation
   takeRotation-rises r b p a k = by-if (Rises p) _ _ _ (absorb-rises p a k) (mergeOrPutOut-rises r p a k _)
 

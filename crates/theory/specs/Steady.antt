@@ -60,10 +60,10 @@ steady-refl w h = record { range = h; barriers = refl }
 steady-trans : (u v w : Work) → Steady u v → (InRange v → Steady v w) → Steady u w
 steady-trans u v w h g = let k = g (h .range) in record { range = k .range; barriers = k .barriers ∙ h .barriers }
 
-streamPass-steady : (l : ℕ) (r : Rules) (b : Bool) (w : Work) → InRange w → Steady w (streamPass l r b w)
+pub streamPass-steady : (l : ℕ) (r : Rules) (b : Bool) (w : Work) → InRange w → Steady w (streamPass l r b w)
 streamPass-steady l r b w h = record { range = streamPass-range l r b w h; barriers = streamPass-barriers l r b w h }
 
-exchangePass-steady : (l : ℕ) (r : Rules) (w : Work) → InRange w → Steady w (exchangePass l r w)
+pub exchangePass-steady : (l : ℕ) (r : Rules) (w : Work) → InRange w → Steady w (exchangePass l r w)
 unfolding exchangePass
 exchangePass-steady l r w h =
     let f = swaps l (w .store .axes) (r .window) (r .candidates) (r .eager) in
@@ -75,7 +75,7 @@ exchangePass-steady l r w h =
       barriers = rewriteSegments-barriers f (w .items);
     })
 
-layeringPass-steady : (l : ℕ) (w : Work) → InRange w → Steady w (layeringPass l w)
+pub layeringPass-steady : (l : ℕ) (w : Work) → InRange w → Steady w (layeringPass l w)
 unfolding layeringPass
 layeringPass-steady l w h = record {
   range =

@@ -247,7 +247,7 @@ module _ (l : ℕ) where
 
   -- ---- the carried axis has an id
 
-  axisImage-carried : (p : Pass) (a : ℕ) → a < length (p .store .axes) → axisImage l (carryAxis l p a) a ≡ axisImage l p a
+  pub axisImage-carried : (p : Pass) (a : ℕ) → a < length (p .store .axes) → axisImage l (carryAxis l p a) a ≡ axisImage l p a
   unfolding axisImage carryAxis
   axisImage-carried p a h = rw (intern-grows l _ (p .store) _ .keeps a h) refl
 

@@ -8,3 +8,5 @@ pub mod RunWords
 pub mod Conjugation
 pub mod Carrying
 pub mod Wellformed
+pub mod Inside
+pub mod PackedInside
