@@ -11,8 +11,12 @@ use Rattle.store.specs.Part.{put}
 use Rattle.model.specs.Lists.{if_then_else_}
 use Rattle.model.specs.Words.{idOf, Store, intern}
 use Rattle.theory.specs.Cases.{if-true, if-false}
+use Rattle.layout.specs.Rows.{axesRows}
+use Rattle.layout.specs.Only.{Only, only-none}
 use Rattle.layout.specs.Words.{axisPlace}
 use Rattle.axes.specs.View.{axesOf, wordAt, axes-length}
+use Rattle.axes.specs.declared.Sizes.{Sizes}
+use Rattle.axes.specs.Held.{storedAxes, Stored}
 use Rattle.axes.specs.declared.Interned.{Interned}
 use Rattle.axes.specs.declared.Interned.the-variants.{Id, ExpansionLimit}
 
@@ -21,12 +25,11 @@ abbrev pub sumWith : ℕ → ℕ → ℕ → ℕ
 sumWith l others n = axisPlace l n + 2 * l + others
 
 -- what storing demands: the word stands behind the limit, or among the other words that are counted, which end at the limit
-pub record InternPre (l others limit n : ℕ) (s : List ℕ) (at : ℕ) : Type 0 where
-  pub stored : axisPlace l n ≤ limit
-  pub counted : others ≤ limit
-  pub inside : limit ≤ length s
-  pub word-in : at + 2 * l ≤ length s
-  pub behind : limit ≤ at + others
+pub record InternPre (z : Sizes) (others : ℕ) (ws xs : List ℕ) (at : ℕ) : Type 0 where
+  pub held : Stored z ws xs
+  pub counted : others ≤ z .limit
+  pub word-in : at + 2 * z .l ≤ length ws
+  pub behind : z .limit ≤ at + others
 
 -- the model's store before its first test
 abbrev pub untested : List (List ℕ) → Store
@@ -41,9 +44,11 @@ unfoldable pub laidBy : Interned → ℕ → ℕ → List ℕ → List ℕ → L
 laidBy (Id id) l n s w = if ltb id n then s else put s (axisPlace l n) w
 laidBy ExpansionLimit l n s w = s
 
-pub record Stores (l others limit n : ℕ) (s : List ℕ) (at : ℕ) (r : Interned) (t : List ℕ) : Type 0 where
-  pub answer : r ≡ internAnswer l others limit (axesOf l n s) (wordAt l s at)
-  pub words : t ≡ laidBy r l n s (wordAt l s at)
+-- answer and word store are the model's; of the number store only rows that are kept for axes may change
+pub record Stores (z : Sizes) (others : ℕ) (ws xs : List ℕ) (at : ℕ) (r : Interned) (ws′ xs′ : List ℕ) : Type 0 where
+  pub answer : r ≡ internAnswer (z .l) others (z .limit) (storedAxes z ws) (wordAt (z .l) ws at)
+  pub words : ws′ ≡ laidBy r (z .l) (z .axes) ws (wordAt (z .l) ws at)
+  pub numbers : Only axesRows (z .u) xs xs′
 
 -- ---- the model's `intern`, case by case
 
@@ -87,41 +92,49 @@ module _ (l others limit n : ℕ) (s w : List ℕ) where
 
 -- ---- what the code answers, from the id that it found of the word that it read
 
-module _ (l others limit n : ℕ) (s : List ℕ) (at id : ℕ) {p : List ℕ} (found : id ≡ idOf (axesOf l n s) p) (read : p ≡ wordAt l s at) where
-  id-of : id ≡ idOf (axesOf l n s) (wordAt l s at)
-  id-of = found ∙ ap (idOf (axesOf l n s)) read
+module _ (z : Sizes) (others : ℕ) (ws xs : List ℕ) (at id : ℕ) {p : List ℕ} (found : id ≡ idOf (storedAxes z ws) p)
+    (read : p ≡ wordAt (z .l) ws at) where
+  id-of : id ≡ idOf (storedAxes z ws) (wordAt (z .l) ws at)
+  id-of = found ∙ ap (idOf (storedAxes z ws)) read
 
-  pub stores-old : id < n → Stores l others limit n s at (Id id) s
+  pub stores-old : id < z .axes → Stores z others ws xs at (Id id) ws xs
   stores-old h = record {
     answer =
         ap Id id-of
-        ∙ answer-id l others limit n s _ (omega (arith, tested-old l others limit n s (wordAt l s at) (omega (arith, id-of))));
-    words = sym (laid-old l others limit n s _ id h);
+        ∙ answer-id (z .l) others (z .limit) (z .axes) ws _
+        (omega (arith, tested-old (z .l) others (z .limit) (z .axes) ws (wordAt (z .l) ws at) (omega (arith, id-of))));
+    words = sym (laid-old (z .l) others (z .limit) (z .axes) ws _ id h);
+    numbers = only-none axesRows (z .u) xs;
   }
 
   -- a new word, behind the axes, which end at b
-  module _ {b : ℕ} (end : b ≡ axisPlace l n) (new : n ≤ id) where
-    pub stores-limit : limit < b + 2 * l + others → Stores l others limit n s at ExpansionLimit s
+  module _ {b : ℕ} (end : b ≡ axisPlace (z .l) (z .axes)) (new : z .axes ≤ id) where
+    pub stores-limit : z .limit < b + 2 * z .l + others → Stores z others ws xs at ExpansionLimit ws xs
     unfolding laidBy
     stores-limit k = record {
-      answer = answer-limit l others limit n s _ (omega (arith, end, tested-new l others limit n s (wordAt l s at) (omega (arith, id-of))));
+      answer =
+          answer-limit (z .l) others (z .limit) (z .axes) ws _
+          (omega (arith, end, tested-new (z .l) others (z .limit) (z .axes) ws (wordAt (z .l) ws at) (omega (arith, id-of))));
       words = refl;
+      numbers = only-none axesRows (z .u) xs;
     }
 
-    pub stores-new : (t : List ℕ) → b + 2 * l + others ≤ limit → t ≡ put s b (wordAt l s at) → Stores l others limit n s at (Id id) t
+    pub stores-new : (t : List ℕ) → b + 2 * z .l + others ≤ z .limit → t ≡ put ws b (wordAt (z .l) ws at) → Stores z others ws xs at (Id id) t xs
     stores-new t k e = record {
       answer =
           ap Id id-of
-          ∙ answer-id l others limit n s _ (omega (arith, end, tested-new l others limit n s (wordAt l s at) (omega (arith, id-of))));
-      words = e ∙ ap (λ (m : ℕ). put s m (wordAt l s at)) end ∙ sym (laid-new l others limit n s _ id new);
+          ∙ answer-id (z .l) others (z .limit) (z .axes) ws _
+          (omega (arith, end, tested-new (z .l) others (z .limit) (z .axes) ws (wordAt (z .l) ws at) (omega (arith, id-of))));
+      words = e ∙ ap (λ (m : ℕ). put ws m (wordAt (z .l) ws at)) end ∙ sym (laid-new (z .l) others (z .limit) (z .axes) ws _ id new);
+      numbers = only-none axesRows (z .u) xs;
     }
 
--- there is one answer
-pub stores-one : {l others limit n : ℕ} {s : List ℕ} {at : ℕ} {r q : Interned} {t u : List ℕ} → Stores l others limit n s at r t
-    → Stores l others limit n s at q u → (r ≡ q) × (t ≡ u)
-stores-one {l} {others} {limit} {n} {s} {at} a b =
+-- there is one answer, and one word store
+pub stores-one : {z : Sizes} {others : ℕ} {ws xs : List ℕ} {at : ℕ} {r q : Interned} {ws₁ xs₁ ws₂ xs₂ : List ℕ}
+    → Stores z others ws xs at r ws₁ xs₁ → Stores z others ws xs at q ws₂ xs₂ → (r ≡ q) × (ws₁ ≡ ws₂)
+stores-one {z} {others} {ws} {xs} {at} a b =
     let e = a .answer ∙ sym (b .answer) in
-    (e, a .words ∙ ap (λ (x : Interned). laidBy x l n s (wordAt l s at)) e ∙ sym (b .words))
+    (e, a .words ∙ ap (λ (x : Interned). laidBy x (z .l) (z .axes) ws (wordAt (z .l) ws at)) e ∙ sym (b .words))
 
 -- ---- the count
 

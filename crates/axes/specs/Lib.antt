@@ -1,4 +1,5 @@
 pub mod View
+pub mod Held
 pub mod Find
 pub mod Intern
 pub mod Stored

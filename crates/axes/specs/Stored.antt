@@ -1,4 +1,4 @@
--- What an answer of `intern` means for the model's store `st`, whose axes the word store holds. Assumes nothing.
+-- What an answer of `intern` means for the model's store `st`, whose axes the stores hold. Assumes nothing.
 use mathlib.Core.Path.{_≡_, refl, sym, ap, _∙_, subst}
 use mathlib.Core.List.{List, [], _∷_, _++_}
 use Prim.Native.Nat.{ℕ, _+_, _-_, _*_, _≤_, _<_}
@@ -7,97 +7,120 @@ use native.Mathlib.Numerals.{add-one}
 use native.Mathlib.Decide.{decLt}
 use native.Mathlib.Omega.{arith}
 use lib.ListN.{length}
-use Rattle.store.specs.Part.{put, part-length}
+use Rattle.store.specs.Part.{put, put-length, part-length}
 use Rattle.model.specs.Words.{idOf, Store, intern}
 use Rattle.theory.specs.Ids.{id-le}
+use Rattle.layout.specs.Rows.{axesRows}
+use Rattle.layout.specs.Only.{Only}
 use Rattle.layout.specs.Words.{axisPlace, KeptFrom, kept-none, kept-put}
 use Rattle.axes.specs.View.{axesOf, wordAt, axes-length, axes-put}
+use Rattle.axes.specs.declared.Sizes.{Sizes}
+use Rattle.axes.specs.Held.{withAxes, storedAxes, HoldsAxes, held-count}
 use Rattle.axes.specs.Intern.{sumWith, InternPre, Stores, intern-old, intern-new, stores-old, stores-limit, stores-new, stores-one}
 use Rattle.axes.specs.Intern.{countWith, count-new, count-old}
 use Rattle.axes.specs.declared.Interned.{Interned}
 use Rattle.axes.specs.declared.Interned.the-variants.{Id, ExpansionLimit}
 
--- what a word's id means to the caller: the axes in memory are the model's, no tested sum exceeds the limit,
--- axes and the other words still fit in it, and the other words that are counted, and those behind the limit, are as they were
-pub record HasId (l others limit n : ℕ) (s : List ℕ) (st : Store) (w : List ℕ) (id : ℕ) (t : List ℕ) : Type 0 where
+-- what a word's id means to the caller: the stores hold the model's axes, no tested sum exceeds the limit, axes and the other words
+-- still fit in it, and the other words that are counted, those behind the limit, and the rows that axes do not keep, are as they were
+pub record HasId (z : Sizes) (others : ℕ) (ws xs : List ℕ) (st : Store) (w : List ℕ) (id : ℕ) (ws′ xs′ : List ℕ) : Type 0 where
   pub id-is : id ≡ idOf (st .axes) w
-  pub axes-are : axesOf l (countWith n id) t ≡ intern l others st w .axes
-  pub fits : intern l others st w .peak ≤ limit
-  pub room : axisPlace l n + others ≤ limit → axisPlace l (countWith n id) + others ≤ limit
-  pub kept : KeptFrom (limit - others) s t
+  pub held : HoldsAxes (withAxes (countWith (z .axes) id) z) ws′ xs′ (intern (z .l) others st w .axes)
+  pub fits : intern (z .l) others st w .peak ≤ z .limit
+  pub room : axisPlace (z .l) (z .axes) + others ≤ z .limit → axisPlace (z .l) (countWith (z .axes) id) + others ≤ z .limit
+  pub kept : KeptFrom (z .limit - others) ws ws′
+  pub numbers : Only axesRows (z .u) xs xs′
 
 -- what a refusal means
-pub record NoRoom (l others limit : ℕ) (s : List ℕ) (st : Store) (w : List ℕ) (t : List ℕ) : Type 0 where
-  pub exceeds : limit < intern l others st w .peak
-  pub kept : t ≡ s
+pub record NoRoom (z : Sizes) (others : ℕ) (ws xs : List ℕ) (st : Store) (w : List ℕ) (ws′ xs′ : List ℕ) : Type 0 where
+  pub exceeds : z .limit < intern (z .l) others st w .peak
+  pub kept : ws′ ≡ ws
+  pub numbers : Only axesRows (z .u) xs xs′
 
 -- what an answer of `intern` means
-abbrev pub InternedAs : ℕ → ℕ → ℕ → ℕ → List ℕ → Store → List ℕ → Interned → List ℕ → Type 0
-InternedAs l others limit n s st w (Id id) t = HasId l others limit n s st w id t
-InternedAs l others limit n s st w ExpansionLimit t = NoRoom l others limit s st w t
+abbrev pub InternedAs : Sizes → ℕ → List ℕ → List ℕ → Store → List ℕ → Interned → List ℕ → List ℕ → Type 0
+InternedAs z others ws xs st w (Id id) ws′ xs′ = HasId z others ws xs st w id ws′ xs′
+InternedAs z others ws xs st w ExpansionLimit ws′ xs′ = NoRoom z others ws xs st w ws′ xs′
 
 one-more : (l n : ℕ) → axisPlace l (n + 1) ≡ axisPlace l n + 2 * l
 one-more l n = rw (add-one n) (omega (arith, suc-mul n (2 * l)))
 
-module _ (l others limit n : ℕ) (s : List ℕ) (at : ℕ) (pre : InternPre l others limit n s at) (st : Store)
-    (held : st .axes ≡ axesOf l n s) where
-  count : length (st .axes) ≡ n
-  count = ap length held ∙ axes-length l n s
+module _ (z : Sizes) (others : ℕ) (ws xs : List ℕ) (at : ℕ) (pre : InternPre z others ws xs at) (st : Store)
+    (h : HoldsAxes z ws xs (st .axes)) where
+  found : idOf (st .axes) (wordAt (z .l) ws at) ≡ idOf (storedAxes z ws) (wordAt (z .l) ws at)
+  found = ap (λ (axes : List (List ℕ)). idOf axes (wordAt (z .l) ws at)) (sym (h .are))
 
-  found : idOf (st .axes) (wordAt l s at) ≡ idOf (axesOf l n s) (wordAt l s at)
-  found = ap (λ (axes : List (List ℕ)). idOf axes (wordAt l s at)) held
+  module _ {xs′ : List ℕ} (o : Only axesRows (z .u) xs xs′) where
+    old : st .peak ≤ z .limit → (id : ℕ) → id ≡ idOf (storedAxes z ws) (wordAt (z .l) ws at) → id < z .axes
+        → HasId z others ws xs st (wordAt (z .l) ws at) id ws xs′
+    old p id e b =
+        let k = intern-old (z .l) others st (wordAt (z .l) ws at) (omega (arith, held-count h, found)) in
+        let c : z .axes ≡ countWith (z .axes) id = count-old (z .axes) id (omega arith) in
+        record {
+          id-is = e ∙ sym found;
+          held = record {
+            are = ap (λ (n : ℕ). axesOf (z .l) n ws) (sym c) ∙ h .are ∙ sym (ap (λ (x : Store). x .axes) k);
+            within = subst (λ (n : ℕ). axisPlace (z .l) n ≤ z .limit) c (h .within);
+            words-long = h .words-long;
+            numbers-long = omega (arith, h .numbers-long, o .long);
+          };
+          fits = omega (arith, ap (λ (x : Store). x .peak) k);
+          room = subst (λ (n : ℕ). axisPlace (z .l) n + others ≤ z .limit) c;
+          kept = kept-none (z .limit - others) ws;
+          numbers = o;
+        }
 
-  old : st .peak ≤ limit → (id : ℕ) → id ≡ idOf (axesOf l n s) (wordAt l s at) → id < n
-      → HasId l others limit n s st (wordAt l s at) id s
-  old p id e h =
-      let k = intern-old l others st (wordAt l s at) (omega (arith, count, found)) in
-      record {
-        id-is = e ∙ sym found;
-        axes-are = ap (λ (c : ℕ). axesOf l c s) (sym (count-old n id (omega arith))) ∙ sym (ap (λ (x : Store). x .axes) k ∙ held);
-        fits = omega (arith, ap (λ (x : Store). x .peak) k);
-        room = subst (λ (c : ℕ). axisPlace l c + others ≤ limit) (count-old n id (omega arith));
-        kept = kept-none (limit - others) s;
-      }
+    new : st .peak ≤ z .limit → (id : ℕ) → id ≡ idOf (storedAxes z ws) (wordAt (z .l) ws at) → id ≡ z .axes
+        → sumWith (z .l) others (z .axes) ≤ z .limit
+        → HasId z others ws xs st (wordAt (z .l) ws at) id (put ws (axisPlace (z .l) (z .axes)) (wordAt (z .l) ws at)) xs′
+    new p id e f b =
+        let k = intern-new (z .l) others st (wordAt (z .l) ws at) (omega (arith, held-count h, found)) in
+        let g : length (wordAt (z .l) ws at) ≡ 2 * z .l = part-length ws at (2 * z .l) (pre .word-in) in
+        let sum : sumWith (z .l) others (length (st .axes)) ≡ sumWith (z .l) others (z .axes) = ap (sumWith (z .l) others) (held-count h) in
+        let c : z .axes + 1 ≡ countWith (z .axes) id = count-new (z .axes) id f in
+        record {
+          id-is = e ∙ sym found;
+          held = record {
+            are =
+                ap (λ (n : ℕ). axesOf (z .l) n (put ws (axisPlace (z .l) (z .axes)) (wordAt (z .l) ws at))) (sym c)
+                ∙ axes-put (z .l) (z .axes) ws (wordAt (z .l) ws at) (omega (arith, h .words-long)) g
+                ∙ ap (λ (axes : List (List ℕ)). axes ++ (wordAt (z .l) ws at ∷ [])) (h .are)
+                ∙ sym (ap (λ (x : Store). x .axes) k);
+            within = subst (λ (n : ℕ). axisPlace (z .l) n ≤ z .limit) c (omega (arith, one-more (z .l) (z .axes)));
+            words-long =
+                omega (arith, h .words-long, put-length ws (axisPlace (z .l) (z .axes)) (wordAt (z .l) ws at) (omega (arith, h .words-long)));
+            numbers-long = omega (arith, h .numbers-long, o .long);
+          };
+          fits = omega (arith, ap (λ (x : Store). x .peak) k, sum);
+          room = λ _. subst (λ (n : ℕ). axisPlace (z .l) n + others ≤ z .limit) c (omega (arith, one-more (z .l) (z .axes)));
+          kept =
+              kept-put (z .limit - others) ws (axisPlace (z .l) (z .axes)) (wordAt (z .l) ws at) (omega arith) (omega (arith, h .words-long));
+          numbers = o;
+        }
 
-  new : st .peak ≤ limit → (id : ℕ) → id ≡ idOf (axesOf l n s) (wordAt l s at) → id ≡ n → sumWith l others n ≤ limit
-      → HasId l others limit n s st (wordAt l s at) id (put s (axisPlace l n) (wordAt l s at))
-  new p id e f h =
-      let k = intern-new l others st (wordAt l s at) (omega (arith, count, found)) in
-      let g : length (wordAt l s at) ≡ 2 * l = part-length s at (2 * l) (pre .word-in) in
-      let sum : sumWith l others (length (st .axes)) ≡ sumWith l others n = ap (sumWith l others) count in
-      record {
-        id-is = e ∙ sym found;
-        axes-are =
-            ap (λ (c : ℕ). axesOf l c (put s (axisPlace l n) (wordAt l s at))) (sym (count-new n id f))
-            ∙ axes-put l n s (wordAt l s at) (omega (arith, pre .inside)) g
-            ∙ ap (λ (axes : List (List ℕ)). axes ++ (wordAt l s at ∷ [])) (sym held)
-            ∙ sym (ap (λ (x : Store). x .axes) k);
-        fits = omega (arith, ap (λ (x : Store). x .peak) k, sum);
-        room = λ k. subst (λ (c : ℕ). axisPlace l c + others ≤ limit) (count-new n id f) (omega (arith, one-more l n));
-        kept = kept-put (limit - others) s (axisPlace l n) (wordAt l s at) (omega arith) (omega (arith, pre .inside));
-      }
+    none : idOf (storedAxes z ws) (wordAt (z .l) ws at) ≡ z .axes → z .limit < sumWith (z .l) others (z .axes)
+        → NoRoom z others ws xs st (wordAt (z .l) ws at) ws xs′
+    none e b =
+        let k = intern-new (z .l) others st (wordAt (z .l) ws at) (omega (arith, held-count h, found)) in
+        let sum : sumWith (z .l) others (length (st .axes)) ≡ sumWith (z .l) others (z .axes) = ap (sumWith (z .l) others) (held-count h) in
+        record { exceeds = omega (arith, ap (λ (x : Store). x .peak) k, sum); kept = refl; numbers = o }
 
-  none : idOf (axesOf l n s) (wordAt l s at) ≡ n → limit < sumWith l others n → NoRoom l others limit s st (wordAt l s at) s
-  none e h =
-      let k = intern-new l others st (wordAt l s at) (omega (arith, count, found)) in
-      let sum : sumWith l others (length (st .axes)) ≡ sumWith l others n = ap (sumWith l others) count in
-      record { exceeds = omega (arith, ap (λ (x : Store). x .peak) k, sum); kept = refl }
-
-  pub interned-is : {r : Interned} {t : List ℕ} → Stores l others limit n s at r t → st .peak ≤ limit
-      → InternedAs l others limit n s st (wordAt l s at) r t
-  interned-is {r} {t} h p = go (decLt (idOf (axesOf l n s) (wordAt l s at)) n) (decLt limit (sumWith l others n))
+  pub interned-is : {r : Interned} {ws′ xs′ : List ℕ} → Stores z others ws xs at r ws′ xs′ → st .peak ≤ z .limit
+      → InternedAs z others ws xs st (wordAt (z .l) ws at) r ws′ xs′
+  interned-is {r} {ws′} {xs′} s p =
+      go (decLt (idOf (storedAxes z ws) (wordAt (z .l) ws at)) (z .axes)) (decLt (z .limit) (sumWith (z .l) others (z .axes)))
     where
       -- there is one answer
-      so : {q : Interned} {u : List ℕ} → Stores l others limit n s at q u → InternedAs l others limit n s st (wordAt l s at) q u
-          → InternedAs l others limit n s st (wordAt l s at) r t
-      so k m = let e = stores-one h k in rw (e .0, e .1) m
+      so : {q : Interned} {vs : List ℕ} → Stores z others ws xs at q vs xs → InternedAs z others ws xs st (wordAt (z .l) ws at) q vs xs′
+          → InternedAs z others ws xs st (wordAt (z .l) ws at) r ws′ xs′
+      so k m = let e = stores-one s k in rw (e .0, e .1) m
 
-      last : (idOf (axesOf l n s) (wordAt l s at) < n → ⊥) → idOf (axesOf l n s) (wordAt l s at) ≡ n
-      last a = omega (arith, id-le (axesOf l n s) (wordAt l s at), axes-length l n s)
+      last : (idOf (storedAxes z ws) (wordAt (z .l) ws at) < z .axes → ⊥) → idOf (storedAxes z ws) (wordAt (z .l) ws at) ≡ z .axes
+      last a = omega (arith, id-le (storedAxes z ws) (wordAt (z .l) ws at), axes-length (z .l) (z .axes) ws)
 
-      go : Dec (idOf (axesOf l n s) (wordAt l s at) < n) → Dec (limit < sumWith l others n)
-          → InternedAs l others limit n s st (wordAt l s at) r t
-      go (yes a) d = so (stores-old l others limit n s at _ refl refl a) (old p _ refl a)
-      go (no a) (yes b) = so (stores-limit l others limit n s at _ refl refl refl (omega arith) b) (none (last a) b)
+      go : Dec (idOf (storedAxes z ws) (wordAt (z .l) ws at) < z .axes) → Dec (z .limit < sumWith (z .l) others (z .axes))
+          → InternedAs z others ws xs st (wordAt (z .l) ws at) r ws′ xs′
+      go (yes a) d = so (stores-old z others ws xs at _ refl refl a) (old (s .numbers) p _ refl a)
+      go (no a) (yes b) = so (stores-limit z others ws xs at _ refl refl refl (omega arith) b) (none (s .numbers) (last a) b)
       go (no a) (no b) =
-          so (stores-new l others limit n s at _ refl refl refl (omega arith) _ (omega arith) refl) (new p _ refl (last a) (omega arith))
+          so (stores-new z others ws xs at _ refl refl refl (omega arith) _ (omega arith) refl) (new (s .numbers) p _ refl (last a) (omega arith))

@@ -6,16 +6,38 @@ ghost use Rattle.store.specs.Equal.{sameList};
 ghost use Rattle.model.specs.Words.{anticommute, idOf, wordOf};
 ghost use Rattle.layout.specs.Words.{axisPlace};
 ghost use Rattle.axes.specs.View.{axesOf, wordAt};
+ghost use Rattle.axes.specs.Held.{sizesOf, storedAxes, Stored};
 ghost use Rattle.axes.specs.Find.{firstNonzero};
 ghost use Rattle.axes.specs.Intern.{InternPre, Stores, countWith};
+use layout::Shape;
 use pauli::anticommutes;
 use pauli::same;
 use store::copy_within;
+
+// Where axes lie and how many there are: the length of a row of the number store, the width of a word, the word limit, the number of axes.
+pub struct Sizes {
+    pub u: usize,
+    pub l: usize,
+    pub limit: usize,
+    pub axes: usize,
+}
 
 // Whether a word has an id: the limit may refuse a new one.
 pub enum Interned {
     Id(usize),
     ExpansionLimit,
+}
+
+// A run's sizes with so many axes.
+pub fn sizes_of(shape: Shape, axes: usize) -> Sizes
+    ensures { λ r. ⌜ r ≡ sizesOf shape axes ⌝ }
+{
+    Sizes {
+        u: shape.u,
+        l: shape.l,
+        limit: shape.limit,
+        axes,
+    }
 }
 
 // The word at a place, inside the store.
@@ -36,10 +58,11 @@ pub fn axis(words: &[u64], id: usize, l: usize) -> &[u64]
 }
 
 // Whether axes a and b anticommute.
-pub fn anticommute(words: &[u64], a: usize, b: usize, l: usize) -> bool
-    requires { ⌜ (axisPlace l a + 2 * l ≤ length (now words)) × (axisPlace l b + 2 * l ≤ length (now words)) ⌝ }
-    ensures { λ r. ⌜ ((n : ℕ) → a < n → b < n → r ≡ anticommute l (axesOf l n (now (words .entry))) a b) ⌝ }
+pub fn anticommute(words: &[u64], numbers: &[u32], z: Sizes, a: usize, b: usize) -> bool
+    requires { ⌜ Stored z (now words) (now numbers) × (a < z .axes) × (b < z .axes) ⌝ }
+    ensures { λ r. ⌜ r ≡ anticommute (z .l) (storedAxes z (now (words .entry))) a b ⌝ }
 {
+    let l = z.l;
     anticommutes(axis(words, a, l), axis(words, b, l), l)
 }
 
@@ -65,39 +88,39 @@ fn same_by(p: &[u64], w: &[u64], k: usize) -> bool
     same(p, w)
 }
 
-// The id of w among the count axes; count if it is none of them.
-pub fn find(words: &[u64], w: &[u64], count: usize, l: usize) -> usize
-    requires { ⌜ axisPlace l count ≤ length (now words) ⌝ }
-    ensures { λ r. ⌜ r ≡ idOf (axesOf l count (now (words .entry))) (now (w .entry)) ⌝ }
+// The id of w among the axes; their number if it is none of them.
+pub fn find(words: &[u64], numbers: &[u32], z: Sizes, w: &[u64]) -> usize
+    requires { ⌜ Stored z (now words) (now numbers) ⌝ }
+    ensures { λ r. ⌜ r ≡ idOf (storedAxes z (now (words .entry))) (now (w .entry)) ⌝ }
 {
     let k = first_nonzero(w);
+    let count = z.axes;
     for id in 0..count {
-        if same_by(axis(words, id, l), w, k) {
+        if same_by(axis(words, id, z.l), w, k) {
             return id;
         }
     }
     count
 }
 
-// The id of the word at a place, stored as axis count if it is new. The limit is tested with the others counted besides the axes.
+// The id of the word at a place, stored behind the axes if it is new. The limit is tested with the other words counted besides the axes.
 pub fn intern(
     words: &mut [u64],
-    at: usize,
-    count: usize,
+    numbers: &mut [u32],
+    z: Sizes,
     others: usize,
-    limit: usize,
-    l: usize,
+    at: usize,
 ) -> Interned
-    requires { ⌜ InternPre l others limit count (now words) at ⌝ }
-    ensures { λ r. ⌜ Stores l others limit count (now (words .entry)) at r (now (words .exit)) ⌝ }
+    requires { ⌜ InternPre z others (now words) (now numbers) at ⌝ }
+    ensures { λ r. ⌜ Stores z others (now (words .entry)) (now (numbers .entry)) at r (now (words .exit)) (now (numbers .exit)) ⌝ }
 {
-    let id = find(&words[..], word_at(&words[..], at, l), count, l);
-    if id < count {
+    let id = find(&words[..], &numbers[..], z, word_at(&words[..], at, z.l));
+    if id < z.axes {
         return Interned::Id(id);
     }
-    let n = 2 * l;
-    let end = layout::axis_at(l, count);
-    if limit < end + n + others {
+    let n = 2 * z.l;
+    let end = layout::axis_at(z.l, z.axes);
+    if z.limit < end + n + others {
         return Interned::ExpansionLimit;
     }
     copy_within(words, at, end, n);

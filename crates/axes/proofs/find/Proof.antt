@@ -1,8 +1,7 @@
 -- The loop's invariant: none of the first id axes is w. Assumes nothing.
 use Prim.Native.Nat.{_≤_, _-_}
 use Rattle.model.specs.Words.{idOf}
-use Rattle.layout.specs.Words.{slots-le}
-use Rattle.axes.specs.View.{axesOf}
+use Rattle.axes.specs.Held.{storedAxes, held-axis}
 use Rattle.axes.specs.Find.{id-here, id-next, id-none}
 use native.Mathlib.Omega.{arith}
 use borrow.Author.Needs.{needs}
@@ -10,10 +9,10 @@ use Rattle.axes.proofs.find.Statement.{statement}
 use Rattle.axes.proofs.find.Tie as tie
 
 abbrev Inv-loop : tie.InvT-loop
-Inv-loop words w count l k id₀ id = (id ≤ count) × (id ≤ idOf (axesOf l count words) w)
+Inv-loop words numbers z w k count id₀ id = (id ≤ z .axes) × (id ≤ idOf (storedAxes z words) w)
 
 abbrev μ-loop : tie.MeasureT-loop
-μ-loop words w count l k id₀ id = count - id
+μ-loop words numbers z w k count id₀ id = z .axes - id
 
 first-nonzero-requires : tie.Need-first-nonzero-requires Inv-loop μ-loop
 first-nonzero-requires c κs = search needs
@@ -22,16 +21,19 @@ loop-holds : tie.Need-loop-holds Inv-loop μ-loop
 loop-holds c = omega arith
 
 axis-requires : tie.Need-axis-requires Inv-loop μ-loop
-axis-requires c κs = let s = c .before .before .before .before .before in omega (arith, slots-le (s .args .l) _ _ (c .loop-test .taken))
+axis-requires c κs = held-axis (c .before .before .before .before .before .before .pre) _ (c .loop-test .taken)
 
 same-by-requires : tie.Need-same-by-requires Inv-loop μ-loop
 same-by-requires c κs = search needs
 
 returns : tie.Need-returns Inv-loop μ-loop
 returns c =
-    let turn = c .before .before .before in
-    id-here _ _ _ _ _ (turn .before .loop .inv .1) (turn .loop-test .taken)
-    (c .before .same-by .ensures) (c .if1 .taken) (c .before .before .axis .ensures _ (turn .loop-test .taken))
+    let same-by = c .before in
+    let axis = same-by .before in
+    let turn = axis .before in
+    let head = turn .before in
+    id-here _ _ _ _ _ (head .loop .inv .1) (turn .loop-test .taken) (same-by .same-by .ensures) (c .if1 .taken)
+    (axis .axis .ensures _ (turn .loop-test .taken))
 
 add-id : tie.Need-add-id Inv-loop μ-loop
 add-id c = omega arith
@@ -41,10 +43,12 @@ loop-less c = omega arith
 
 loop-again : tie.Need-loop-again Inv-loop μ-loop
 loop-again c =
-    let turn = c .before .before .before in
-    let more = id-next _ _ _ _ _ (turn .before .loop .inv .1) (turn .loop-test .taken)
-    (c .before .same-by .ensures) (c .if1 .left) (c .before .before .axis .ensures _ (turn .loop-test .taken)) in
-    (omega arith, more)
+    let same-by = c .before in
+    let axis = same-by .before in
+    let turn = axis .before in
+    let head = turn .before in
+    (omega arith, id-next _ _ _ _ _ (head .loop .inv .1) (turn .loop-test .taken) (same-by .same-by .ensures) (c .if1 .left)
+    (axis .axis .ensures _ (turn .loop-test .taken)))
 
 returns-2 : tie.Need-returns-2 Inv-loop μ-loop
 returns-2 c = id-none _ _ _ _ (omega arith)

@@ -15,8 +15,11 @@ find-requires c κs = search needs
 same-length : tie.Need-same-length
 same-length c = search needs
 
+same-length-2 : tie.Need-same-length-2
+same-length-2 c = search needs
+
 returns : tie.Need-returns
-returns c = let f = c .before in stores-old _ _ _ _ _ _ _ (f .find .ensures) (f .before .word-at .ensures) (c .if1 .taken)
+returns c = stores-old _ _ _ _ _ _ (c .before .before .find .ensures) (c .before .before .before .word-at .ensures) (c .if1 .taken)
 
 mul-n : tie.Need-mul-n
 mul-n c = search needs
@@ -30,29 +33,39 @@ add-if2 c = search needs
 add-if2-2 : tie.Need-add-if2-2
 add-if2-2 c = search needs
 
-same-length-2 : tie.Need-same-length-2
-same-length-2 c = search needs
+same-length-3 : tie.Need-same-length-3
+same-length-3 c = search needs
+
+same-length-4 : tie.Need-same-length-4
+same-length-4 c = search needs
 
 returns-2 : tie.Need-returns-2
 returns-2 c =
-    let end = c .before in
-    let f = end .before .before in
-    stores-limit _ _ _ _ _ _ _ (f .find .ensures) (f .before .word-at .ensures) (end .axis-at .ensures) (end .before .if1 .left) (c .if2 .taken)
+    let axis-at = c .before .before in
+    let test = axis-at .before .before in
+    let find = test .before .before in
+    let word-at = find .before in
+    stores-limit _ _ _ _ _ _ (find .find .ensures) (word-at .word-at .ensures) (axis-at .axis-at .ensures) (test .if1 .left) (c .if2 .taken)
 
 copy-within-requires : tie.Need-copy-within-requires
 copy-within-requires c κs = record { source = omega arith; target = omega arith; apart = inr (omega arith) }
 
-same-length-3 : tie.Need-same-length-3
-same-length-3 c = search needs
+same-length-5 : tie.Need-same-length-5
+same-length-5 c = search needs
+
+same-length-6 : tie.Need-same-length-6
+same-length-6 c = search needs
 
 returns-3 : tie.Need-returns-3
 returns-3 c =
-    let copy = c .before .before in
-    let room = copy .before .before in
-    let end = room .before in
-    let f = end .before .before in
-    stores-new _ _ _ _ _ _ _ (f .find .ensures) (f .before .word-at .ensures) (end .axis-at .ensures) (end .before .if1 .left)
-    _ (room .if2 .left) (copy .copy-within .ensures)
+    let copy-within = c .before .before in
+    let test = copy-within .before .before in
+    let axis-at = test .before .before in
+    let test′ = axis-at .before .before in
+    let find = test′ .before .before in
+    let word-at = find .before in
+    stores-new _ _ _ _ _ _ (find .find .ensures) (word-at .word-at .ensures) (axis-at .axis-at .ensures) (test′ .if1 .left) _
+    (test .if2 .left) (copy-within .copy-within .ensures)
 
 pub intern-spec : {M : Type 1} → statement M
 intern-spec =
@@ -61,13 +74,16 @@ intern-spec =
     word-at-requires
     find-requires
     same-length
+    same-length-2
     returns
     mul-n
     axis-at-requires
     add-if2
     add-if2-2
-    same-length-2
+    same-length-3
+    same-length-4
     returns-2
     copy-within-requires
-    same-length-3
+    same-length-5
+    same-length-6
     returns-3)
