@@ -6,7 +6,7 @@ use Rattle.model.specs.Program.{Job, programOf}
 use Rattle.model.specs.Rules.{rulesOf}
 use Rattle.model.specs.Run.{finished}
 use Rattle.model.specs.Checking.{Lent}
-use Rattle.model.specs.Rewriting.{accepted, afterEnding, rewriting}
+use Rattle.model.specs.Rewriting.{afterEnding, rewriting}
 use Rattle.theory.specs.Alike.{Alike, alike-program}
 use Rattle.theory.specs.Limit.{SameButLimit, SameResults}
 use Rattle.theory.specs.AcceptedRun.{finishOf}
