@@ -7,8 +7,8 @@ use Prim.Native.Nat.{ℕ, zero, suc, _+_, _%_}
 use lib.ListN.{length}
 use Rattle.model.specs.Lists.{if_then_else_, keep}
 use Rattle.model.specs.Items.{Rot, rot, Item, rotation, barrier, isNonzero, dropZeroRots, Segment, endSegment, rewriteFrom, rewriteSegments}
-use Rattle.model.specs.Exchange.{mergeBack, mergeLocally, improves, Cut, starts, ends, Triple, withEnds, withStarts, triples, shareAxis, Swap}
-use Rattle.model.specs.Exchange.{swapOf, tryExchange, tryExchanges, tryTriple, runEndFrom, Swapping, nextStart, runEnd, swapStep, swapsFrom, swaps}
+use Rattle.model.specs.Exchange.{mergeBack, mergeLocally, improves, Start, starts, End, ends, Triple, withEnds, withStarts, triples, shareAxis, Swap}
+use Rattle.model.specs.Exchange.{swapOf, tryExchange, tryExchanges, tryTriple, RunEnd, runEndFrom, Swapping, nextStart, runEnd, swapStep, swapsFrom, swaps}
 use Rattle.model.specs.Layering.{mergeInto, Layers, Shift, joinLayer, joinLayers, moveRotation, moveRotations, sweepFrom, sweep, dropZeroLayers}
 use Rattle.model.specs.Layering.{sweepsFrom, height, layerSegment}
 use Rattle.theory.specs.Cases.{by-if, on-if}
@@ -79,31 +79,34 @@ module _ (S R : Rot → Type 0) (kept : KeptByMerging S R) where
 
   -- ---- cuts and triples
 
-  abbrev CutR : Cut → Type 0
-  CutR c = AllR (c .front) × AllR (c .back)
+  abbrev StartR : Start → Type 0
+  StartR s = AllR (s .skipped) × AllR (s .suffix)
 
-  starts-by : (before rest : List Rot) → AllR before → AllR rest → Every CutR (starts before rest)
+  starts-by : (before rest : List Rot) → AllR before → AllR rest → Every StartR (starts before rest)
   unfolding starts
   starts-by before [] h k = tt
   starts-by before (r ∷ rest) h k = ((h, k), starts-by (before ++ (r ∷ [])) rest (every-one R before r h (k .0)) (k .1))
 
-  ends-by : (before rest : List Rot) → AllR before → AllR rest → Every CutR (ends before rest)
+  abbrev EndR : End → Type 0
+  EndR e = AllR (e .prefix) × AllR (e .remainder)
+
+  ends-by : (before rest : List Rot) → AllR before → AllR rest → Every EndR (ends before rest)
   unfolding ends
   ends-by before [] h k = tt
   ends-by before (r ∷ rest) h k =
       let one = every-one R before r h (k .0) in
-      every-one CutR (ends (before ++ (r ∷ [])) rest) (record { front = before ++ (r ∷ []); back = rest })
+      every-one EndR (ends (before ++ (r ∷ [])) rest) (record { prefix = before ++ (r ∷ []); remainder = rest })
       (ends-by (before ++ (r ∷ [])) rest one (k .1)) (one, k .1)
 
   abbrev TripleR : Triple → Type 0
-  TripleR t = AllR (t .before) × AllR (t .a) × AllR (t .b) × AllR (t .c) × AllR (t .after)
+  TripleR t = AllR (t .skipped) × AllR (t .a) × AllR (t .b) × AllR (t .c) × AllR (t .remainder)
 
-  withEnds-by : (b : List Rot) (s : Cut) (es : List Cut) → AllR b → CutR s → Every CutR es → Every TripleR (withEnds b s es)
+  withEnds-by : (b : List Rot) (s : Start) (es : List End) → AllR b → StartR s → Every EndR es → Every TripleR (withEnds b s es)
   unfolding withEnds
   withEnds-by b s [] hb hs he = tt
   withEnds-by b s (e ∷ es) hb hs he = ((hs .0, hs .1, hb, he .0 .0, he .0 .1), withEnds-by b s es hb hs (he .1))
 
-  withStarts-by : (b : List Rot) (ss es : List Cut) → AllR b → Every CutR ss → Every CutR es → Every TripleR (withStarts b ss es)
+  withStarts-by : (b : List Rot) (ss : List Start) (es : List End) → AllR b → Every StartR ss → Every EndR es → Every TripleR (withStarts b ss es)
   unfolding withStarts
   withStarts-by b [] es hb hs he = tt
   withStarts-by b (s ∷ ss) es hb hs he =
@@ -119,7 +122,7 @@ module _ (S R : Rot → Type 0) (kept : KeptByMerging S R) where
 
   abbrev SwapR : Option Swap → Type 0
   SwapR none = Unit {0}
-  SwapR (some s) = AllR (s .before) × AllR (s .new) × AllR (s .after)
+  SwapR (some s) = AllR (s .skipped) × AllR (s .new) × AllR (s .remainder)
 
   or-else : (x y : Option Swap) → SwapR x → SwapR y → SwapR (orElse x y)
   unfolding orElse
@@ -152,27 +155,30 @@ module _ (S R : Rot → Type 0) (kept : KeptByMerging S R) where
         or-else (if shareAxis eager (t .a) (t .c) then tryExchanges l axes eager t else none) (tryTriple l axes eager ts)
         (by-if SwapR _ _ _ (tryExchanges-by t (h .0)) tt) (tryTriple-by ts (h .1))
 
+  abbrev RunEndR : RunEnd → Type 0
+  RunEndR x = AllR (x .run) × AllR (x .rest)
+
   runEndFrom-by : (l : ℕ) (axes : List (List ℕ)) (window : ℕ) (taken rest : List Rot) → AllR taken → AllR rest
-      → CutR (runEndFrom l axes window taken rest)
+      → RunEndR (runEndFrom l axes window taken rest)
   unfolding runEndFrom
   runEndFrom-by l axes window taken [] h k = (h, tt)
   runEndFrom-by l axes window taken (r ∷ rest) h k =
-      by-if CutR _ _ _ (runEndFrom-by l axes window (taken ++ (r ∷ [])) rest (every-one R taken r h (k .0)) (k .1)) (h, k)
+      by-if RunEndR _ _ _ (runEndFrom-by l axes window (taken ++ (r ∷ [])) rest (every-one R taken r h (k .0)) (k .1)) (h, k)
 
   abbrev SwappingR : Swapping → Type 0
   SwappingR s = AllR (s .done) × AllR (s .rest)
 
-  nextStart-by : (first third : Cut) (s : Swapping) (o : Option Swap) → CutR first → CutR third → SwappingR s → SwapR o
+  nextStart-by : (first third : RunEnd) (s : Swapping) (o : Option Swap) → RunEndR first → RunEndR third → SwappingR s → SwapR o
       → SwappingR (nextStart first third s o)
   unfolding nextStart
-  nextStart-by first third s none ha hc hs ho = (every-append R (s .done) (first .front) (hs .0) (ha .0), ha .1)
+  nextStart-by first third s none ha hc hs ho = (every-append R (s .done) (first .run) (hs .0) (ha .0), ha .1)
   nextStart-by first third s (some x) ha hc hs ho = (
-    every-append R (s .done) (x .before ++ x .new) (hs .0) (every-append R (x .before) (x .new) (ho .0) (ho .1)),
-    every-append R (x .after) (third .back) (ho .2) (hc .1),
+    every-append R (s .done) (x .skipped ++ x .new) (hs .0) (every-append R (x .skipped) (x .new) (ho .0) (ho .1)),
+    every-append R (x .remainder) (third .rest) (ho .2) (hc .1),
   )
 
   module _ (l : ℕ) (axes : List (List ℕ)) (window candidates : ℕ) (eager : Bool) where
-    runEnd-by : (rest : List Rot) → AllR rest → CutR (runEnd l axes window rest)
+    runEnd-by : (rest : List Rot) → AllR rest → RunEndR (runEnd l axes window rest)
     unfolding runEnd
     runEnd-by rest h = runEndFrom-by l axes window [] rest tt h
 
@@ -183,14 +189,14 @@ module _ (S R : Rot → Type 0) (kept : KeptByMerging S R) where
     swapStep-by s h =
         let run = runEnd l axes window in
         let first = run (s .rest) in
-        let second = run (first .back) in
-        let third = run (second .back) in
+        let second = run (first .rest) in
+        let third = run (second .rest) in
         let ha = runEnd-by (s .rest) (h .1) in
-        let hb = runEnd-by (first .back) (ha .1) in
-        let hc = runEnd-by (second .back) (hb .1) in
-        let ts = triples candidates (first .front) (second .front) (third .front) in
+        let hb = runEnd-by (first .rest) (ha .1) in
+        let hc = runEnd-by (second .rest) (hb .1) in
+        let ts = triples candidates (first .run) (second .run) (third .run) in
         nextStart-by first third s (tryTriple l axes eager ts) ha hc h
-        (tryTriple-by l axes eager ts (triples-by candidates (first .front) (second .front) (third .front) (ha .0) (hb .0) (hc .0)))
+        (tryTriple-by l axes eager ts (triples-by candidates (first .run) (second .run) (third .run) (ha .0) (hb .0) (hc .0)))
 
     -- all swaps of a segment
     swapsFrom-by : (k : ℕ) (s : Swapping) → Every R (s .done) × Every R (s .rest)
