@@ -17,7 +17,7 @@ use Rattle.model.specs.Program.{fieldOf, largestOutcome, noOutcome, minu
 use Rattle.model.specs.Rules.{Rules, rulesOf}
 use Rattle.model.specs.Words.{support}
 use Rattle.model.specs.Rounds.{Work}
-use Rattle.model.specs.Run.{Ending, nonHermitian, finished, Run, run}
+use Rattle.model.specs.Run.{Ending, nonHermitian, finished, Run, run, underLimit}
 use Rattle.model.specs.Results.{operationResults, rowResults, countersOf}
 use Rattle.model.specs.Checking.{badCount, badOption, checkProgram}
 
@@ -160,7 +160,7 @@ endLines r p (finished f) =
     ∷ (map resultLine (operationResults p (f .end)) ++ (rowResults p (f .end) ++ letterLines (width (p .qubits)) 0 (f .end .store .axes)))
 
 unfoldable pub runLines : Rules → Program → ℕ → Run → List (List ℕ)
-runLines r p limit whole = if ltb limit (whole .peak) then refusalLines ExpansionLimit else endLines r p (whole .ending)
+runLines r p limit whole = underLimit limit whole (refusalLines ExpansionLimit) (endLines r p)
 
 -- "then as rewriting": the program's own stores are long enough, so 3 does not come up
 unfoldable pub listingChecks : Options → Job → Answer
