@@ -56,7 +56,7 @@ module _ (l : ℕ) (axes : List (List ℕ)) where
 
 -- ---- `improves`: a trial is merged locally, and kept if it is better
 
--- "fewer T, or, with eager swaps, no more T and fewer rotations"
+-- as the Rust says it: fewer T, or, with eager swaps, no more T and fewer rotations
 unfoldable pub isBetter : Bool → List Rot → List Rot → Bool
 isBetter eager new old =
     ltb (tCountRots new) (tCountRots old) || (eager && leb (tCountRots new) (tCountRots old) && ltb (length new) (length old))

@@ -95,7 +95,7 @@ readOf h nodes operations rows = record {
   limit = fieldOf h 3;
 }
 
--- "Input: qubits, nodes, operations, limit; nodes; operations; rows": the lines behind the first, h
+-- "Input: qubits, nodes, operations, limit", which is h; then the lines of nodes, operations and rows
 unfoldable pub readBody : List (List ℕ) → List ℕ → Option Read
 readBody lines h =
     let nodes = sliceOf 5 plainLine (take (fieldOf h 1) lines) in
@@ -152,7 +152,7 @@ unfoldable pub firstLine : Counters → Work → List ℕ
 firstLine c w =
     0 ∷ c .«t_before» ∷ c .«t_after» ∷ c .merges ∷ c .swaps ∷ c .«cliffords_to_frame» ∷ length (w .items) ∷ length (w .store .axes) ∷ []
 
--- "Output: ..; operations; rows; letters"
+-- behind the first line those of operations, rows and letters
 unfoldable pub endLines : Rules → Program → Ending → List (List ℕ)
 endLines r p nonHermitian = refusalLines NonHermitianAxis
 endLines r p (finished f) =

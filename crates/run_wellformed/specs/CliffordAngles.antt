@@ -57,7 +57,7 @@ even-angle (suc (suc (suc (suc (suc (suc zero)))))) h b e = six
 even-angle (suc (suc (suc (suc (suc (suc (suc zero))))))) h b e = absurd (false≢true e)
 even-angle (suc (suc (suc (suc (suc (suc (suc (suc k)))))))) h b e = absurd (omega arith)
 
--- what the test for "even, and there to be absorbed" says
+-- an angle that is even, and there to be absorbed, is not 0
 pub clifford-nonzero : (k : ℕ) → isClifford k ≡ true → 0 < k
 clifford-nonzero zero e = absurd (false≢true (and-right (isEven 0) false e))
 clifford-nonzero (suc k) e = omega arith

@@ -1,4 +1,4 @@
--- Demand 3, "equal rounds give equal results and counters": two accepted calls of Rewriting alike but for the limit. Assumes nothing.
+-- Demand 3, equal rounds give equal results and counters: two accepted calls of Rewriting alike but for the limit. Assumes nothing.
 use mathlib.Core.Path.{_≡_, refl, _∙_}
 use Rattle.model.specs.declared.Options.{Options}
 use Rattle.model.specs.declared.Answer.the-variants.{Accepted}
