@@ -241,7 +241,7 @@ module _ (l : ℕ) where
   letter-none : (F : Cliff (packed l)) (q : ℕ) → q < 64 * l → F .im (letterWord q 0) ≡ (q0, one l)
   letter-none F q b = ap (F .im) (packed-ext l (letterWord q 0) (one l) (single-none l q b)) ∙ F .im-unit
 
-  -- "the product of its letters' images, qubits rising" is the image of the word under F
+  -- the product of a word's letters' images, qubits rising, is the image of the word under F
   pub holds-image : (held : List Images) (F : Cliff (packed l)) → Holds held F → (w : List ℕ) (h : IsWord l w)
       → wordImage l held w ≡ valueOf l (F .im (w, h .long))
   unfolding carryRow walk multiplyImages wordImage

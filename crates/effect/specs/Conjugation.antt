@@ -24,7 +24,7 @@ module _ (H : Setting) where
 
   infixl 65 _⊕_
   -- the image of P under the even rotation by e about B, with its phase in front:
-  -- "changes each P that anticommutes with B: k = 2 gives iBP, k = -2 gives -iBP, k = 4 gives -P"
+  -- "changes each held image P that anticommutes with B: k = 2 gives iBP, k = -2 gives -iBP, k = 4 gives -P"
   abbrev pub conjAt : Bool → Eighth → W → W → Quarter × W
   conjAt false e B P = (q0, P)
   conjAt true e0 B P = (q0, P)
@@ -39,7 +39,7 @@ module _ (H : Setting) where
   unfoldable pub conj : Eighth → W → W → Quarter × W
   conj e B P = conjAt (odd (ph B P)) e B P
 
-  -- the angle about the carried axis: "rotations take their sign into the angle"
+  -- the angle about the carried axis: the sign is taken into the angle
   abbrev pub turned : Quarter → Eighth → Eighth
   turned q0 k = k
   turned q1 k = k

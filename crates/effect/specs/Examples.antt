@@ -3,6 +3,7 @@ use mathlib.Core.Path.{_≡_, refl}
 use mathlib.Core.List.{List, [], _∷_, map}
 use mathlib.Core.Bool.{Bool, true, false}
 use Prim.Native.Nat.{ℕ}
+use lib.Dec.{eqb}
 use lib.IntN.{ℤ, pos, negsuc}
 use Rattle.bits.specs.Popcount.{popcount, popcountIn}
 use Rattle.store.specs.Equal.{sameList}
@@ -61,6 +62,14 @@ always b m = b
 abbrev at : Bool → List (Op (Packed 1)) → Packed 1 → Packed 1 → ℤ × ℤ
 at b ops Q R = effect (packed 1) (always b) ops (word (packed 1) Q) R
 
+-- outcome 1 is 1, every other 0
+abbrev second : ℕ → Bool
+second m = eqb m 1
+
+-- the same program, where outcomes differ
+abbrev differing : List (Op (Packed 1)) → Packed 1 → Packed 1 → ℤ × ℤ
+differing ops Q R = effect (packed 1) second ops (word (packed 1) Q) R
+
 pub record Worked : Type 0 where
   -- "Absorbing Z: k = 2 takes X to -Y, -2 to Y, 4 to -X"
   pub absorb-2-sign : conj (packed 1) e2 Z X .0 ≡ q2
@@ -80,6 +89,13 @@ pub record Worked : Type 0 where
   -- a conditional rotation whose outcome is 0 doubles, and turns where it is 1
   pub idle : at false (conditional e4 Z 0 ∷ []) X X ≡ (pos 2, pos 0)
   pub active : at true (conditional e4 Z 0 ∷ []) X X ≡ (negsuc 1, pos 0)
+  -- each measurement has its own outcome: 0 of ZI and 1 of IZ take I to I + ZI - IZ - ZZ; with 0 of both it is I + ZI + IZ + ZZ
+  pub first-measured : differing (measured plus ZI 0 ∷ measured plus IZ 1 ∷ []) I ZI ≡ (pos 1, pos 0)
+  pub second-measured : differing (measured plus ZI 0 ∷ measured plus IZ 1 ∷ []) I IZ ≡ (negsuc 0, pos 0)
+  pub both-zero : at false (measured plus ZI 0 ∷ measured plus IZ 1 ∷ []) I IZ ≡ (pos 1, pos 0)
+  -- and a conditional rotation goes by the outcome that it names
+  pub idle-by-first : differing (conditional e4 Z 0 ∷ []) X X ≡ (pos 2, pos 0)
+  pub active-by-second : differing (conditional e4 Z 1 ∷ []) X X ≡ (negsuc 1, pos 0)
   -- last to first: Y goes to -2 Z about X, then to -4 Z about Z
   pub backwards : at false (plain e2 Z ∷ plain e2 X ∷ []) Y Z ≡ (negsuc 3, pos 0)
   -- no rotation passes a measurement: Y goes to -2 Z about X, and then to -2 Z - 2 I; but it vanishes if Z is measured first
@@ -111,6 +127,11 @@ worked = record {
   lost-x = refl;
   idle = refl;
   active = refl;
+  first-measured = refl;
+  second-measured = refl;
+  both-zero = refl;
+  idle-by-first = refl;
+  active-by-second = refl;
   backwards = refl;
   measured-after = refl;
   measured-before = refl;

@@ -2,6 +2,7 @@
 use mathlib.Core.Path.{_≡_, refl, sym, _∙_, ap, ap₂, fun-ext}
 use mathlib.Core.List.{[], _∷_}
 use mathlib.Core.Bool.{Bool, true, false}
+use Prim.Native.Nat.{ℕ}
 use Rattle.groups.specs.Abelian.{Ab, zer-add, map-zer, dbl}
 use Rattle.groups.specs.Root.{Root, at, ∅, _⊞_, ⊟_, lin}
 use Rattle.groups.specs.Eighth.{Eighth, e0, e1, e2, e3, e4, e5, e6, e7, isEvenE}
@@ -9,7 +10,7 @@ use Rattle.groups.specs.Real.{cos2, sin2, rot-still, rot-plane}
 use Rattle.effect.specs.Phase.{Quarter, odd, neg4, Sgn, plus, minus, _·ˢ_, σ, τ, σ-even, τ-odd, σ-back, τ-back, τ-one, τ-three}
 use Rattle.effect.specs.Words.{Words, Setting}
 use Rattle.effect.specs.Signs.{act, act-add}
-use Rattle.effect.specs.Effect.{pick, sums, sumsRoot, times, J, A, rotate, measure, word}
+use Rattle.effect.specs.Effect.{conditional, pick, sums, sumsRoot, times, J, A, rotate, measure, given, step, word}
 use Rattle.effect.specs.Generators.{times-add, times-real, Commute}
 use Rattle.effect.specs.Operators.{rotate-is, measure-is, sgn, sgn-map, sgn-mul}
 use Rattle.effect.specs.Conjugation.{conj, conjAt}
@@ -100,6 +101,17 @@ module _ (H : Setting) where
     where
       back : A H P (A H P (word H Q)) ≡ word H Q
       back = ap (A H P) (times-word τ P Q) ∙ times-word-twice τ P Q ∙ ap (λ s. sgn H s (word H Q)) (τ-back (ph P Q) h)
+
+  -- "A conditional rotation whose outcome is 0 doubles all"
+  pub conditional-zero : (o : ℕ → Bool) (e : Eighth) (P : W) (m : ℕ) (f : W → K .C) → o m ≡ false → step H o (conditional e P m) f ≡ dbl S f
+  unfolding step
+  conditional-zero o e P m f h = ap (λ b. given H b e P f) h
+
+  -- and whose outcome is 1 rotates
+  pub conditional-one : (o : ℕ → Bool) (e : Eighth) (P : W) (m : ℕ) (f : W → K .C) → o m ≡ true
+      → step H o (conditional e P m) f ≡ rotate H e P f
+  unfolding step
+  conditional-one o e P m f h = ap (λ b. given H b e P f) h
 
   -- an even rotation takes a word to twice its image
   even-at : (b : Bool) (e : Eighth) (B Q : W) → odd (ph B Q) ≡ b → isEvenE e ≡ true

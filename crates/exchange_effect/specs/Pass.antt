@@ -6,13 +6,14 @@ use Rattle.model.specs.Exchange.{swaps}
 use Rattle.model.specs.Rounds.{Work, exchangePass}
 use Rattle.theory.specs.Cases.{by-if}
 use Rattle.theory.specs.Every.{Every}
+use Rattle.theory.specs.Segments.{rewriteSegments-every}
 use Rattle.effect.specs.Words.{Setting}
 use Rattle.effect.specs.Effect.{Op}
 use Rattle.effect.specs.Effect as Effect
 use Rattle.effect.specs.Equal.{≈-refl}
 use Rattle.items_effect.specs.Ops.{itemOps}
 use Rattle.items_effect.specs.AxisWords.{AxisWords, Sound}
-use Rattle.items_effect.specs.Segments.{OnRotation, rewriteSegments-effect, rewriteSegments-every}
+use Rattle.items_effect.specs.Segments.{OnRotation, rewriteSegments-effect}
 use Rattle.exchange_effect.specs.Swaps.{swaps-effect, swaps-sound}
 
 -- rotations about stored axes, with angles below 8
@@ -42,5 +43,5 @@ module _ (H : Setting) (l : ℕ) (r : Rules) (w : Work) (A : AxisWords H l (w .s
   exchangePass-sound =
       let axes = w .store .axes in
       by-if SoundItems _ _ _ sound
-      (rewriteSegments-every (Sound axes) (swaps l axes (r .window) (r .candidates) (r .eager))
+      (rewriteSegments-every (Sound axes) (OnRotation (Sound axes)) (λ t h. h) (λ t h. h) (swaps l axes (r .window) (r .candidates) (r .eager))
       (swaps-sound H l axes A (r .window) (r .candidates) (r .eager)) (w .items) sound)

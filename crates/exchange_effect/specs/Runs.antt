@@ -9,7 +9,7 @@ use lib.ListN.{length}
 use Rattle.model.specs.Lists.{allOf}
 use Rattle.model.specs.Words.{anticommute}
 use Rattle.model.specs.Items.{Rot}
-use Rattle.model.specs.Exchange.{Cut, starts, ends, Triple, withEnds, withStarts, triples, runEndFrom, runEnd}
+use Rattle.model.specs.Exchange.{Start, starts, End, ends, Triple, withEnds, withStarts, triples, RunEnd, runEndFrom, runEnd}
 use Rattle.theory.specs.Cases.{on-if, and-right}
 use Rattle.theory.specs.Every.{Every, every-append, every-one, every-take, every-left, every-right, every-weaken}
 use Rattle.effect.specs.Words.{Words, Setting}
@@ -89,8 +89,8 @@ module _ (H : Setting) (l : ℕ) (axes : List (List ℕ)) (A : AxisWords H l axe
   )
 
   -- a run in front, and what is left
-  abbrev pub RunOf : List Rot → Cut → Type 0
-  RunOf g c = IsRun (c .front) × Every (Sound axes) (c .back) × (c .front ++ c .back ≡ g)
+  abbrev pub RunOf : List Rot → RunEnd → Type 0
+  RunOf g x = IsRun (x .run) × Every (Sound axes) (x .rest) × (x .run ++ x .rest ≡ g)
 
   runEndFrom-run : (window : ℕ) (taken rest : List Rot) → IsRun taken → AllSound rest → RunOf (taken ++ rest) (runEndFrom l axes window taken rest)
   unfolding runEndFrom
@@ -110,31 +110,34 @@ module _ (H : Setting) (l : ℕ) (axes : List (List ℕ)) (A : AxisWords H l axe
 
 -- ---- "starts rising, ends falling"
 
-abbrev CutOf : List Rot → Cut → Type 0
-CutOf g c = c .front ++ c .back ≡ g
+abbrev StartOf : List Rot → Start → Type 0
+StartOf g s = s .skipped ++ s .suffix ≡ g
 
-starts-cut : (g before rest : List Rot) → before ++ rest ≡ g → Every (CutOf g) (starts before rest)
+abbrev EndOf : List Rot → End → Type 0
+EndOf g e = e .prefix ++ e .remainder ≡ g
+
+starts-cut : (g before rest : List Rot) → before ++ rest ≡ g → Every (StartOf g) (starts before rest)
 unfolding starts
 starts-cut g before [] e = tt
 starts-cut g before (r ∷ rest) e = (e, starts-cut g (before ++ (r ∷ [])) rest (append-assoc before (r ∷ []) rest ∙ e))
 
-ends-cut : (g before rest : List Rot) → before ++ rest ≡ g → Every (CutOf g) (ends before rest)
+ends-cut : (g before rest : List Rot) → before ++ rest ≡ g → Every (EndOf g) (ends before rest)
 unfolding ends
 ends-cut g before [] e = tt
 ends-cut g before (r ∷ rest) e =
     let one = append-assoc before (r ∷ []) rest ∙ e in
-    every-append (CutOf g) (ends (before ++ (r ∷ [])) rest) _ (ends-cut g (before ++ (r ∷ [])) rest one) (one, tt)
+    every-append (EndOf g) (ends (before ++ (r ∷ [])) rest) _ (ends-cut g (before ++ (r ∷ [])) rest one) (one, tt)
 
 -- a suffix of a, the whole of b, a prefix of c
 abbrev pub TripleOf : List Rot → List Rot → List Rot → Triple → Type 0
-TripleOf a b c t = (t .before ++ t .a ≡ a) × (t .b ≡ b) × (t .c ++ t .after ≡ c)
+TripleOf a b c t = (t .skipped ++ t .a ≡ a) × (t .b ≡ b) × (t .c ++ t .remainder ≡ c)
 
-withEnds-of : (a b c : List Rot) (s : Cut) (es : List Cut) → CutOf a s → Every (CutOf c) es → Every (TripleOf a b c) (withEnds b s es)
+withEnds-of : (a b c : List Rot) (s : Start) (es : List End) → StartOf a s → Every (EndOf c) es → Every (TripleOf a b c) (withEnds b s es)
 unfolding withEnds
 withEnds-of a b c s [] hs he = tt
 withEnds-of a b c s (e ∷ es) hs he = ((hs, refl, he .0), withEnds-of a b c s es hs (he .1))
 
-withStarts-of : (a b c : List Rot) (ss es : List Cut) → Every (CutOf a) ss → Every (CutOf c) es → Every (TripleOf a b c) (withStarts b ss es)
+withStarts-of : (a b c : List Rot) (ss : List Start) (es : List End) → Every (StartOf a) ss → Every (EndOf c) es → Every (TripleOf a b c) (withStarts b ss es)
 unfolding withStarts
 withStarts-of a b c [] es hs he = tt
 withStarts-of a b c (s ∷ ss) es hs he =

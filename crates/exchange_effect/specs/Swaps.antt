@@ -8,8 +8,8 @@ use native.Mathlib.Omega.{arith}
 use lib.ListN.{length}
 use Rattle.model.specs.Lists.{if_then_else_}
 use Rattle.model.specs.Items.{Rot, isNonzero, dropZeroRots}
-use Rattle.model.specs.Exchange.{generatorsCommute, mergeBack, mergeLocally, improves, Cut, Triple, triples, shareAxis, Swap, swapOf, tryExchange}
-use Rattle.model.specs.Exchange.{tryExchanges, tryTriple, Swapping, nextStart, runEnd, swapStep, swapsFrom, swaps}
+use Rattle.model.specs.Exchange.{generatorsCommute, mergeBack, mergeLocally, improves, Triple, triples, shareAxis, Swap, swapOf, tryExchange}
+use Rattle.model.specs.Exchange.{tryExchanges, tryTriple, RunEnd, Swapping, nextStart, runEnd, swapStep, swapsFrom, swaps}
 use Rattle.theory.specs.Cases.{by-if, on-if}
 use Rattle.theory.specs.Every.{Every, every-append, every-keep, every-reverse, every-left, every-right}
 use Rattle.effect.specs.Words.{Setting}
@@ -86,24 +86,24 @@ module _ (H : Setting) (l : ℕ) (axes : List (List ℕ)) (A : AxisWords H l axe
   -- a swap keeps the effect of the rotations that it replaces
   abbrev Kept : List Rot → Option Swap → Type 0
   Kept whole none = Unit {0}
-  Kept whole (some x) = ((x .before ++ (x .new ++ x .after)) ≋ whole) × Every S (x .before) × Every S (x .new) × Every S (x .after)
+  Kept whole (some x) = ((x .skipped ++ (x .new ++ x .remainder)) ≋ whole) × Every S (x .skipped) × Every S (x .new) × Every S (x .remainder)
 
   abbrev inner : Triple → List Rot
   inner t = t .a ++ (t .b ++ t .c)
 
   abbrev outer : Triple → List Rot
-  outer t = t .before ++ (inner t ++ t .after)
+  outer t = t .skipped ++ (inner t ++ t .remainder)
 
   -- the parts of a triple: runs, and sound rotations around them
   abbrev Parts : Triple → Type 0
-  Parts t = Every S (t .before) × Run (t .a) × Run (t .b) × Run (t .c) × Every S (t .after)
+  Parts t = Every S (t .skipped) × Run (t .a) × Run (t .b) × Run (t .c) × Every S (t .remainder)
 
   made-kept : (t : Triple) (trial : List Rot) → Parts t → trial ≋ inner t
       → (o : Option (List Rot)) → Improved trial o → Kept (outer t) (Option·map (swapOf t) o)
   made-kept t trial p e none h = tt
   made-kept t trial p e (some new) h = (
-    ≋-before H (A .word) (t .before) (new ++ t .after) (inner t ++ t .after)
-        (≋-after H (A .word) new (inner t) (t .after) (≋-trans H (A .word) new trial (inner t) (h .0) e)),
+    ≋-before H (A .word) (t .skipped) (new ++ t .remainder) (inner t ++ t .remainder)
+        (≋-after H (A .word) new (inner t) (t .remainder) (≋-trans H (A .word) new trial (inner t) (h .0) e)),
     p .0,
     h .1,
     p .4,
@@ -156,16 +156,16 @@ module _ (H : Setting) (l : ℕ) (axes : List (List ℕ)) (A : AxisWords H l axe
       parts-of t h =
           let front = rw (sym (h .0)) at ra in
           let back = rw (sym (h .2)) at rc in (
-            every-left S (t .before) (t .a) (front .0),
-            run-right H l axes A (t .before) (t .a) front,
+            every-left S (t .skipped) (t .a) (front .0),
+            run-right H l axes A (t .skipped) (t .a) front,
             rw (h .1) rb,
-            run-left H l axes A (t .c) (t .after) back,
-            every-right S (t .c) (t .after) (back .0),
+            run-left H l axes A (t .c) (t .remainder) back,
+            every-right S (t .c) (t .remainder) (back .0),
           )
 
       outer-of : (t : Triple) → TripleOf a b c t → outer t ≡ a ++ (b ++ c)
       outer-of t h =
-          let regroup : outer t ≡ (t .before ++ t .a) ++ (t .b ++ (t .c ++ t .after)) = simp append-assoc in
+          let regroup : outer t ≡ (t .skipped ++ t .a) ++ (t .b ++ (t .c ++ t .remainder)) = simp append-assoc in
           regroup ∙ ap₂ (λ (x y : List Rot). x ++ y) (h .0) (ap₂ (λ (x y : List Rot). x ++ y) (h .1) (h .2))
 
       tryTriple-kept : (ts : List Triple) → Every (TripleOf a b c) ts → Kept (a ++ (b ++ c)) (tryTriple l axes eager ts)
@@ -185,34 +185,34 @@ module _ (H : Setting) (l : ℕ) (axes : List (List ℕ)) (A : AxisWords H l axe
   abbrev pub Swapped : List Rot → Swapping → Type 0
   Swapped whole s = Rotations._≋_ H (A .word) (s .done ++ s .rest) whole × Every (Sound axes) (s .done) × Every (Sound axes) (s .rest)
 
-  nextStart-swapped : (first third : Cut) (s : Swapping) (m : List Rot) (o : Option Swap) → Kept m o → Every S (s .done)
-      → RunOf H l axes A (s .rest) first → Every S (third .back) → m ++ third .back ≡ s .rest
+  nextStart-swapped : (first third : RunEnd) (s : Swapping) (m : List Rot) (o : Option Swap) → Kept m o → Every S (s .done)
+      → RunOf H l axes A (s .rest) first → Every S (third .rest) → m ++ third .rest ≡ s .rest
       → Swapped (s .done ++ s .rest) (nextStart first third s o)
   unfolding nextStart
   nextStart-swapped first third s m none k h f t e = (
-    ≋-eq H (A .word) ((s .done ++ first .front) ++ first .back) (s .done ++ s .rest)
-        (append-assoc (s .done) (first .front) (first .back) ∙ ap (λ (x : List Rot). s .done ++ x) (f .2)),
-    every-append S (s .done) (first .front) h (f .0 .0),
+    ≋-eq H (A .word) ((s .done ++ first .run) ++ first .rest) (s .done ++ s .rest)
+        (append-assoc (s .done) (first .run) (first .rest) ∙ ap (λ (x : List Rot). s .done ++ x) (f .2)),
+    every-append S (s .done) (first .run) h (f .0 .0),
     f .1,
   )
   nextStart-swapped first third s m (some x) k h f t e = (
     ≋-along H (A .word) regroup (ap (λ (y : List Rot). s .done ++ y) (sym e)) replaced,
-    every-append S (s .done) (x .before ++ x .new) h (every-append S (x .before) (x .new) (k .1) (k .2)),
-    every-append S (x .after) (third .back) (k .3) t,
+    every-append S (s .done) (x .skipped ++ x .new) h (every-append S (x .skipped) (x .new) (k .1) (k .2)),
+    every-append S (x .remainder) (third .rest) (k .3) t,
   )
     where
       swapped : List Rot
-      swapped = x .before ++ (x .new ++ x .after)
+      swapped = x .skipped ++ (x .new ++ x .remainder)
 
-      regroup : (s .done ++ (x .before ++ x .new)) ++ (x .after ++ third .back) ≡ s .done ++ (swapped ++ third .back)
+      regroup : (s .done ++ (x .skipped ++ x .new)) ++ (x .remainder ++ third .rest) ≡ s .done ++ (swapped ++ third .rest)
       regroup = simp append-assoc
 
-      replaced : (s .done ++ (swapped ++ third .back)) ≋ (s .done ++ (m ++ third .back))
+      replaced : (s .done ++ (swapped ++ third .rest)) ≋ (s .done ++ (m ++ third .rest))
       replaced =
-          ≋-before H (A .word) (s .done) (swapped ++ third .back) (m ++ third .back) (≋-after H (A .word) swapped m (third .back) (k .0))
+          ≋-before H (A .word) (s .done) (swapped ++ third .rest) (m ++ third .rest) (≋-after H (A .word) swapped m (third .rest) (k .0))
 
   module _ (window candidates : ℕ) (eager : Bool) where
-    abbrev run : List Rot → Cut
+    abbrev run : List Rot → RunEnd
     run g = runEnd l axes window g
 
     pub swapStep-effect : (s : Swapping) → Every S (s .done) → Every S (s .rest)
@@ -222,36 +222,36 @@ module _ (H : Setting) (l : ℕ) (axes : List (List ℕ)) (A : AxisWords H l axe
         nextStart-swapped first third s (a ++ (b ++ c)) (tryTriple l axes eager (triples candidates a b c))
         (tryTriple-effect eager a b c (r1 .0) (r2 .0) (r3 .0) candidates) h r1 (r3 .1) whole
       where
-        first : Cut
+        first : RunEnd
         first = run (s .rest)
 
-        second : Cut
-        second = run (first .back)
+        second : RunEnd
+        second = run (first .rest)
 
-        third : Cut
-        third = run (second .back)
+        third : RunEnd
+        third = run (second .rest)
 
         a : List Rot
-        a = first .front
+        a = first .run
 
         b : List Rot
-        b = second .front
+        b = second .run
 
         c : List Rot
-        c = third .front
+        c = third .run
 
         r1 : RunOf H l axes A (s .rest) first
         r1 = runEnd-run H l axes A window candidates eager (s .rest) k
 
-        r2 : RunOf H l axes A (first .back) second
-        r2 = runEnd-run H l axes A window candidates eager (first .back) (r1 .1)
+        r2 : RunOf H l axes A (first .rest) second
+        r2 = runEnd-run H l axes A window candidates eager (first .rest) (r1 .1)
 
-        r3 : RunOf H l axes A (second .back) third
-        r3 = runEnd-run H l axes A window candidates eager (second .back) (r2 .1)
+        r3 : RunOf H l axes A (second .rest) third
+        r3 = runEnd-run H l axes A window candidates eager (second .rest) (r2 .1)
 
-        whole : (a ++ (b ++ c)) ++ third .back ≡ s .rest
+        whole : (a ++ (b ++ c)) ++ third .rest ≡ s .rest
         whole =
-            let regroup : (a ++ (b ++ c)) ++ third .back ≡ a ++ (b ++ (c ++ third .back)) = simp append-assoc in
+            let regroup : (a ++ (b ++ c)) ++ third .rest ≡ a ++ (b ++ (c ++ third .rest)) = simp append-assoc in
             regroup ∙ ap (λ (x : List Rot). a ++ (b ++ x)) (r3 .2) ∙ ap (λ (x : List Rot). a ++ x) (r2 .2) ∙ r1 .2
 
     pub swapsFrom-effect : (k : ℕ) (s : Swapping) → Every S (s .done) → Every S (s .rest)

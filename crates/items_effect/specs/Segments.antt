@@ -1,10 +1,9 @@
--- `rewrite_segments`: what keeps the effect of every segment keeps the effect of the items, and what holds of every rotation still does.
--- Assumes nothing.
+-- `rewrite_segments`: what keeps the effect of every segment keeps the effect of the items. Assumes nothing.
 use mathlib.Core.Path.{_≡_}
 use mathlib.Core.List.{List, [], _∷_, _++_, map, append-assoc, append-nil}
 use Prim.Native.Nat.{ℕ, _+_}
 use Rattle.model.specs.Items.{Rot, Item, rotation, barrier, Segment, endSegment, rewriteFrom, rewriteSegments}
-use Rattle.theory.specs.Every.{Every, every-append, every-one, every-map}
+use Rattle.theory.specs.Every.{Every, every-one}
 use Rattle.effect.specs.Words.{Setting}
 use Rattle.effect.specs.Effect.{Op}
 use Rattle.effect.specs.Effect as Effect
@@ -56,27 +55,3 @@ module _ (H : Setting) (word : ℕ → H .words .W) (barrierOp : ℕ → ℕ →
         → Effect._≈_ H (itemOps word barrierOp (rewriteSegments f is .items)) (itemOps word barrierOp is)
     unfolding rewriteSegments
     rewriteSegments-effect is h = rewriteFrom-effect [] [] 0 is tt h
-
--- ---- what holds of every rotation still does, if it does in each segment
-
-module _ (P : Rot → Type 0) (f : List Rot → Segment) (keeps : (seg : List Rot) → Every P seg → Every P (f seg .rots)) where
-  rotations-every : (g : List Rot) → Every P g → Every (OnRotation P) (map rotation g)
-  rotations-every g h = every-map P (OnRotation P) rotation (λ r k. k) g h
-
-  endSegment-every : (done : List Item) (seg : List Rot) → Every (OnRotation P) done → Every P seg → Every (OnRotation P) (endSegment f done seg)
-  unfolding endSegment
-  endSegment-every done seg h k = every-append (OnRotation P) done (map rotation (f seg .rots)) h (rotations-every (f seg .rots) (keeps seg k))
-
-  rewriteFrom-every : (done : List Item) (seg : List Rot) (c : ℕ) (is : List Item)
-      → Every (OnRotation P) done → Every P seg → Every (OnRotation P) is → Every (OnRotation P) (rewriteFrom f done seg c is .items)
-  unfolding rewriteFrom
-  rewriteFrom-every done seg c [] h k g = endSegment-every done seg h k
-  rewriteFrom-every done seg c (rotation r ∷ is) h k g = rewriteFrom-every done (seg ++ (r ∷ [])) c is h (every-one P seg r k (g .0)) (g .1)
-  rewriteFrom-every done seg c (barrier o a s ∷ is) h k g =
-      rewriteFrom-every (endSegment f done seg ++ (barrier o a s ∷ [])) [] (c + f seg .changes) is
-      (every-one (OnRotation P) (endSegment f done seg) (barrier o a s) (endSegment-every done seg h k) tt) tt (g .1)
-
-  -- P holds of every rotation of the items
-  pub rewriteSegments-every : (is : List Item) → Every (OnRotation P) is → Every (OnRotation P) (rewriteSegments f is .items)
-  unfolding rewriteSegments
-  rewriteSegments-every is h = rewriteFrom-every [] [] 0 is tt tt h

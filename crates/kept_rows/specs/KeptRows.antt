@@ -13,7 +13,7 @@ use Rattle.model.specs.Value.{valueAt}
 use Rattle.model.specs.Roots.{isRoot, rootRows, operationRoot, roots}
 use Rattle.model.specs.Packing.{valuesOf, packed, SignedAxis, signedAxis}
 use Rattle.model.specs.Clifford.{wordImage}
-use Rattle.model.specs.Items.{Rot, Item, stays, dropZeros}
+use Rattle.model.specs.Items.{Item, stays, dropZeros}
 use Rattle.model.specs.Stream.{Pass, Rowed, carryAxis, stream, carryRowsFrom, carryRows, begin}
 use Rattle.model.specs.Exchange.{swaps}
 use Rattle.model.specs.Layering.{layerSegment}
@@ -23,12 +23,12 @@ use Rattle.theory.specs.Cases.{by-if}
 use Rattle.theory.specs.Every.{Every, every-append, every-keep, every-left, every-weaken, every-unmap}
 use Rattle.theory.specs.Ids.{id-word, Grows, grows-refl, grows-trans, intern-grows}
 use Rattle.theory.specs.StreamState.{axisOf}
+use Rattle.theory.specs.SegmentAxes.{swaps-has, layerSegment-has, rewriteSegments-in}
 use Rattle.theory.specs.PackedRoots.{In, Rooted, packed-rooted}
 use Rattle.theory.specs.Checked.{RowIn, Fine}
 use Rattle.theory.specs.Hermitian.{in-every, every-in, roots-in}
 use Rattle.words_wellformed.specs.StoredWords.{StoredWords}
 use Rattle.run_wellformed.specs.CliffordAngles.{TurnsItem}
-use Rattle.run_wellformed.specs.Segments.{KeptByMerging, swaps-by, layerSegment-by, rewriteSegments-every}
 use Rattle.run_wellformed.specs.Points.{Reached, start, streamed, exchanged, layered, reached-formed, start-formed}
 use Rattle.run_wellformed.specs.Signs.{point-well}
 use Rattle.kept_rows.specs.Mentions.{node-word, row-commutes}
@@ -79,25 +79,19 @@ module _ (l : ℕ) (v : List ℕ) (word : IsWord l v) where
         (λ i k. free-more l v (carryRows-grows l p (w .rows)) (axisOf i) (k .0)) (keep stays (p .out))
         (every-keep (FreePut l v (p .store .axes)) stays (p .out) (stream-unmoved merging w s t h .output))
 
-    -- a merge keeps the axis
-    merging-free : (axes : List (List ℕ)) → KeptByMerging (λ (t : Rot). FreeAxis l v axes (t .axis)) (λ (t : Rot). FreeAxis l v axes (t .axis))
-    merging-free axes = record { weaken = λ t h. h; merge = λ d t h k. h; nonzero = λ t h e. h }
-
     exchangePass-free : (w : Work) → FreeWork l v w → FreeWork l v (exchangePass l r w)
     unfolding exchangePass
     exchangePass-free w h =
         let axes = w .store .axes in
         by-if (FreeWork l v) _ _ _ h
-        (rewriteSegments-every (λ (t : Rot). FreeAxis l v axes (t .axis)) (FreeItem l v axes) (λ t k. k) (λ t k. k)
-        (swaps l axes (r .window) (r .candidates) (r .eager))
-        (swaps-by _ _ (merging-free axes) l axes (r .window) (r .candidates) (r .eager)) (w .items) h)
+        (rewriteSegments-in (FreeAxis l v axes) (swaps l axes (r .window) (r .candidates) (r .eager))
+        (swaps-has (FreeAxis l v axes) l axes (r .window) (r .candidates) (r .eager)) (w .items) h)
 
     layeringPass-free : (w : Work) → FreeWork l v w → FreeWork l v (layeringPass l w)
     unfolding layeringPass
     layeringPass-free w h =
         let axes = w .store .axes in
-        rewriteSegments-every (λ (t : Rot). FreeAxis l v axes (t .axis)) (FreeItem l v axes) (λ t k. k) (λ t k. k)
-        (layerSegment l axes) (layerSegment-by _ _ (merging-free axes) l axes) (w .items) h
+        rewriteSegments-in (FreeAxis l v axes) (layerSegment l axes) (layerSegment-has (FreeAxis l v axes) l axes) (w .items) h
 
 -- ---- the start: items have the axes of operations
 

@@ -56,7 +56,7 @@ module _ (l : ℕ) (axes : List (List ℕ)) where
 
 -- ---- `improves`: a trial is merged locally, and kept if it is better
 
--- "fewer T, or, with eager swaps, no more T and fewer rotations"
+-- as the Rust says it: fewer T, or, with eager swaps, no more T and fewer rotations
 unfoldable pub isBetter : Bool → List Rot → List Rot → Bool
 isBetter eager new old =
     ltb (tCountRots new) (tCountRots old) || (eager && leb (tCountRots new) (tCountRots old) && ltb (length new) (length old))
@@ -80,35 +80,40 @@ module _ (l : ℕ) (axes : List (List ℕ)) where
 
 -- ---- `try_triple`: A is cut to a suffix, C to a prefix
 
--- a list in two parts
-pub record Cut : Type 0 where
-  pub front : List Rot
-  pub back : List Rot
+-- a start: what of A is skipped, and a suffix that is not empty
+pub record Start : Type 0 where
+  pub skipped : List Rot
+  pub suffix : List Rot
 
--- "starts rising": what of A stays out, and a suffix that is not empty
-unfoldable pub starts : List Rot → List Rot → List Cut
+-- "starts rising"
+unfoldable pub starts : List Rot → List Rot → List Start
 starts before [] = []
-starts before (r ∷ rest) = record { front = before; back = r ∷ rest } ∷ starts (before ++ (r ∷ [])) rest
+starts before (r ∷ rest) = record { skipped = before; suffix = r ∷ rest } ∷ starts (before ++ (r ∷ [])) rest
 
--- "ends falling": a prefix of C that is not empty, the longest first, and what stays out
-unfoldable pub ends : List Rot → List Rot → List Cut
+-- an end: a prefix of C that is not empty, and what of C remains behind it
+pub record End : Type 0 where
+  pub prefix : List Rot
+  pub remainder : List Rot
+
+-- "ends falling": the longest prefix first
+unfoldable pub ends : List Rot → List Rot → List End
 ends before [] = []
-ends before (r ∷ rest) = ends (before ++ (r ∷ [])) rest ++ (record { front = before ++ (r ∷ []); back = rest } ∷ [])
+ends before (r ∷ rest) = ends (before ++ (r ∷ [])) rest ++ (record { prefix = before ++ (r ∷ []); remainder = rest } ∷ [])
 
--- before | A | B | C | after
+-- skipped | A | B | C | remainder
 pub record Triple : Type 0 where
-  pub before : List Rot
+  pub skipped : List Rot
   pub a : List Rot
   pub b : List Rot
   pub c : List Rot
-  pub after : List Rot
+  pub remainder : List Rot
 
-unfoldable pub withEnds : List Rot → Cut → List Cut → List Triple
+unfoldable pub withEnds : List Rot → Start → List End → List Triple
 withEnds b start [] = []
 withEnds b start (end ∷ rest) =
-    record { before = start .front; a = start .back; b = b; c = end .front; after = end .back } ∷ withEnds b start rest
+    record { skipped = start .skipped; a = start .suffix; b = b; c = end .prefix; remainder = end .remainder } ∷ withEnds b start rest
 
-unfoldable pub withStarts : List Rot → List Cut → List Cut → List Triple
+unfoldable pub withStarts : List Rot → List Start → List End → List Triple
 withStarts b [] es = []
 withStarts b (start ∷ rest) es = withEnds b start es ++ withStarts b rest es
 
@@ -123,14 +128,14 @@ isUseful eager r = eager || isOdd (r .angle)
 unfoldable pub shareAxis : Bool → List Rot → List Rot → Bool
 shareAxis eager a c = anyOf (λ (x : Rot). isUseful eager x && anyOf (λ (y : Rot). isUseful eager y && eqb (x .axis) (y .axis)) c) a
 
--- a replacement: what stands before it, the new rotations, and what of C stands after them
+-- a triple replaced: what was skipped, the new rotations, and what of C remains behind them
 pub record Swap : Type 0 where
-  pub before : List Rot
+  pub skipped : List Rot
   pub new : List Rot
-  pub after : List Rot
+  pub remainder : List Rot
 
 abbrev pub swapOf : Triple → List Rot → Swap
-swapOf t new = record { before = t .before; new = new; after = t .after }
+swapOf t new = record { skipped = t .skipped; new = new; remainder = t .remainder }
 
 module _ (l : ℕ) (axes : List (List ℕ)) (eager : Bool) where
   -- groups g and h exchange, which gives the trial
@@ -151,22 +156,27 @@ module _ (l : ℕ) (axes : List (List ℕ)) (eager : Bool) where
       let later = tryTriple rest in
       orElse (if shareAxis eager (t .a) (t .c) then tryExchanges t else none) later
 
--- ---- `run_end`: the longest run of at most `window` rotations that commute with one another, and the rest
+-- ---- `run_end`: the longest run of at most `window` rotations that commute with one another
+
+-- the run, and the rest of the segment
+pub record RunEnd : Type 0 where
+  pub run : List Rot
+  pub rest : List Rot
 
 module _ (l : ℕ) (axes : List (List ℕ)) (window : ℕ) where
-  unfoldable pub runEndFrom : List Rot → List Rot → Cut
-  runEndFrom taken [] = record { front = taken; back = [] }
+  unfoldable pub runEndFrom : List Rot → List Rot → RunEnd
+  runEndFrom taken [] = record { run = taken; rest = [] }
   runEndFrom taken (r ∷ rest) =
       let longer = runEndFrom (taken ++ (r ∷ [])) rest in
       if ltb (length taken) window && allOf (λ (x : Rot). not (anticommute l axes (x .axis) (r .axis))) taken then longer else
-      record { front = taken; back = r ∷ rest }
+      record { run = taken; rest = r ∷ rest }
 
-  unfoldable pub runEnd : List Rot → Cut
+  unfoldable pub runEnd : List Rot → RunEnd
   runEnd rots = runEndFrom [] rots
 
   -- no third run is left
   unfoldable pub noTriple : List Rot → Bool
-  noTriple rots = isEmpty (runEnd rots .back) || isEmpty (runEnd (runEnd rots .back) .back)
+  noTriple rots = isEmpty (runEnd rots .rest) || isEmpty (runEnd (runEnd rots .rest) .rest)
 
 -- ---- `swaps`
 
@@ -177,21 +187,21 @@ pub record Swapping : Type 0 where
   pub rest : List Rot
 
 -- first and third are runs: after a swap the next start is the end of the replaced part, after none the start of the second run
-unfoldable pub nextStart : Cut → Cut → Swapping → Option Swap → Swapping
-nextStart first third s none = record { done = s .done ++ first .front; found = s .found; rest = first .back }
+unfoldable pub nextStart : RunEnd → RunEnd → Swapping → Option Swap → Swapping
+nextStart first third s none = record { done = s .done ++ first .run; found = s .found; rest = first .rest }
 nextStart first third s (some x) = record {
-  done = s .done ++ (x .before ++ x .new);
+  done = s .done ++ (x .skipped ++ x .new);
   found = suc (s .found);
-  rest = x .after ++ third .back;
+  rest = x .remainder ++ third .rest;
 }
 
 module _ (l : ℕ) (axes : List (List ℕ)) (window candidates : ℕ) (eager : Bool) where
   unfoldable pub swapStep : Swapping → Swapping
   swapStep s =
       let first = runEnd l axes window (s .rest) in
-      let second = runEnd l axes window (first .back) in
-      let third = runEnd l axes window (second .back) in
-      nextStart first third s (tryTriple l axes eager (triples candidates (first .front) (second .front) (third .front)))
+      let second = runEnd l axes window (first .rest) in
+      let third = runEnd l axes window (second .rest) in
+      nextStart first third s (tryTriple l axes eager (triples candidates (first .run) (second .run) (third .run)))
 
   unfoldable pub swapsFrom : ℕ → Swapping → Swapping
   swapsFrom zero s = s

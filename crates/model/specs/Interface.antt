@@ -10,7 +10,7 @@ use Rattle.model.specs.declared.Answer.the-variants.{BadOperation}
 use Rattle.model.specs.declared.Answer.the-variants.{BadOutcome, NonHermitianAxis, ExpansionLimit, BadText}
 use Rattle.model.specs.declared.Counters.{Counters}
 
--- "If the answer is an enum, a definition gives this paper's number for each of its cases"
+-- "If the answer is an enum, a definition gives this paper's number and values for each of its cases." The cases have no values
 abbrev pub numberOf : Answer → ℕ
 numberOf Accepted = 0
 numberOf CountOutside = 1

@@ -17,7 +17,7 @@ use Rattle.model.specs.Program.{fieldOf, largestOutcome, noOutcome, minu
 use Rattle.model.specs.Rules.{Rules, rulesOf}
 use Rattle.model.specs.Words.{support}
 use Rattle.model.specs.Rounds.{Work}
-use Rattle.model.specs.Run.{Ending, nonHermitian, finished, Run, run}
+use Rattle.model.specs.Run.{Ending, nonHermitian, finished, Run, run, underLimit}
 use Rattle.model.specs.Results.{operationResults, rowResults, countersOf}
 use Rattle.model.specs.Checking.{badCount, badOption, checkProgram}
 
@@ -95,7 +95,7 @@ readOf h nodes operations rows = record {
   limit = fieldOf h 3;
 }
 
--- "Input: qubits, nodes, operations, limit; nodes; operations; rows": the lines behind the first, h
+-- "Input: qubits, nodes, operations, limit", which is h; then the lines of nodes, operations and rows
 unfoldable pub readBody : List (List ℕ) → List ℕ → Option Read
 readBody lines h =
     let nodes = sliceOf 5 plainLine (take (fieldOf h 1) lines) in
@@ -152,7 +152,7 @@ unfoldable pub firstLine : Counters → Work → List ℕ
 firstLine c w =
     0 ∷ c .«t_before» ∷ c .«t_after» ∷ c .merges ∷ c .swaps ∷ c .«cliffords_to_frame» ∷ length (w .items) ∷ length (w .store .axes) ∷ []
 
--- "Output: ..; operations; rows; letters"
+-- behind the first line those of operations, rows and letters
 unfoldable pub endLines : Rules → Program → Ending → List (List ℕ)
 endLines r p nonHermitian = refusalLines NonHermitianAxis
 endLines r p (finished f) =
@@ -160,7 +160,7 @@ endLines r p (finished f) =
     ∷ (map resultLine (operationResults p (f .end)) ++ (rowResults p (f .end) ++ letterLines (width (p .qubits)) 0 (f .end .store .axes)))
 
 unfoldable pub runLines : Rules → Program → ℕ → Run → List (List ℕ)
-runLines r p limit whole = if ltb limit (whole .peak) then refusalLines ExpansionLimit else endLines r p (whole .ending)
+runLines r p limit whole = underLimit limit whole (refusalLines ExpansionLimit) (endLines r p)
 
 -- "then as rewriting": the program's own stores are long enough, so 3 does not come up
 unfoldable pub listingChecks : Options → Job → Answer

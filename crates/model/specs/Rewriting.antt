@@ -1,7 +1,6 @@
 -- 01, "Turning work down", Rewriting: a call's answer, its counters, and what each lent slice holds afterwards. Assumes nothing.
 use mathlib.Core.List.{List, _++_, flatten}
 use Prim.Native.Nat.{ℕ, _-_}
-use lib.Dec.{ltb}
 use lib.ListN.{length, replicate}
 use Rattle.model.specs.declared.Options.{Options}
 use Rattle.model.specs.declared.Answer.{Answer}
@@ -11,7 +10,7 @@ use Rattle.model.specs.Lists.{if_then_else_}
 use Rattle.model.specs.Interface.{accepts, noCounters}
 use Rattle.model.specs.Program.{Job, Program, programOf}
 use Rattle.model.specs.Rules.{Rules, rulesOf}
-use Rattle.model.specs.Run.{Finished, Ending, nonHermitian, finished, Run, run}
+use Rattle.model.specs.Run.{Finished, Ending, nonHermitian, finished, Run, run, underLimit}
 use Rattle.model.specs.Results.{operationResults, rowResults, countersOf}
 use Rattle.model.specs.Checking.{Lent, checking}
 
@@ -56,9 +55,8 @@ unfoldable pub afterEnding : Rules → Program → Lent → Ending → Reply
 afterEnding r p s nonHermitian = stopped NonHermitianAxis s
 afterEnding r p s (finished f) = accepted r p s f
 
--- "10 a tested word sum exceeds the limit"
 unfoldable pub afterRun : Rules → Program → Lent → ℕ → Run → Reply
-afterRun r p s limit whole = if ltb limit (whole .peak) then stopped ExpansionLimit s else afterEnding r p s (whole .ending)
+afterRun r p s limit whole = underLimit limit whole (stopped ExpansionLimit s) (afterEnding r p s)
 
 -- "Checking, then in Rust's order"
 unfoldable pub rewriting : Options → Job → Lent → Reply

@@ -71,11 +71,15 @@ run r rounds p =
     let whole = finishedRun r rounds p in
     if packed p .refused then record { peak = packed p .store .peak; ending = nonHermitian } else whole
 
--- ---- "9 a root's total phase is odd; 10 a tested word sum exceeds the limit": the first sum above the limit ends the work
+-- ---- "9 a root's total phase is odd; 10 a tested word sum exceeds the limit"
+
+-- what a run comes to under a limit: the first sum above it ends the work, whatever the ending
+abbrev pub underLimit : {A : Type 0} → ℕ → Run → A → (Ending → A) → A
+underLimit limit r exceeded ended = if ltb limit (r .peak) then exceeded else ended (r .ending)
 
 abbrev pub endAnswer : Ending → Answer
 endAnswer nonHermitian = NonHermitianAxis
 endAnswer (finished f) = Accepted
 
 unfoldable pub answerOf : ℕ → Run → Answer
-answerOf limit r = if ltb limit (r .peak) then ExpansionLimit else endAnswer (r .ending)
+answerOf limit r = underLimit limit r ExpansionLimit endAnswer

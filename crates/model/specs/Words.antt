@@ -65,7 +65,7 @@ pub record Store : Type 0 where
 unfoldable pub tested : ℕ → Store → Store
 tested sum st = record { axes = st .axes; peak = max (st .peak) sum }
 
--- "stored + 2l + all slot words (packing) or images (a pass). A word already stored is never refused."
+-- "stored + 2l + all slot words (packing) or images (a pass)" is tested. "A word already stored is never refused."
 unfoldable pub intern : ℕ → ℕ → Store → List ℕ → Store
 intern l others st w =
     if ltb (idOf (st .axes) w) (length (st .axes)) then st else

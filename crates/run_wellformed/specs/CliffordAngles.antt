@@ -3,9 +3,11 @@ use mathlib.Core.Path.{_≡_}
 use mathlib.Core.Bool.{Bool, true, false, _&&_, false≢true}
 use Prim.Native.Nat.{ℕ, zero, suc, _≤_, _<_}
 use native.Mathlib.Omega.{arith}
+use borrow.Author.Tests.{eqb-false, not-true}
 use Rattle.model.specs.Lists.{isEven}
 use Rattle.model.specs.Items.{Rot, Item, rotation, barrier, withSign, isClifford, angleOf}
 use Rattle.theory.specs.Cases.{by-if, and-left, and-right}
+use Rattle.theory.specs.Segments.{KeptByMerging}
 
 -- the second test failed
 pub and-false : (x y : Bool) → x && y ≡ false → x ≡ true → y ≡ false
@@ -27,6 +29,14 @@ abbrev pub TurnsItem : Item → Type 0
 TurnsItem (rotation r) = Turns r
 TurnsItem (barrier o a s) = Unit {0}
 
+-- merged angles are 0 to 7; those that stay are not 0
+pub turns-merging : KeptByMerging (λ (r : Rot). r .angle ≤ 7) Turns
+turns-merging = record {
+  weaken = λ r h. h .1;
+  merge = λ d r h k. omega arith;
+  nonzero = λ r h e. (let n : r .angle ≡ 0 → ⊥ = eqb-false (r .angle) 0 (not-true _ e) in omega arith, h);
+}
+
 -- ---- the angles of Clifford rotations
 
 -- even, and not 0
@@ -47,7 +57,7 @@ even-angle (suc (suc (suc (suc (suc (suc zero)))))) h b e = six
 even-angle (suc (suc (suc (suc (suc (suc (suc zero))))))) h b e = absurd (false≢true e)
 even-angle (suc (suc (suc (suc (suc (suc (suc (suc k)))))))) h b e = absurd (omega arith)
 
--- what the test for "even, and there to be absorbed" says
+-- an angle that is even, and there to be absorbed, is not 0
 pub clifford-nonzero : (k : ℕ) → isClifford k ≡ true → 0 < k
 clifford-nonzero zero e = absurd (false≢true (and-right (isEven 0) false e))
 clifford-nonzero (suc k) e = omega arith

@@ -1,7 +1,6 @@
 pub mod CliffordAngles
 pub mod StreamSteps
 pub mod Memory
-pub mod Segments
 pub mod SegmentLengths
 pub mod Points
 pub mod CarriedImages

@@ -102,7 +102,7 @@ packed-store p =
 
 -- ---- a pass
 
--- "stored + images + 6l at a touch", "stored + 2l + images": axes and images are within the sums that were tested
+-- axes and images are within the sums that were tested
 abbrev pub TouchedFits : ℕ → Touched → Type 0
 TouchedFits l t = length (t .store .axes) * (2 * l) + imageWords l (t .held) ≤ t .store .peak
 

@@ -2,7 +2,7 @@
 use mathlib.Core.Path.{_≡_, refl, _∙_}
 use mathlib.Core.Bool.{Bool, true, false, _||_}
 use mathlib.Core.List.{List, [], _∷_}
-use Prim.Native.Nat.{ℕ, zero, suc, _≤_, _<_}
+use Prim.Native.Nat.{ℕ, zero, suc, _≤_}
 use native.Mathlib.Nat.{le-refl, le-trans, zero-add}
 use native.Mathlib.Omega.{arith}
 use lib.Dec.{eqb}
@@ -17,7 +17,7 @@ use Rattle.model.specs.Rules.{Rules}
 use Rattle.model.specs.Words.{Value, wordOf, Store}
 use Rattle.model.specs.Roots.{operationRoot}
 use Rattle.model.specs.Packing.{SignedAxis, signedAxis}
-use Rattle.model.specs.Items.{Rot, rot, Item, rotation, barrier, withSign, isNonzero, stays, dropZeros, Segment, rewriteSegments}
+use Rattle.model.specs.Items.{rot, Item, rotation, barrier, withSign, isNonzero, stays, dropZeros}
 use Rattle.model.specs.Stream.{Pass, withLast, countMerge, setAngle, putOut, leaveZero, carryAxis, absorb, putOutRotation, streamItem, stream}
 use Rattle.model.specs.Stream.{carryRows, begin}
 use Rattle.model.specs.Exchange.{swaps}
@@ -29,16 +29,15 @@ use Rattle.model.specs.Rounds.{litinskiRounds, passes}
 use Rattle.model.specs.Run.{itemOf, itemsFrom, startOf}
 use Rattle.theory.specs.Cases.{by-if, on-if}
 use Rattle.theory.specs.Every.{Every, every-append}
-use Rattle.theory.specs.StreamState.{axisOf, AllIn, streamPass-barriers, InRange, streamPass-range}
-use Rattle.theory.specs.Steady.{Steady}
+use Rattle.theory.specs.StreamState.{InRange}
+use Rattle.theory.specs.Segments.{swaps-by, layerSegment-by, rewriteSegments-every}
+use Rattle.theory.specs.Steady.{Steady, streamPass-steady, exchangePass-steady, layeringPass-steady}
 use Rattle.theory.specs.Checked.{SmallAngle, Fine}
 use Rattle.words_wellformed.specs.PassWords.{afterItems}
-use Rattle.run_wellformed.specs.CliffordAngles.{SmallItem, Turns, TurnsItem, withSign-small}
+use Rattle.run_wellformed.specs.CliffordAngles.{SmallItem, Turns, TurnsItem, turns-merging, withSign-small}
 use Rattle.run_wellformed.specs.StreamSteps.{KeptBySteps, streamItem-by, afterItems-by, stream-by, small-kept, Absorbed, unmoved}
 use Rattle.run_wellformed.specs.StreamSteps.{absorbed-kept}
 use Rattle.run_wellformed.specs.Memory.{StoreFits, packed-store, PassFits, fits-kept, begin-fits, carryRows-fits, pass-store}
-use Rattle.run_wellformed.specs.Segments.{swaps-by, layerSegment-by, turns-merging, axes-merging, rewriteSegments-every}
-use Rattle.run_wellformed.specs.Segments.{rewriteSegments-stops}
 use Rattle.run_wellformed.specs.SegmentLengths.{keep-length, swaps-length, layerSegment-length, rewriteSegments-length}
 
 -- ---- a stream puts out at most as many items as it reads
@@ -249,59 +248,21 @@ module _ (l n : ℕ) (r : Rules) where
 
 -- ---- axes in range and barriers, at every point
 
-abbrev AxisIn : ℕ → Item → Type 0
-AxisIn m i = axisOf i < m
-
-all-every : (m : ℕ) (is : List Item) → AllIn m is → Every (AxisIn m) is
-all-every m [] h = tt
-all-every m (i ∷ is) h = (h .0, all-every m is (h .1))
-
-every-all : (m : ℕ) (is : List Item) → Every (AxisIn m) is → AllIn m is
-every-all m [] h = tt
-every-all m (i ∷ is) h = (h .0, every-all m is (h .1))
-
-abbrev RotIn : ℕ → Rot → Type 0
-RotIn m r = r .axis < m
-
-segments-range : (m : ℕ) (f : List Rot → Segment) → ((segment : List Rot) → Every (RotIn m) segment → Every (RotIn m) (f segment .rots))
-    → (is : List Item) → AllIn m is → AllIn m (rewriteSegments f is .items)
-segments-range m f kept is h =
-    every-all m (rewriteSegments f is .items) (rewriteSegments-every (RotIn m) (AxisIn m) (λ r k. k) (λ r k. k) f kept is (all-every m is h))
-
 module _ (l : ℕ) (r : Rules) where
-  exchangePass-steady : (w : Work) → InRange w → Steady w (exchangePass l r w)
-  unfolding exchangePass
-  exchangePass-steady w h =
-      let axes = w .store .axes in
-      let f = swaps l axes (r .window) (r .candidates) (r .eager) in
-      by-if (Steady w) _ _ _ (record { range = h; barriers = refl })
-      (record {
-        range = segments-range _ f (swaps-by _ _ (axes-merging (length axes)) l axes (r .window) (r .candidates) (r .eager)) (w .items) h;
-        barriers = rewriteSegments-stops f (w .items);
-      })
-
-  layeringPass-steady : (w : Work) → InRange w → Steady w (layeringPass l w)
-  unfolding layeringPass
-  layeringPass-steady w h =
-      let axes = w .store .axes in
-      record {
-        range = segments-range _ (layerSegment l axes) (layerSegment-by _ _ (axes-merging (length axes)) l axes) (w .items) h;
-        barriers = rewriteSegments-stops (layerSegment l axes) (w .items);
-      }
-
   -- the axes of a point are in range, and its barriers are those of the start, in order
   pub reached-steady : {w v : Work} → Reached l r w v → InRange w → Steady w v
   reached-steady start h = record { range = h; barriers = refl }
   reached-steady (streamed {v} merging g) h =
       let k = reached-steady g h in
-      record { range = streamPass-range l r merging v (k .range); barriers = streamPass-barriers l r merging v (k .range) ∙ k .barriers }
+      let s = streamPass-steady l r merging v (k .range) in
+      record { range = s .range; barriers = s .barriers ∙ k .barriers }
   reached-steady (exchanged {v} g) h =
       let k = reached-steady g h in
-      let s = exchangePass-steady v (k .range) in
+      let s = exchangePass-steady l r v (k .range) in
       record { range = s .range; barriers = s .barriers ∙ k .barriers }
   reached-steady (layered {v} g) h =
       let k = reached-steady g h in
-      let s = layeringPass-steady v (k .range) in
+      let s = layeringPass-steady l v (k .range) in
       record { range = s .range; barriers = s .barriers ∙ k .barriers }
 
 -- ---- the start

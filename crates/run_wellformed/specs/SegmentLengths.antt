@@ -9,9 +9,9 @@ use native.Mathlib.Omega.{arith}
 use lib.ListN.{length, length-append, length-map, length-reverse}
 use Rattle.model.specs.Lists.{if_then_else_, keep, sumOf}
 use Rattle.model.specs.Items.{Rot, Item, rotation, barrier, isNonzero, dropZeroRots, Segment, endSegment, rewriteFrom, rewriteSegments}
-use Rattle.model.specs.Exchange.{mergeBack, mergeLocally, improves, Cut, starts, ends, Triple, withEnds, withStarts, triples, shareAxis, Swap}
+use Rattle.model.specs.Exchange.{mergeBack, mergeLocally, improves, Start, starts, End, ends, Triple, withEnds, withStarts, triples, shareAxis, Swap}
 use Rattle.model.specs.Exchange.{swapOf}
-use Rattle.model.specs.Exchange.{tryExchange, tryExchanges, tryTriple, runEndFrom, Swapping, nextStart, runEnd, swapStep, swapsFrom, swaps}
+use Rattle.model.specs.Exchange.{tryExchange, tryExchanges, tryTriple, RunEnd, runEndFrom, Swapping, nextStart, runEnd, swapStep, swapsFrom, swaps}
 use Rattle.model.specs.Layering.{mergeInto, Layers, Shift, joinLayer, joinLayers, moveRotation, moveRotations, sweepFrom, sweep, dropZeroLayers}
 use Rattle.model.specs.Layering.{sweepsFrom}
 use Rattle.model.specs.Layering.{height, layerSegment}
@@ -73,32 +73,35 @@ module _ (l : ℕ) (axes : List (List ℕ)) where
 
 -- ---- cuts and triples
 
-abbrev Cuts : ℕ → Cut → Type 0
-Cuts m c = length (c .front) + length (c .back) ≡ m
+abbrev StartOf : ℕ → Start → Type 0
+StartOf m s = length (s .skipped) + length (s .suffix) ≡ m
 
-starts-length : (m : ℕ) (before rest : List Rot) → length before + length rest ≡ m → Every (Cuts m) (starts before rest)
+abbrev EndOf : ℕ → End → Type 0
+EndOf m e = length (e .prefix) + length (e .remainder) ≡ m
+
+starts-length : (m : ℕ) (before rest : List Rot) → length before + length rest ≡ m → Every (StartOf m) (starts before rest)
 unfolding starts
 starts-length m before [] h = tt
 starts-length m before (r ∷ rest) h = (h, starts-length m (before ++ (r ∷ [])) rest (omega (arith, one-more before r)))
 
-ends-length : (m : ℕ) (before rest : List Rot) → length before + length rest ≡ m → Every (Cuts m) (ends before rest)
+ends-length : (m : ℕ) (before rest : List Rot) → length before + length rest ≡ m → Every (EndOf m) (ends before rest)
 unfolding ends
 ends-length m before [] h = tt
 ends-length m before (r ∷ rest) h =
     let e : length (before ++ (r ∷ [])) + length rest ≡ m = omega (arith, one-more before r) in
-    every-one (Cuts m) (ends (before ++ (r ∷ [])) rest) _ (ends-length m (before ++ (r ∷ [])) rest e) e
+    every-one (EndOf m) (ends (before ++ (r ∷ [])) rest) _ (ends-length m (before ++ (r ∷ [])) rest e) e
 
 -- all triples that are tried are cut from the same rotations
 pub record Covers (m : ℕ) (t : Triple) : Type 0 where
-  pub whole : length (t .before) + (length (t .a) + length (t .b) + length (t .c)) + length (t .after) ≡ m
+  pub whole : length (t .skipped) + (length (t .a) + length (t .b) + length (t .c)) + length (t .remainder) ≡ m
 
-withEnds-length : (i k : ℕ) (b : List Rot) (s : Cut) (es : List Cut) → Cuts i s → Every (Cuts k) es
+withEnds-length : (i k : ℕ) (b : List Rot) (s : Start) (es : List End) → StartOf i s → Every (EndOf k) es
     → Every (Covers (i + length b + k)) (withEnds b s es)
 unfolding withEnds
 withEnds-length i k b s [] hs he = tt
 withEnds-length i k b s (e ∷ es) hs he = (record { whole = omega (arith, he .0) }, withEnds-length i k b s es hs (he .1))
 
-withStarts-length : (i k : ℕ) (b : List Rot) (ss es : List Cut) → Every (Cuts i) ss → Every (Cuts k) es
+withStarts-length : (i k : ℕ) (b : List Rot) (ss : List Start) (es : List End) → Every (StartOf i) ss → Every (EndOf k) es
     → Every (Covers (i + length b + k)) (withStarts b ss es)
 unfolding withStarts
 withStarts-length i k b [] es hs he = tt
@@ -119,7 +122,7 @@ triples-length candidates a b c =
 -- what a swap leaves is no longer than m
 abbrev Leaves : ℕ → Option Swap → Type 0
 Leaves m none = Unit {0}
-Leaves m (some s) = length (s .before) + length (s .new) + length (s .after) ≤ m
+Leaves m (some s) = length (s .skipped) + length (s .new) + length (s .remainder) ≤ m
 
 or-else : (m : ℕ) (x y : Option Swap) → Leaves m x → Leaves m y → Leaves m (orElse x y)
 unfolding orElse
@@ -163,30 +166,33 @@ module _ (l : ℕ) (axes : List (List ℕ)) (eager : Bool) where
       or-else m (if shareAxis eager (t .a) (t .c) then tryExchanges l axes eager t else none) (tryTriple l axes eager ts)
       (by-if (Leaves m) _ _ _ (tryExchanges-length m t (h .0)) tt) (tryTriple-length m ts (h .1))
 
+abbrev RunEndOf : ℕ → RunEnd → Type 0
+RunEndOf m x = length (x .run) + length (x .rest) ≡ m
+
 runEndFrom-length : (l : ℕ) (axes : List (List ℕ)) (window : ℕ) (taken rest : List Rot)
-    → Cuts (length taken + length rest) (runEndFrom l axes window taken rest)
+    → RunEndOf (length taken + length rest) (runEndFrom l axes window taken rest)
 unfolding runEndFrom
 runEndFrom-length l axes window taken [] = refl
 runEndFrom-length l axes window taken (r ∷ rest) =
-    by-if (Cuts (length taken + suc (length rest))) _ _ _
+    by-if (RunEndOf (length taken + suc (length rest))) _ _ _
     (omega (arith, runEndFrom-length l axes window (taken ++ (r ∷ [])) rest, one-more taken r)) refl
 
 -- what is done and what is left of a segment
 abbrev pub swapLength : Swapping → ℕ
 swapLength s = length (s .done) + length (s .rest)
 
-nextStart-length : (first third : Cut) (s : Swapping) (m : ℕ) (o : Option Swap) → Leaves m o
-    → length (first .front) + length (first .back) ≡ length (s .rest)
-    → m + length (third .back) ≤ length (s .rest) → swapLength (nextStart first third s o) ≤ swapLength s
+nextStart-length : (first third : RunEnd) (s : Swapping) (m : ℕ) (o : Option Swap) → Leaves m o
+    → length (first .run) + length (first .rest) ≡ length (s .rest)
+    → m + length (third .rest) ≤ length (s .rest) → swapLength (nextStart first third s o) ≤ swapLength s
 unfolding nextStart
-nextStart-length first third s m none h e f = omega (arith, length-append (s .done) (first .front))
+nextStart-length first third s m none h e f = omega (arith, length-append (s .done) (first .run))
 nextStart-length first third s m (some x) h e f =
-    omega (arith, length-append (s .done) (x .before ++ x .new), length-append (x .before) (x .new), length-append (x .after) (third .back))
+    omega (arith, length-append (s .done) (x .skipped ++ x .new), length-append (x .skipped) (x .new), length-append (x .remainder) (third .rest))
 
 module _ (l : ℕ) (axes : List (List ℕ)) (window candidates : ℕ) (eager : Bool) where
   -- a run and what comes after it
   pub runEnd-length : (rots : List Rot)
-      → length (runEnd l axes window rots .front) + length (runEnd l axes window rots .back) ≡ length rots
+      → length (runEnd l axes window rots .run) + length (runEnd l axes window rots .rest) ≡ length rots
   unfolding runEnd
   runEnd-length rots = omega (arith, runEndFrom-length l axes window [] rots)
 
@@ -196,12 +202,12 @@ module _ (l : ℕ) (axes : List (List ℕ)) (window candidates : ℕ) (eager : B
   swapStep-length s =
       let run = runEnd l axes window in
       let first = run (s .rest) in
-      let second = run (first .back) in
-      let third = run (second .back) in
-      let m = length (first .front) + length (second .front) + length (third .front) in
+      let second = run (first .rest) in
+      let third = run (second .rest) in
+      let m = length (first .run) + length (second .run) + length (third .run) in
       nextStart-length first third s m _
-      (tryTriple-length l axes eager m _ (triples-length candidates (first .front) (second .front) (third .front)))
-      (runEnd-length (s .rest)) (omega (arith, runEnd-length (s .rest), runEnd-length (first .back), runEnd-length (second .back)))
+      (tryTriple-length l axes eager m _ (triples-length candidates (first .run) (second .run) (third .run)))
+      (runEnd-length (s .rest)) (omega (arith, runEnd-length (s .rest), runEnd-length (first .rest), runEnd-length (second .rest)))
 
   -- all swaps of a segment
   pub swapsFrom-length : (k : ℕ) (s : Swapping) → swapLength (swapsFrom l axes window candidates eager k s) ≤ swapLength s

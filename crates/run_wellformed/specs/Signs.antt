@@ -15,13 +15,13 @@ use Rattle.model.specs.Rounds.{Work, exchangePass, layeringPass}
 use Rattle.model.specs.Run.{startOf, endOf}
 use Rattle.theory.specs.Cases.{by-if}
 use Rattle.theory.specs.Every.{Every, every-weaken}
+use Rattle.theory.specs.Segments.{swaps-by, layerSegment-by, rewriteSegments-every}
 use Rattle.theory.specs.Checked.{Fine}
 use Rattle.words_wellformed.specs.PassWords.{WellPass, afterItems}
 use Rattle.words_wellformed.specs.RunWords.{HasAngle, AnglesStay, WellWork, pass-well, streamPass-well, exchangePass-well, layeringPass-well}
 use Rattle.words_wellformed.specs.RunWords.{start-well}
 use Rattle.words_wellformed.specs.Wellformed.{SignsEven, end-signs, work-signs}
-use Rattle.run_wellformed.specs.CliffordAngles.{Turns, TurnsItem}
-use Rattle.run_wellformed.specs.Segments.{swaps-by, layerSegment-by, turns-merging, rewriteSegments-every}
+use Rattle.run_wellformed.specs.CliffordAngles.{Turns, TurnsItem, turns-merging}
 use Rattle.run_wellformed.specs.Points.{Reached, start, streamed, exchanged, layered}
 
 turns : (i : Item) → HasAngle i → TurnsItem i

@@ -29,7 +29,7 @@ abbrev pub bytes : String → List ℕ
 bytes done = []
 bytes (c then s) = code c ∷ bytes s
 
--- i ^ e multiply a word of one qubit or two
+-- i ^ e times a word of one qubit or two
 abbrev value : ℕ → List ℕ → Value
 value e w = record { turns = e; word = w }
 
@@ -105,7 +105,7 @@ pub record Starred : Type 0 where
   pub x-y : multiply 1 (value 0 X) (value 0 Y) ≡ value 1 Z
   pub x-z : multiply 1 (value 0 X) (value 0 Z) ≡ value 3 Y
   pub z-x : multiply 1 (value 0 Z) (value 0 X) ≡ value 1 Y
-  -- "XX multiply ZZ: 2, YY"
+  -- "XX times ZZ: 2, YY"
   pub xx-zz : multiply 1 (value 0 XX) (value 0 ZZ) ≡ value 2 YY
   -- "-4 gives 4, 5 gives -3, -5 gives 3"
   pub minus-four : signedAngle (eighthsOf (negsuc 3)) ≡ pos 4

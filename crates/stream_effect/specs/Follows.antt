@@ -79,7 +79,7 @@ module _ (l : ℕ) (operations : List Operation) where
 
   -- ---- the invariant
 
-  -- X was read and Y put out; the images that p holds are those of F; "frame rows are kept if nothing was absorbed" asks for the rest
+  -- X was read and Y put out; the images that p holds are those of F; frame rows are kept if nothing was absorbed, which asks for the rest
   pub record Follows (X Y : List (Op W)) (p : Pass) : Type 0 where
     pub F : Cliff (packed l)
     pub holds : Holds l (p .held) F

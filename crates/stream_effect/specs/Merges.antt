@@ -116,7 +116,7 @@ module _ (l : ℕ) (operations : List Operation) where
         out : setAngle j a k p .out ≡ placed k
         out = unfold setAngle in (placed-set k)
 
-    -- "place j gets the sum of the angles"
+    -- place j gets the sum of the angles
     mergeAt-follows : (m : Absorption) (k : ℕ) → Pending l operations X p a k → S X (mergeAt l m p j a ((split .angle + k) % 8))
     unfolding mergeAt
     mergeAt-follows m k h =

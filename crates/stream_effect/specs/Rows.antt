@@ -1,4 +1,4 @@
--- "Frame rows are carried if anything was absorbed, else kept": the rows after a stream are the images of the rows before it. Assumes nothing.
+-- "frame rows are carried if anything was absorbed, else kept": the rows after a stream are the images of the rows before it. Assumes nothing.
 use mathlib.Core.Path.{_≡_, refl, sym, _∙_, ap, ap₂}
 use mathlib.Core.List.{List, [], _∷_, _++_, map, map-append, append-assoc, append-nil}
 use Prim.Native.Nat.{ℕ, _+_, _%_, _<_}

@@ -1,4 +1,4 @@
--- Demand 3, "equal rounds give equal results and counters": two accepted calls of Rewriting alike but for the limit. Assumes nothing.
+-- Demand 3, equal rounds give equal results and counters: two accepted calls of Rewriting alike but for the limit. Assumes nothing.
 use mathlib.Core.Path.{_≡_, refl, _∙_}
 use Rattle.model.specs.declared.Options.{Options}
 use Rattle.model.specs.declared.Answer.the-variants.{Accepted}
@@ -6,7 +6,7 @@ use Rattle.model.specs.Program.{Job, programOf}
 use Rattle.model.specs.Rules.{rulesOf}
 use Rattle.model.specs.Run.{finished}
 use Rattle.model.specs.Checking.{Lent}
-use Rattle.model.specs.Rewriting.{accepted, afterEnding, rewriting}
+use Rattle.model.specs.Rewriting.{afterEnding, rewriting}
 use Rattle.theory.specs.Alike.{Alike, alike-program}
 use Rattle.theory.specs.Limit.{SameButLimit, SameResults}
 use Rattle.theory.specs.AcceptedRun.{finishOf}

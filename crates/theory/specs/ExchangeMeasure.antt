@@ -10,9 +10,9 @@ use lib.ListN.{length}
 use Rattle.model.specs.Lists.{if_then_else_, sumOf}
 use Rattle.model.specs.Rules.{Rules}
 use Rattle.model.specs.Items.{Rot, rot, Item, rotation, barrier, isNonzero, dropZeroRots, Segment, endSegment, rewriteFrom, rewriteSegments}
-use Rattle.model.specs.Exchange.{mergeBack, mergeLocally, improves, Cut, starts, ends, Triple, withEnds, withStarts, triples, shareAxis, Swap}
+use Rattle.model.specs.Exchange.{mergeBack, mergeLocally, improves, Start, starts, End, ends, Triple, withEnds, withStarts, triples, shareAxis, Swap}
 use Rattle.model.specs.Exchange.{swapOf}
-use Rattle.model.specs.Exchange.{tryExchange, tryExchanges, tryTriple, runEndFrom, runEnd, Swapping, nextStart, swapStep, swapsFrom, swaps}
+use Rattle.model.specs.Exchange.{tryExchange, tryExchanges, tryTriple, RunEnd, runEndFrom, runEnd, Swapping, nextStart, swapStep, swapsFrom, swaps}
 use Rattle.model.specs.Rounds.{Work, exchangePass}
 use Rattle.theory.specs.Cases.{by-if}
 use Rattle.theory.specs.Every.{Every, every-append, every-take}
@@ -23,11 +23,11 @@ use Rattle.theory.specs.Measure.{rots-keep, rots-reverse}
 module _ (m : ℕ → ℕ) (law : Measure m) where
   -- the measure of what a swap leaves
   unfoldable pub tSwap : Swap → ℕ
-  tSwap s = sizeOfRots m (s .before) + sizeOfRots m (s .new) + sizeOfRots m (s .after)
+  tSwap s = sizeOfRots m (s .skipped) + sizeOfRots m (s .new) + sizeOfRots m (s .remainder)
 
   -- of a triple
   unfoldable pub tTriple : Triple → ℕ
-  tTriple t = sizeOfRots m (t .before) + (sizeOfRots m (t .a) + sizeOfRots m (t .b) + sizeOfRots m (t .c)) + sizeOfRots m (t .after)
+  tTriple t = sizeOfRots m (t .skipped) + (sizeOfRots m (t .a) + sizeOfRots m (t .b) + sizeOfRots m (t .c)) + sizeOfRots m (t .remainder)
 
   -- a swap that leaves at most n
   abbrev pub AtMost : ℕ → Option Swap → Type 0
@@ -92,31 +92,34 @@ module _ (m : ℕ → ℕ) (law : Measure m) where
 
   -- ---- all cuts of a triple have one measure
 
-  abbrev Cuts : ℕ → Cut → Type 0
-  Cuts n c = sizeOfRots m (c .front) + sizeOfRots m (c .back) ≡ n
+  abbrev StartOf : ℕ → Start → Type 0
+  StartOf n s = sizeOfRots m (s .skipped) + sizeOfRots m (s .suffix) ≡ n
 
-  starts-same : (n : ℕ) (before rest : List Rot) → sizeOfRots m before + sizeOfRots m rest ≡ n → Every (Cuts n) (starts before rest)
+  abbrev EndOf : ℕ → End → Type 0
+  EndOf n e = sizeOfRots m (e .prefix) + sizeOfRots m (e .remainder) ≡ n
+
+  starts-same : (n : ℕ) (before rest : List Rot) → sizeOfRots m before + sizeOfRots m rest ≡ n → Every (StartOf n) (starts before rest)
   unfolding starts
   starts-same n before [] h = tt
   starts-same n before (r ∷ rest) h = (h, starts-same n (before ++ (r ∷ [])) rest (omega (arith, rots-one m before r, rots-cons m r rest)))
 
-  ends-same : (n : ℕ) (before rest : List Rot) → sizeOfRots m before + sizeOfRots m rest ≡ n → Every (Cuts n) (ends before rest)
+  ends-same : (n : ℕ) (before rest : List Rot) → sizeOfRots m before + sizeOfRots m rest ≡ n → Every (EndOf n) (ends before rest)
   unfolding ends
   ends-same n before [] h = tt
   ends-same n before (r ∷ rest) h =
       let e : sizeOfRots m (before ++ (r ∷ [])) + sizeOfRots m rest ≡ n = omega (arith, rots-one m before r, rots-cons m r rest) in
-      every-append (Cuts n) (ends (before ++ (r ∷ [])) rest) _ (ends-same n (before ++ (r ∷ [])) rest e) (e, tt)
+      every-append (EndOf n) (ends (before ++ (r ∷ [])) rest) _ (ends-same n (before ++ (r ∷ [])) rest e) (e, tt)
 
   abbrev Counts : ℕ → Triple → Type 0
   Counts n t = tTriple t ≡ n
 
-  withEnds-same : (i k : ℕ) (b : List Rot) (s : Cut) (es : List Cut) → Cuts i s → Every (Cuts k) es
+  withEnds-same : (i k : ℕ) (b : List Rot) (s : Start) (es : List End) → StartOf i s → Every (EndOf k) es
       → Every (Counts (i + sizeOfRots m b + k)) (withEnds b s es)
   unfolding withEnds tTriple
   withEnds-same i k b s [] hs he = tt
   withEnds-same i k b s (e ∷ es) hs he = (omega (arith, he .0), withEnds-same i k b s es hs (he .1))
 
-  withStarts-same : (i k : ℕ) (b : List Rot) (ss es : List Cut) → Every (Cuts i) ss → Every (Cuts k) es
+  withStarts-same : (i k : ℕ) (b : List Rot) (ss : List Start) (es : List End) → Every (StartOf i) ss → Every (EndOf k) es
       → Every (Counts (i + sizeOfRots m b + k)) (withStarts b ss es)
   unfolding withStarts
   withStarts-same i k b [] es hs he = tt
@@ -159,46 +162,46 @@ module _ (m : ℕ → ℕ) (law : Measure m) where
 
   -- ---- swaps
 
-  -- the measure of a cut
-  sizeOfCut : Cut → ℕ
-  sizeOfCut c = sizeOfRots m (c .front) + sizeOfRots m (c .back)
+  -- the measure of a run and the rest
+  sizeOfRunEnd : RunEnd → ℕ
+  sizeOfRunEnd x = sizeOfRots m (x .run) + sizeOfRots m (x .rest)
 
   runEndFrom-same : (l : ℕ) (axes : List (List ℕ)) (window : ℕ) (taken rest : List Rot)
-      → sizeOfCut (runEndFrom l axes window taken rest) ≡ sizeOfRots m taken + sizeOfRots m rest
-  unfolding runEndFrom sizeOfCut
+      → sizeOfRunEnd (runEndFrom l axes window taken rest) ≡ sizeOfRots m taken + sizeOfRots m rest
+  unfolding runEndFrom sizeOfRunEnd
   runEndFrom-same l axes window taken [] = refl
   runEndFrom-same l axes window taken (r ∷ rest) =
       let e : sizeOfRots m (taken ++ (r ∷ [])) + sizeOfRots m rest ≡ sizeOfRots m taken + sizeOfRots m (r ∷ rest) = omega
       (arith, rots-one m taken r, rots-cons m r rest) in
-      by-if (λ (x : Cut). sizeOfRots m (x .front) + sizeOfRots m (x .back) ≡ sizeOfRots m taken + sizeOfRots m (r ∷ rest)) _ _ _
+      by-if (λ (x : RunEnd). sizeOfRots m (x .run) + sizeOfRots m (x .rest) ≡ sizeOfRots m taken + sizeOfRots m (r ∷ rest)) _ _ _
       (runEndFrom-same l axes window (taken ++ (r ∷ [])) rest ∙ e) refl
 
   -- what is done and what is left of a segment
   doneAndLeft : Swapping → ℕ
   doneAndLeft s = sizeOfRots m (s .done) + sizeOfRots m (s .rest)
 
-  nextStart-no-more : (first third : Cut) (s : Swapping) (n : ℕ) (o : Option Swap) → AtMost n o
-      → sizeOfRots m (s .rest) ≡ sizeOfRots m (first .front) + sizeOfRots m (first .back)
-      → n + sizeOfRots m (third .back) ≤ sizeOfRots m (s .rest) → doneAndLeft (nextStart first third s o) ≤ doneAndLeft s
+  nextStart-no-more : (first third : RunEnd) (s : Swapping) (n : ℕ) (o : Option Swap) → AtMost n o
+      → sizeOfRots m (s .rest) ≡ sizeOfRots m (first .run) + sizeOfRots m (first .rest)
+      → n + sizeOfRots m (third .rest) ≤ sizeOfRots m (s .rest) → doneAndLeft (nextStart first third s o) ≤ doneAndLeft s
   unfolding nextStart tSwap doneAndLeft
-  nextStart-no-more first third s n none h e f = omega (arith, rots-append m (s .done) (first .front))
+  nextStart-no-more first third s n none h e f = omega (arith, rots-append m (s .done) (first .run))
   nextStart-no-more first third s n (some x) h e f =
-      omega (arith, rots-append m (s .done) (x .before ++ x .new), rots-append m (x .before) (x .new), rots-append m (x .after) (third .back))
+      omega (arith, rots-append m (s .done) (x .skipped ++ x .new), rots-append m (x .skipped) (x .new), rots-append m (x .remainder) (third .rest))
 
   module _ (l : ℕ) (axes : List (List ℕ)) (window candidates : ℕ) (eager : Bool) where
-    runEnd-same : (rots : List Rot) → sizeOfCut (runEnd l axes window rots) ≡ sizeOfRots m rots
+    runEnd-same : (rots : List Rot) → sizeOfRunEnd (runEnd l axes window rots) ≡ sizeOfRots m rots
     unfolding runEnd
     runEnd-same rots = omega (arith, runEndFrom-same l axes window [] rots, rots-nil m)
 
     swapStep-no-more : (s : Swapping) → doneAndLeft (swapStep l axes window candidates eager s) ≤ doneAndLeft s
-    unfolding swapStep sizeOfCut
+    unfolding swapStep sizeOfRunEnd
     swapStep-no-more s =
         let first = runEnd l axes window (s .rest) in
-        let second = runEnd l axes window (first .back) in
-        let third = runEnd l axes window (second .back) in
-        nextStart-no-more first third s (sizeOfRots m (first .front) + sizeOfRots m (second .front) + sizeOfRots m (third .front)) _
-        (tryTriple-no-more l axes eager _ _ (triples-same candidates (first .front) (second .front) (third .front)))
-        (sym (runEnd-same (s .rest))) (omega (arith, runEnd-same (s .rest), runEnd-same (first .back), runEnd-same (second .back)))
+        let second = runEnd l axes window (first .rest) in
+        let third = runEnd l axes window (second .rest) in
+        nextStart-no-more first third s (sizeOfRots m (first .run) + sizeOfRots m (second .run) + sizeOfRots m (third .run)) _
+        (tryTriple-no-more l axes eager _ _ (triples-same candidates (first .run) (second .run) (third .run)))
+        (sym (runEnd-same (s .rest))) (omega (arith, runEnd-same (s .rest), runEnd-same (first .rest), runEnd-same (second .rest)))
 
     swapsFrom-no-more : (k : ℕ) (s : Swapping) → doneAndLeft (swapsFrom l axes window candidates eager k s) ≤ doneAndLeft s
     unfolding swapsFrom

@@ -12,6 +12,7 @@ pub mod Ids
 pub mod StreamState
 pub mod SweepsEnd
 pub mod SwapsEnd
+pub mod Segments
 pub mod SegmentAxes
 pub mod Steady
 pub mod TCountAfter

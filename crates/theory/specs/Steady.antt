@@ -1,51 +1,20 @@
 -- Every pass keeps the barriers and uses only axes that are stored. Assumes nothing.
-use mathlib.Core.Path.{_≡_, refl, sym, ap, _∙_}
+use mathlib.Core.Path.{_≡_, refl, _∙_}
 use mathlib.Core.Bool.{Bool, true, false}
-use mathlib.Core.List.{List, [], _∷_, _++_, map, append-assoc, append-nil}
-use Prim.Native.Nat.{ℕ, zero, suc, _+_, _<_}
+use Prim.Native.Nat.{ℕ, zero, suc, _<_}
 use lib.ListN.{length}
 use Rattle.model.specs.declared.Strategy.{Strategy}
 use Rattle.model.specs.declared.Strategy.the-variants.{Merge, Litinski}
 use Rattle.model.specs.Rules.{Rules}
-use Rattle.model.specs.Items.{Rot, Item, rotation, barrier, Segment, endSegment, rewriteFrom, rewriteSegments}
 use Rattle.model.specs.Exchange.{swaps}
 use Rattle.model.specs.Layering.{layerSegment}
 use Rattle.model.specs.Rounds.{Work, streamPass, exchangePass, layeringPass, mergeRound, RoundBefore, noRound, roundsFrom, closingStream}
 use Rattle.model.specs.Rounds.{mergeRounds}
 use Rattle.model.specs.Rounds.{litinskiFrom, litinskiRounds, passes}
 use Rattle.theory.specs.Cases.{by-if}
-use Rattle.theory.specs.StreamState.{barriersOf, barriersOf-append, streamPass-barriers, InRange, streamPass-range}
+use Rattle.theory.specs.StreamState.{barriersOf, streamPass-barriers, InRange, streamPass-range}
+use Rattle.theory.specs.Segments.{rewriteSegments-barriers}
 use Rattle.theory.specs.SegmentAxes.{swaps-has, layerSegment-has, rewriteSegments-in}
-
--- ---- barriers
-
-rotations-barriers : (rs : List Rot) → barriersOf (map rotation rs) ≡ []
-unfolding barriersOf
-rotations-barriers [] = refl
-rotations-barriers (r ∷ rs) = rotations-barriers rs
-
-module _ (f : List Rot → Segment) where
-  endSegment-barriers : (done : List Item) (seg : List Rot) → barriersOf (endSegment f done seg) ≡ barriersOf done
-  unfolding endSegment
-  endSegment-barriers done seg =
-      barriersOf-append done (map rotation (f seg .rots)) ∙ ap (λ (x : List ℕ). barriersOf done ++ x) (rotations-barriers (f seg .rots))
-      ∙ append-nil
-      (barriersOf done)
-
-  rewriteFrom-barriers : (done : List Item) (seg : List Rot) (c : ℕ) (is : List Item) → barriersOf
-      (rewriteFrom f done seg c is .items) ≡ barriersOf done ++ barriersOf is
-  unfolding rewriteFrom barriersOf
-  rewriteFrom-barriers done seg c [] = endSegment-barriers done seg ∙ sym (append-nil (barriersOf done))
-  rewriteFrom-barriers done seg c (rotation r ∷ is) = rewriteFrom-barriers done (seg ++ (r ∷ [])) c is
-  rewriteFrom-barriers done seg c (barrier o a s ∷ is) =
-      rewriteFrom-barriers (endSegment f done seg ++ (barrier o a s ∷ [])) [] (c + f seg .changes) is
-      ∙ ap (λ (x : List ℕ). x ++ barriersOf is)
-      (barriersOf-append (endSegment f done seg) (barrier o a s ∷ []) ∙ ap (λ (x : List ℕ). x ++ (o ∷ [])) (endSegment-barriers done seg))
-      ∙ append-assoc (barriersOf done) (o ∷ []) (barriersOf is)
-
-  rewriteSegments-barriers : (is : List Item) → barriersOf (rewriteSegments f is .items) ≡ barriersOf is
-  unfolding rewriteSegments
-  rewriteSegments-barriers is = rewriteFrom-barriers [] [] 0 is ∙ unfold barriersOf in refl
 
 -- ---- the run: axes in range, and the barriers of the start
 

@@ -10,17 +10,17 @@ use lib.ListN.{length, length-append}
 use borrow.Author.Tests.{lt-ltb}
 use Rattle.model.specs.Lists.{if_then_else_, allOf, isEmpty}
 use Rattle.model.specs.Items.{Rot}
-use Rattle.model.specs.Exchange.{improves, Cut, starts, ends, Triple, withEnds, withStarts, triples, shareAxis, Swap, swapOf, tryExchange}
+use Rattle.model.specs.Exchange.{improves, Start, starts, End, ends, Triple, withEnds, withStarts, triples, shareAxis, Swap, swapOf, tryExchange}
 use Rattle.model.specs.Exchange.{tryExchanges}
-use Rattle.model.specs.Exchange.{tryTriple, runEndFrom, runEnd, noTriple, Swapping, nextStart, swapStep, swapsFrom}
+use Rattle.model.specs.Exchange.{tryTriple, RunEnd, runEndFrom, runEnd, noTriple, Swapping, nextStart, swapStep, swapsFrom}
 use Rattle.theory.specs.Cases.{by-if, if-true, if-false}
 use Rattle.theory.specs.Every.{Every, every-append, every-take}
 
-abbrev Ends : ℕ → Cut → Type 0
-Ends m c = length (c .back) ≤ m
+abbrev Ends : ℕ → End → Type 0
+Ends m e = length (e .remainder) ≤ m
 
 abbrev After : ℕ → Triple → Type 0
-After m t = length (t .after) ≤ m
+After m t = length (t .remainder) ≤ m
 
 ends-after : (m : ℕ) (before rest : List Rot) → length rest ≤ m → Every (Ends m) (ends before rest)
 unfolding ends
@@ -28,12 +28,12 @@ ends-after m before [] h = tt
 ends-after m before (r ∷ rest) h =
     every-append (Ends m) (ends (before ++ (r ∷ [])) rest) _ (ends-after m (before ++ (r ∷ [])) rest (omega arith)) (omega arith, tt)
 
-withEnds-after : (m : ℕ) (b : List Rot) (s : Cut) (es : List Cut) → Every (Ends m) es → Every (After m) (withEnds b s es)
+withEnds-after : (m : ℕ) (b : List Rot) (s : Start) (es : List End) → Every (Ends m) es → Every (After m) (withEnds b s es)
 unfolding withEnds
 withEnds-after m b s [] h = tt
 withEnds-after m b s (e ∷ es) h = (h .0, withEnds-after m b s es (h .1))
 
-withStarts-after : (m : ℕ) (b : List Rot) (ss es : List Cut) → Every (Ends m) es → Every (After m) (withStarts b ss es)
+withStarts-after : (m : ℕ) (b : List Rot) (ss : List Start) (es : List End) → Every (Ends m) es → Every (After m) (withStarts b ss es)
 unfolding withStarts
 withStarts-after m b [] es h = tt
 withStarts-after m b (s ∷ ss) es h = every-append (After m) (withEnds b s es) _ (withEnds-after m b s es h) (withStarts-after m b ss es h)
@@ -46,9 +46,9 @@ triples-after candidates a b c =
 
 abbrev Leaves : ℕ → Option Swap → Type 0
 Leaves m none = Unit {0}
-Leaves m (some s) = length (s .after) ≤ m
+Leaves m (some s) = length (s .remainder) ≤ m
 
-made-leaves : (m : ℕ) (t : Triple) (o : Option (List Rot)) → length (t .after) ≤ m → Leaves m (Option·map (swapOf t) o)
+made-leaves : (m : ℕ) (t : Triple) (o : Option (List Rot)) → length (t .remainder) ≤ m → Leaves m (Option·map (swapOf t) o)
 made-leaves m t none h = tt
 made-leaves m t (some new) h = h
 
@@ -73,9 +73,9 @@ module _ (l : ℕ) (axes : List (List ℕ)) (eager : Bool) where
       (tryTriple-leaves m ts (h .1))
 
 -- a run takes from the front, and takes one at least
-record Took (taken rest : List Rot) (c : Cut) : Type 0 where
-  both : length (c .front) + length (c .back) ≡ length taken + length rest
-  grew : length taken ≤ length (c .front)
+record Took (taken rest : List Rot) (x : RunEnd) : Type 0 where
+  both : length (x .run) + length (x .rest) ≡ length taken + length rest
+  grew : length taken ≤ length (x .run)
 
 module _ (l : ℕ) (axes : List (List ℕ)) (window : ℕ) where
   runEndFrom-took : (taken rest : List Rot) → Took taken rest (runEndFrom l axes window taken rest)
@@ -92,23 +92,23 @@ module _ (l : ℕ) (axes : List (List ℕ)) (window : ℕ) where
   runEndFrom-first w r rest = if-true _ _ (rw (lt-ltb 0 window w) refl)
 
 module _ (l : ℕ) (axes : List (List ℕ)) (window candidates : ℕ) (eager : Bool) (opens : 0 < window) where
-  abbrev run : List Rot → Cut
+  abbrev run : List Rot → RunEnd
   run = runEnd l axes window
 
-  run-le : (rest : List Rot) → length (run rest .front) + length (run rest .back) ≡ length rest
+  run-le : (rest : List Rot) → length (run rest .run) + length (run rest .rest) ≡ length rest
   unfolding runEnd
   run-le rest = omega (arith, runEndFrom-took l axes window [] rest .both)
 
-  run-less : (rest : List Rot) → isEmpty (run rest .back) ≡ false → length (run rest .back) < length rest
+  run-less : (rest : List Rot) → isEmpty (run rest .rest) ≡ false → length (run rest .rest) < length rest
   unfolding runEnd
   run-less [] h = absurd (true≢false (nothing ∙ h))
     where
-      nothing : true ≡ isEmpty (runEndFrom l axes window [] [] .back)
+      nothing : true ≡ isEmpty (runEndFrom l axes window [] [] .rest)
       nothing = unfold runEndFrom isEmpty in refl
   run-less (r ∷ rest) h =
       let f = runEndFrom-took l axes window (r ∷ []) rest in
-      let e : length (runEndFrom l axes window [] (r ∷ rest) .back) ≡ length (runEndFrom l axes window (r ∷ []) rest .back)
-      = ap (λ (x : Cut). length (x .back)) (runEndFrom-first l axes window opens r rest) in
+      let e : length (runEndFrom l axes window [] (r ∷ rest) .rest) ≡ length (runEndFrom l axes window (r ∷ []) rest .rest)
+      = ap (λ (x : RunEnd). length (x .rest)) (runEndFrom-first l axes window opens r rest) in
       omega (arith, f .both, f .grew)
 
   swapStep-less : (s : Swapping) → noTriple l axes window (s .rest) ≡ false
@@ -116,22 +116,22 @@ module _ (l : ℕ) (axes : List (List ℕ)) (window candidates : ℕ) (eager : B
   unfolding swapStep noTriple
   swapStep-less s h =
       let a = run (s .rest) in
-      let b = run (a .back) in
-      let c = run (b .back) in
-      let f : length (a .back) < length (s .rest) = run-less (s .rest) (or-left _ _ h) in
-      let ts = triples candidates (a .front) (b .front) (c .front) in
+      let b = run (a .rest) in
+      let c = run (b .rest) in
+      let f : length (a .rest) < length (s .rest) = run-less (s .rest) (or-left _ _ h) in
+      let ts = triples candidates (a .run) (b .run) (c .run) in
       go a c (tryTriple l axes eager ts) f
-      (tryTriple-leaves l axes eager (length (c .front)) ts (triples-after candidates (a .front) (b .front) (c .front)))
-      (omega (arith, run-le (a .back), run-le (b .back)))
+      (tryTriple-leaves l axes eager (length (c .run)) ts (triples-after candidates (a .run) (b .run) (c .run)))
+      (omega (arith, run-le (a .rest), run-le (b .rest)))
     where
       or-left : (x y : Bool) → x || y ≡ false → x ≡ false
       or-left true y h = h
       or-left false y h = refl
 
-      go : (a c : Cut) (o : Option Swap) → length (a .back) < length (s .rest) → Leaves (length (c .front)) o
-          → length (c .front) + length (c .back) ≤ length (a .back) → length (nextStart a c s o .rest) < length (s .rest)
+      go : (a c : RunEnd) (o : Option Swap) → length (a .rest) < length (s .rest) → Leaves (length (c .run)) o
+          → length (c .run) + length (c .rest) ≤ length (a .rest) → length (nextStart a c s o .rest) < length (s .rest)
       go a c none f k e = unfold nextStart in f
-      go a c (some x) f k e = unfold nextStart in (omega (arith, length-append (x .after) (c .back)))
+      go a c (some x) f k e = unfold nextStart in (omega (arith, length-append (x .remainder) (c .rest)))
 
   abbrev stop : Swapping → Bool
   stop s = noTriple l axes window (s .rest)

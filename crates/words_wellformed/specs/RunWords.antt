@@ -17,7 +17,7 @@ use Rattle.model.specs.Words.{Value, wordOf}
 use Rattle.model.specs.Value.{valueAt}
 use Rattle.model.specs.Roots.{rootRows, operationRoot, roots}
 use Rattle.model.specs.Packing.{valuesOf, packed, SignedAxis, signedAxis}
-use Rattle.model.specs.Items.{Rot, Item, rotation, barrier, withSign, isNonzero, stays, dropZeros, Segment, endSegment, rewriteFrom}
+use Rattle.model.specs.Items.{Rot, Item, rotation, barrier, withSign, isNonzero, stays, dropZeros, Segment}
 use Rattle.model.specs.Items.{rewriteSegments}
 use Rattle.model.specs.Stream.{stream, begin}
 use Rattle.model.specs.Exchange.{swaps}
@@ -28,8 +28,9 @@ use Rattle.model.specs.Rounds.{litinskiFrom}
 use Rattle.model.specs.Rounds.{litinskiRounds, passes}
 use Rattle.model.specs.Run.{itemOf, itemsFrom, startOf}
 use Rattle.theory.specs.Cases.{by-if, on-if}
-use Rattle.theory.specs.Every.{Every, every-append, every-one, every-map, every-left, every-right, every-weaken, every-unmap}
-use Rattle.theory.specs.SegmentAxes.{swaps-has, layerSegment-has}
+use Rattle.theory.specs.Every.{Every, every-append, every-map, every-left, every-right, every-weaken, every-unmap}
+use Rattle.theory.specs.Segments.{rewriteSegments-every}
+use Rattle.theory.specs.SegmentAxes.{Has, swaps-has, layerSegment-has}
 use Rattle.theory.specs.PackedRoots.{Rooted, packed-rooted}
 use Rattle.theory.specs.Checked.{SmallAngle, Fine}
 use Rattle.theory.specs.Hermitian.{in-every, every-in, roots-in}
@@ -127,33 +128,10 @@ items-whole Angles m (rotation r ∷ is) h f = ((h .0, λ g. f g .0), items-whol
 items-whole Angles m (barrier o a s ∷ is) h f = (h .0, items-whole Angles m is (h .1) (λ g. f g .1))
 
 -- segments are rewritten; barriers stay
-module _ (Angles : Type 0) (m : ℕ) (f : List Rot → Segment) where
-  abbrev Below : Rot → Type 0
-  Below r = r .axis < m
-
-  abbrev Placed : List Item → Type 0
-  Placed = Every (InPlace Angles m)
-
-  module _ (keeps : (rots : List Rot) → Every Below rots → Every Below (f rots .rots)) where
-    endSegment-placed : (done : List Item) (segment : List Rot) → Placed done → Every Below segment → Placed (endSegment f done segment)
-    unfolding endSegment
-    endSegment-placed done segment h k =
-        every-append (InPlace Angles m) done (map rotation (f segment .rots)) h
-        (every-map Below (InPlace Angles m) rotation (λ r b. b) (f segment .rots) (keeps segment k))
-
-    rewriteFrom-placed : (done : List Item) (segment : List Rot) (c : ℕ) (is : List Item) → Placed done → Every Below segment → Placed is
-        → Placed (rewriteFrom f done segment c is .items)
-    unfolding rewriteFrom
-    rewriteFrom-placed done segment c [] h k g = endSegment-placed done segment h k
-    rewriteFrom-placed done segment c (rotation r ∷ is) h k g =
-        rewriteFrom-placed done (segment ++ (r ∷ [])) c is h (every-one Below segment r k (g .0)) (g .1)
-    rewriteFrom-placed done segment c (barrier o a s ∷ is) h k g =
-        rewriteFrom-placed (endSegment f done segment ++ (barrier o a s ∷ [])) [] (c + f segment .changes) is
-        (every-one (InPlace Angles m) (endSegment f done segment) (barrier o a s) (endSegment-placed done segment h k) (g .0)) tt (g .1)
-
-    rewriteSegments-placed : (is : List Item) → Placed is → Placed (rewriteSegments f is .items)
-    unfolding rewriteSegments
-    rewriteSegments-placed is h = rewriteFrom-placed [] [] 0 is tt tt h
+rewriteSegments-placed : (Angles : Type 0) (m : ℕ) (f : List Rot → Segment)
+    → ((rots : List Rot) → Every (Has (λ a. a < m)) rots → Every (Has (λ a. a < m)) (f rots .rots))
+    → (is : List Item) → Every (InPlace Angles m) is → Every (InPlace Angles m) (rewriteSegments f is .items)
+rewriteSegments-placed Angles m = rewriteSegments-every (Has (λ a. a < m)) (InPlace Angles m) (λ r b. b) (λ r b. b)
 
 module _ (l : ℕ) (r : Rules) (Angles : Type 0) (stay : Angles → AnglesStay l r) where
   -- an exchange changes no word

@@ -1,24 +1,19 @@
--- Exchange and layering leave rotations of the kind that they are given: angles 1 to 7, axes in range; barriers stay. Assumes nothing.
+-- Exchange and layering leave rotations of the kind that they are given, and barriers as they are. Assumes nothing.
 use mathlib.Core.Path.{_≡_, refl, sym, ap, _∙_}
 use mathlib.Core.Bool.{Bool, true, false}
 use mathlib.Core.Option.{Option, none, some, orElse, Option·map, Option·getD}
-use mathlib.Core.List.{List, [], _∷_, _++_, map, append-assoc}
-use Prim.Native.Nat.{ℕ, zero, suc, _+_, _%_, _≤_, _<_}
-use native.Mathlib.Omega.{arith}
+use mathlib.Core.List.{List, [], _∷_, _++_, map, append-assoc, append-nil}
+use Prim.Native.Nat.{ℕ, zero, suc, _+_, _%_}
 use lib.ListN.{length}
-use borrow.Author.Tests.{eqb-false, not-true}
 use Rattle.model.specs.Lists.{if_then_else_, keep}
 use Rattle.model.specs.Items.{Rot, rot, Item, rotation, barrier, isNonzero, dropZeroRots, Segment, endSegment, rewriteFrom, rewriteSegments}
-use Rattle.model.specs.Exchange.{mergeBack, mergeLocally, improves, Cut, starts, ends, Triple, withEnds, withStarts, triples, shareAxis, Swap}
-use Rattle.model.specs.Exchange.{swapOf}
-use Rattle.model.specs.Exchange.{tryExchange, tryExchanges, tryTriple, runEndFrom, Swapping, nextStart, runEnd, swapStep, swapsFrom, swaps}
+use Rattle.model.specs.Exchange.{mergeBack, mergeLocally, improves, Start, starts, End, ends, Triple, withEnds, withStarts, triples, shareAxis, Swap}
+use Rattle.model.specs.Exchange.{swapOf, tryExchange, tryExchanges, tryTriple, RunEnd, runEndFrom, Swapping, nextStart, runEnd, swapStep, swapsFrom, swaps}
 use Rattle.model.specs.Layering.{mergeInto, Layers, Shift, joinLayer, joinLayers, moveRotation, moveRotations, sweepFrom, sweep, dropZeroLayers}
-use Rattle.model.specs.Layering.{sweepsFrom}
-use Rattle.model.specs.Layering.{height, layerSegment}
+use Rattle.model.specs.Layering.{sweepsFrom, height, layerSegment}
 use Rattle.theory.specs.Cases.{by-if, on-if}
 use Rattle.theory.specs.Every.{Every, every-append, every-one, every-take, every-keep, every-reverse, every-flatten, every-map}
 use Rattle.theory.specs.StreamState.{barriersOf, barriersOf-append}
-use Rattle.run_wellformed.specs.CliffordAngles.{Turns}
 
 -- rotations have S while they merge, and R once zeros are removed
 pub record KeptByMerging (S R : Rot → Type 0) : Type 0 where
@@ -27,10 +22,10 @@ pub record KeptByMerging (S R : Rot → Type 0) : Type 0 where
   pub nonzero : (r : Rot) → S r → isNonzero r ≡ true → R r
 
 module _ (S R : Rot → Type 0) (kept : KeptByMerging S R) where
-  abbrev AllS : List Rot → Type 0
+  abbrev pub AllS : List Rot → Type 0
   AllS = Every S
 
-  abbrev AllR : List Rot → Type 0
+  abbrev pub AllR : List Rot → Type 0
   AllR = Every R
 
   weaken-all : (rs : List Rot) → AllR rs → AllS rs
@@ -84,31 +79,34 @@ module _ (S R : Rot → Type 0) (kept : KeptByMerging S R) where
 
   -- ---- cuts and triples
 
-  abbrev CutR : Cut → Type 0
-  CutR c = AllR (c .front) × AllR (c .back)
+  abbrev StartR : Start → Type 0
+  StartR s = AllR (s .skipped) × AllR (s .suffix)
 
-  starts-by : (before rest : List Rot) → AllR before → AllR rest → Every CutR (starts before rest)
+  starts-by : (before rest : List Rot) → AllR before → AllR rest → Every StartR (starts before rest)
   unfolding starts
   starts-by before [] h k = tt
   starts-by before (r ∷ rest) h k = ((h, k), starts-by (before ++ (r ∷ [])) rest (every-one R before r h (k .0)) (k .1))
 
-  ends-by : (before rest : List Rot) → AllR before → AllR rest → Every CutR (ends before rest)
+  abbrev EndR : End → Type 0
+  EndR e = AllR (e .prefix) × AllR (e .remainder)
+
+  ends-by : (before rest : List Rot) → AllR before → AllR rest → Every EndR (ends before rest)
   unfolding ends
   ends-by before [] h k = tt
   ends-by before (r ∷ rest) h k =
       let one = every-one R before r h (k .0) in
-      every-one CutR (ends (before ++ (r ∷ [])) rest) (record { front = before ++ (r ∷ []); back = rest })
+      every-one EndR (ends (before ++ (r ∷ [])) rest) (record { prefix = before ++ (r ∷ []); remainder = rest })
       (ends-by (before ++ (r ∷ [])) rest one (k .1)) (one, k .1)
 
   abbrev TripleR : Triple → Type 0
-  TripleR t = AllR (t .before) × AllR (t .a) × AllR (t .b) × AllR (t .c) × AllR (t .after)
+  TripleR t = AllR (t .skipped) × AllR (t .a) × AllR (t .b) × AllR (t .c) × AllR (t .remainder)
 
-  withEnds-by : (b : List Rot) (s : Cut) (es : List Cut) → AllR b → CutR s → Every CutR es → Every TripleR (withEnds b s es)
+  withEnds-by : (b : List Rot) (s : Start) (es : List End) → AllR b → StartR s → Every EndR es → Every TripleR (withEnds b s es)
   unfolding withEnds
   withEnds-by b s [] hb hs he = tt
   withEnds-by b s (e ∷ es) hb hs he = ((hs .0, hs .1, hb, he .0 .0, he .0 .1), withEnds-by b s es hb hs (he .1))
 
-  withStarts-by : (b : List Rot) (ss es : List Cut) → AllR b → Every CutR ss → Every CutR es → Every TripleR (withStarts b ss es)
+  withStarts-by : (b : List Rot) (ss : List Start) (es : List End) → AllR b → Every StartR ss → Every EndR es → Every TripleR (withStarts b ss es)
   unfolding withStarts
   withStarts-by b [] es hb hs he = tt
   withStarts-by b (s ∷ ss) es hb hs he =
@@ -124,7 +122,7 @@ module _ (S R : Rot → Type 0) (kept : KeptByMerging S R) where
 
   abbrev SwapR : Option Swap → Type 0
   SwapR none = Unit {0}
-  SwapR (some s) = AllR (s .before) × AllR (s .new) × AllR (s .after)
+  SwapR (some s) = AllR (s .skipped) × AllR (s .new) × AllR (s .remainder)
 
   or-else : (x y : Option Swap) → SwapR x → SwapR y → SwapR (orElse x y)
   unfolding orElse
@@ -157,48 +155,51 @@ module _ (S R : Rot → Type 0) (kept : KeptByMerging S R) where
         or-else (if shareAxis eager (t .a) (t .c) then tryExchanges l axes eager t else none) (tryTriple l axes eager ts)
         (by-if SwapR _ _ _ (tryExchanges-by t (h .0)) tt) (tryTriple-by ts (h .1))
 
+  abbrev RunEndR : RunEnd → Type 0
+  RunEndR x = AllR (x .run) × AllR (x .rest)
+
   runEndFrom-by : (l : ℕ) (axes : List (List ℕ)) (window : ℕ) (taken rest : List Rot) → AllR taken → AllR rest
-      → CutR (runEndFrom l axes window taken rest)
+      → RunEndR (runEndFrom l axes window taken rest)
   unfolding runEndFrom
   runEndFrom-by l axes window taken [] h k = (h, tt)
   runEndFrom-by l axes window taken (r ∷ rest) h k =
-      by-if CutR _ _ _ (runEndFrom-by l axes window (taken ++ (r ∷ [])) rest (every-one R taken r h (k .0)) (k .1)) (h, k)
+      by-if RunEndR _ _ _ (runEndFrom-by l axes window (taken ++ (r ∷ [])) rest (every-one R taken r h (k .0)) (k .1)) (h, k)
 
   abbrev SwappingR : Swapping → Type 0
   SwappingR s = AllR (s .done) × AllR (s .rest)
 
-  nextStart-by : (first third : Cut) (s : Swapping) (o : Option Swap) → CutR first → CutR third → SwappingR s → SwapR o
+  nextStart-by : (first third : RunEnd) (s : Swapping) (o : Option Swap) → RunEndR first → RunEndR third → SwappingR s → SwapR o
       → SwappingR (nextStart first third s o)
   unfolding nextStart
-  nextStart-by first third s none ha hc hs ho = (every-append R (s .done) (first .front) (hs .0) (ha .0), ha .1)
+  nextStart-by first third s none ha hc hs ho = (every-append R (s .done) (first .run) (hs .0) (ha .0), ha .1)
   nextStart-by first third s (some x) ha hc hs ho = (
-    every-append R (s .done) (x .before ++ x .new) (hs .0) (every-append R (x .before) (x .new) (ho .0) (ho .1)),
-    every-append R (x .after) (third .back) (ho .2) (hc .1),
+    every-append R (s .done) (x .skipped ++ x .new) (hs .0) (every-append R (x .skipped) (x .new) (ho .0) (ho .1)),
+    every-append R (x .remainder) (third .rest) (ho .2) (hc .1),
   )
 
   module _ (l : ℕ) (axes : List (List ℕ)) (window candidates : ℕ) (eager : Bool) where
-    runEnd-by : (rest : List Rot) → AllR rest → CutR (runEnd l axes window rest)
+    runEnd-by : (rest : List Rot) → AllR rest → RunEndR (runEnd l axes window rest)
     unfolding runEnd
     runEnd-by rest h = runEndFrom-by l axes window [] rest tt h
 
     -- a swap, or none
-    pub swapStep-by : (s : Swapping) → Every R (s .done) × Every R (s .rest)
+    swapStep-by : (s : Swapping) → Every R (s .done) × Every R (s .rest)
         → Every R (swapStep l axes window candidates eager s .done) × Every R (swapStep l axes window candidates eager s .rest)
     unfolding swapStep
     swapStep-by s h =
         let run = runEnd l axes window in
         let first = run (s .rest) in
-        let second = run (first .back) in
-        let third = run (second .back) in
+        let second = run (first .rest) in
+        let third = run (second .rest) in
         let ha = runEnd-by (s .rest) (h .1) in
-        let hb = runEnd-by (first .back) (ha .1) in
-        let hc = runEnd-by (second .back) (hb .1) in
-        let ts = triples candidates (first .front) (second .front) (third .front) in
+        let hb = runEnd-by (first .rest) (ha .1) in
+        let hc = runEnd-by (second .rest) (hb .1) in
+        let ts = triples candidates (first .run) (second .run) (third .run) in
         nextStart-by first third s (tryTriple l axes eager ts) ha hc h
-        (tryTriple-by l axes eager ts (triples-by candidates (first .front) (second .front) (third .front) (ha .0) (hb .0) (hc .0)))
+        (tryTriple-by l axes eager ts (triples-by candidates (first .run) (second .run) (third .run) (ha .0) (hb .0) (hc .0)))
 
     -- all swaps of a segment
-    pub swapsFrom-by : (k : ℕ) (s : Swapping) → Every R (s .done) × Every R (s .rest)
+    swapsFrom-by : (k : ℕ) (s : Swapping) → Every R (s .done) × Every R (s .rest)
         → Every R (swapsFrom l axes window candidates eager k s .done) × Every R (swapsFrom l axes window candidates eager k s .rest)
     unfolding swapsFrom
     swapsFrom-by zero s h = h
@@ -215,42 +216,46 @@ module _ (S R : Rot → Type 0) (kept : KeptByMerging S R) where
 
   -- ---- layers: zeros leave at a sweep's end, and there is one sweep at least
 
-  abbrev LayersS : List (List Rot) → Type 0
+  abbrev pub LayersS : List (List Rot) → Type 0
   LayersS = Every AllS
 
-  mergeInto-by : (layer : List Rot) (r : Rot) → AllS layer → S r → AllS (mergeInto layer r)
+  -- a rotation merges into a layer, or is laid behind it
+  pub mergeInto-by : (layer : List Rot) (r : Rot) → AllS layer → S r → AllS (mergeInto layer r)
   unfolding mergeInto
   mergeInto-by [] r h k = (k, tt)
   mergeInto-by (x ∷ layer) r h k =
       by-if AllS _ _ (x ∷ mergeInto layer r) (kept .merge x r (h .0) k, h .1) (h .0, mergeInto-by layer r (h .1) k)
 
   module _ (l : ℕ) (axes : List (List ℕ)) where
-    abbrev JoinedS : Layers → Type 0
+    abbrev pub JoinedS : Layers → Type 0
     JoinedS s = LayersS (s .done) × AllS (s .layer)
 
-    joinLayer-by : (s : Layers) (r : Rot) → JoinedS s → S r → JoinedS (joinLayer l axes s r)
+    -- a rotation joins the last layer, or opens one
+    pub joinLayer-by : (s : Layers) (r : Rot) → JoinedS s → S r → JoinedS (joinLayer l axes s r)
     unfolding joinLayer
     joinLayer-by s r h k =
         by-if JoinedS _ _ _ (h .0, mergeInto-by (s .layer) r (h .1) k) (every-one AllS (s .done) (s .layer) (h .0) (h .1), (k, tt))
 
-    joinLayers-by : (s : Layers) (rs : List Rot) → JoinedS s → AllS rs → JoinedS (joinLayers l axes s rs)
+    pub joinLayers-by : (s : Layers) (rs : List Rot) → JoinedS s → AllS rs → JoinedS (joinLayers l axes s rs)
     unfolding joinLayers
     joinLayers-by s [] h k = h
     joinLayers-by s (r ∷ rs) h k = joinLayers-by (joinLayer l axes s r) rs (joinLayer-by s r h (k .0)) (k .1)
 
-    abbrev ShiftS : Shift → Type 0
+    abbrev pub ShiftS : Shift → Type 0
     ShiftS s = AllS (s .layer) × AllS (s .stay)
 
-    moveRotation-by : (s : Shift) (r : Rot) → ShiftS s → S r → ShiftS (moveRotation l axes s r)
+    -- a rotation moves to the layer before, or stays
+    pub moveRotation-by : (s : Shift) (r : Rot) → ShiftS s → S r → ShiftS (moveRotation l axes s r)
     unfolding moveRotation
     moveRotation-by s r h k = by-if ShiftS _ _ _ (mergeInto-by (s .layer) r (h .0) k, h .1) (h .0, every-one S (s .stay) r (h .1) k)
 
-    moveRotations-by : (s : Shift) (rs : List Rot) → ShiftS s → AllS rs → ShiftS (moveRotations l axes s rs)
+    pub moveRotations-by : (s : Shift) (rs : List Rot) → ShiftS s → AllS rs → ShiftS (moveRotations l axes s rs)
     unfolding moveRotations
     moveRotations-by s [] h k = h
     moveRotations-by s (r ∷ rs) h k = moveRotations-by (moveRotation l axes s r) rs (moveRotation-by s r h (k .0)) (k .1)
 
-    sweepFrom-by : (layer : List Rot) (n : ℕ) (b : Bool) (ls : List (List Rot)) → AllS layer → LayersS ls
+    -- a sweep leaves layers of the kind
+    pub sweepFrom-by : (layer : List Rot) (n : ℕ) (b : Bool) (ls : List (List Rot)) → AllS layer → LayersS ls
         → LayersS (sweepFrom l axes layer n b ls .layers)
     unfolding sweepFrom
     sweepFrom-by layer n b [] h k = (h, tt)
@@ -260,12 +265,13 @@ module _ (S R : Rot → Type 0) (kept : KeptByMerging S R) where
         let g = moveRotations-by s next (h, tt) (k .0) in
         (g .0, sweepFrom-by (q .stay) (q .merged) (q .moved) ls (g .1) (k .1))
 
-    sweep-by : (n : ℕ) (ls : List (List Rot)) → LayersS ls → LayersS (sweep l axes n ls .layers)
+    pub sweep-by : (n : ℕ) (ls : List (List Rot)) → LayersS ls → LayersS (sweep l axes n ls .layers)
     unfolding sweep
     sweep-by n [] h = tt
     sweep-by n (layer ∷ ls) h = sweepFrom-by layer n false ls (h .0) (h .1)
 
-    zeros-by : (ls : List (List Rot)) → LayersS ls → Every AllR (map dropZeroRots ls)
+    -- zeros leave at its end
+    pub zeros-by : (ls : List (List Rot)) → LayersS ls → Every AllR (map dropZeroRots ls)
     zeros-by [] h = tt
     zeros-by (layer ∷ ls) h = (dropZeroRots-by layer (h .0), zeros-by ls (h .1))
 
@@ -299,20 +305,6 @@ module _ (S R : Rot → Type 0) (kept : KeptByMerging S R) where
         sweepsFrom-by (height ls) (t .moved) (t .merged) (dropZeroLayers (t .layers))
         (swept-by (s .merged) ls (every-one AllS (s .done) (s .layer) (g .0) (g .1)))
 
--- ---- the kinds: angles 1 to 7, axes in range
-
--- merged angles are 0 to 7; those that stay are not 0
-pub turns-merging : KeptByMerging (λ (r : Rot). r .angle ≤ 7) Turns
-turns-merging = record {
-  weaken = λ r h. h .1;
-  merge = λ d r h k. omega arith;
-  nonzero = λ r h e. (let n : r .angle ≡ 0 → ⊥ = eqb-false (r .angle) 0 (not-true _ e) in omega arith, h);
-}
-
--- a merge keeps the axis
-pub axes-merging : (m : ℕ) → KeptByMerging (λ (r : Rot). r .axis < m) (λ (r : Rot). r .axis < m)
-axes-merging m = record { weaken = λ r h. h; merge = λ d r h k. h; nonzero = λ r h e. h }
-
 -- ---- segments: an item is of kind I, a rotation of it is one of kind R
 
 module _ (R : Rot → Type 0) (I : Item → Type 0) (into : (r : Rot) → R r → I (rotation r)) (from : (r : Rot) → I (rotation r) → R r) where
@@ -339,35 +331,31 @@ module _ (R : Rot → Type 0) (I : Item → Type 0) (into : (r : Rot) → R r �
 
 -- ---- barriers
 
-rotations-stop : (rs : List Rot) → barriersOf (map rotation rs) ≡ []
+rotations-barriers : (rs : List Rot) → barriersOf (map rotation rs) ≡ []
 unfolding barriersOf
-rotations-stop [] = refl
-rotations-stop (r ∷ rs) = rotations-stop rs
-
-append-nil : (xs : List ℕ) → xs ++ [] ≡ xs
-append-nil [] = refl
-append-nil (x ∷ xs) = ap (λ (r : List ℕ). x ∷ r) (append-nil xs)
+rotations-barriers [] = refl
+rotations-barriers (r ∷ rs) = rotations-barriers rs
 
 module _ (f : List Rot → Segment) where
-  endSegment-stops : (done : List Item) (segment : List Rot) → barriersOf (endSegment f done segment) ≡ barriersOf done
+  endSegment-barriers : (done : List Item) (seg : List Rot) → barriersOf (endSegment f done seg) ≡ barriersOf done
   unfolding endSegment
-  endSegment-stops done segment =
-      barriersOf-append done (map rotation (f segment .rots))
-      ∙ ap (λ (x : List ℕ). barriersOf done ++ x) (rotations-stop (f segment .rots)) ∙ append-nil (barriersOf done)
+  endSegment-barriers done seg =
+      barriersOf-append done (map rotation (f seg .rots)) ∙ ap (λ (x : List ℕ). barriersOf done ++ x) (rotations-barriers (f seg .rots))
+      ∙ append-nil
+      (barriersOf done)
 
-  rewriteFrom-stops : (done : List Item) (segment : List Rot) (c : ℕ) (is : List Item)
-      → barriersOf (rewriteFrom f done segment c is .items) ≡ barriersOf done ++ barriersOf is
+  rewriteFrom-barriers : (done : List Item) (seg : List Rot) (c : ℕ) (is : List Item) → barriersOf
+      (rewriteFrom f done seg c is .items) ≡ barriersOf done ++ barriersOf is
   unfolding rewriteFrom barriersOf
-  rewriteFrom-stops done segment c [] = endSegment-stops done segment ∙ sym (append-nil (barriersOf done))
-  rewriteFrom-stops done segment c (rotation r ∷ is) = rewriteFrom-stops done (segment ++ (r ∷ [])) c is
-  rewriteFrom-stops done segment c (barrier o a s ∷ is) =
-      let ended = endSegment f done segment in
-      rewriteFrom-stops (ended ++ (barrier o a s ∷ [])) [] (c + f segment .changes) is
+  rewriteFrom-barriers done seg c [] = endSegment-barriers done seg ∙ sym (append-nil (barriersOf done))
+  rewriteFrom-barriers done seg c (rotation r ∷ is) = rewriteFrom-barriers done (seg ++ (r ∷ [])) c is
+  rewriteFrom-barriers done seg c (barrier o a s ∷ is) =
+      rewriteFrom-barriers (endSegment f done seg ++ (barrier o a s ∷ [])) [] (c + f seg .changes) is
       ∙ ap (λ (x : List ℕ). x ++ barriersOf is)
-      (barriersOf-append ended (barrier o a s ∷ []) ∙ ap (λ (x : List ℕ). x ++ (o ∷ [])) (endSegment-stops done segment))
+      (barriersOf-append (endSegment f done seg) (barrier o a s ∷ []) ∙ ap (λ (x : List ℕ). x ++ (o ∷ [])) (endSegment-barriers done seg))
       ∙ append-assoc (barriersOf done) (o ∷ []) (barriersOf is)
 
   -- the barriers that come out are those that went in, in order
-  pub rewriteSegments-stops : (is : List Item) → barriersOf (rewriteSegments f is .items) ≡ barriersOf is
+  pub rewriteSegments-barriers : (is : List Item) → barriersOf (rewriteSegments f is .items) ≡ barriersOf is
   unfolding rewriteSegments
-  rewriteSegments-stops is = rewriteFrom-stops [] [] 0 is ∙ unfold barriersOf in refl
+  rewriteSegments-barriers is = rewriteFrom-barriers [] [] 0 is ∙ unfold barriersOf in refl
