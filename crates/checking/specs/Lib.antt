@@ -3,4 +3,4 @@ pub mod Nodes
 pub mod Walk
 pub mod Table
 pub mod Outcomes
-pub mod Whole
+pub mod Refusals

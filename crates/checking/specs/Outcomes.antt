@@ -1,8 +1,8 @@
 -- Refusal 8 by a table of bits: it has the outcomes measured before operation i. Assumes nothing.
-use mathlib.Core.Path.{_≡_, refl, sym, ap, ap₂, _∙_, subst}
+use mathlib.Core.Path.{_≡_, refl, sym, ap, _∙_}
 use mathlib.Core.Bool.{Bool, true, false, not, _&&_, _||_}
-use mathlib.Core.List.{List, [], _∷_}
-use Prim.Native.Nat.{ℕ, zero, suc, _+_, _-_, _*_, _/_, _≤_, _<_}
+use mathlib.Core.List.{List, []}
+use Prim.Native.Nat.{ℕ, zero, suc, _+_, _-_, _*_, _≤_}
 use native.Mathlib.Numerals.{add-one}
 use native.Mathlib.Omega.{arith}
 use lib.Dec.{eqb, ltb}
@@ -11,7 +11,7 @@ use borrow.Author.Tests.{eq-eqb, ne-eqb, ltb-false}
 use Rattle.store.specs.Part.{part, part-cut}
 use Rattle.model.specs.declared.Answer.{Answer}
 use Rattle.model.specs.declared.Answer.the-variants.{Accepted, BadReference, BadOperation, BadOutcome}
-use Rattle.model.specs.Lists.{if_then_else_, anyOf, member}
+use Rattle.model.specs.Lists.{anyOf, member}
 use Rattle.model.specs.Interface.{numberOf}
 use Rattle.model.specs.Program.{fieldOf, largestOutcome, noOutcome}
 use Rattle.model.specs.Checking.{badOperation, badReference, badOutcome, measured, checkOperation, checkOperations}
@@ -29,10 +29,6 @@ pub record Checked (nodes : ℕ) (seen r : List ℕ) (a : Answer) (t : List ℕ)
   pub answer : a ≡ checkOperation nodes seen r
   pub entered : numberOf a ≡ 0 → Entered (measured seen r) t
 
-pub none-entered : Entered [] (replicate 1024 0)
-unfolding member anyOf
-none-entered = record { long = length-replicate {A = ℕ} 1024 0; bits = λ o h. none-set 1024 o (omega arith) }
-
 -- an operation that passes refusal 7 and is no plain rotation has an outcome in range
 pub outcome-small : (r : List ℕ) → badOperation r ≡ false → (fieldOf r 0 ≡ 1 → ⊥) → fieldOf r 4 ≤ largestOutcome
 unfolding badOperation
@@ -43,7 +39,8 @@ outcome-small r e n =
 
 -- ---- the lookup
 
-pub looked-up : {seen t : List ℕ} (r : List ℕ) (b : Bool) → b ≡ hasBit t (fieldOf r 4) → fieldOf r 4 ≤ largestOutcome → Entered seen t
+pub looked-up : {seen t : List ℕ} (r : List ℕ) (b : Bool) → b ≡ hasBit t (fieldOf r 4) → fieldOf r 4 ≤ largestOutcome
+    → Entered seen t
     → (eqb (fieldOf r 0) 2 && b) || (eqb (fieldOf r 0) 3 && not b) ≡ badOutcome seen r
 unfolding badOutcome
 looked-up r b e l h =
@@ -60,13 +57,15 @@ module _ {seen t : List ℕ} (r : List ℕ) where
   unfolding measured
   not-measured n h = rw (if-false {A = List ℕ} _ _ (ne-eqb (fieldOf r 0) 2 n)) h
 
-  pub now-measured : fieldOf r 0 ≡ 2 → fieldOf r 4 ≤ largestOutcome → Entered seen t → Entered (measured seen r) (withBit t (fieldOf r 4))
+  pub now-measured : fieldOf r 0 ≡ 2 → fieldOf r 4 ≤ largestOutcome → Entered seen t
+      → Entered (measured seen r) (withBit t (fieldOf r 4))
   unfolding measured member anyOf
   now-measured e l h =
       rw (if-true {A = List ℕ} _ _ (eq-eqb (fieldOf r 0) 2 e))
       (record {
         long = with-length t (fieldOf r 4) ∙ h .long;
-        bits = λ o b. one-more-set t (fieldOf r 4) o (omega (arith, h .long)) ∙ ap (λ (x : Bool). eqb o (fieldOf r 4) || x) (h .bits o b);
+        bits = λ o b. one-more-set t (fieldOf r 4) o (omega (arith, h .long))
+            ∙ ap (λ (x : Bool). eqb o (fieldOf r 4) || x) (h .bits o b);
       })
 
 -- ---- one operation: the three tests said b, d and f
@@ -110,14 +109,15 @@ seenBy zero s = []
 seenBy (suc i) s = measured (seenBy i s) (part s (i * 6) 6)
 
 pub none-seen : (s : List ℕ) → Entered (seenBy 0 s) (replicate 1024 0)
-unfolding seenBy
-none-seen s = none-entered
+unfolding seenBy member anyOf
+none-seen s = record { long = length-replicate {A = ℕ} 1024 0; bits = λ o h. none-set 1024 o (omega arith) }
 
 pub seen-next : (i : ℕ) (s : List ℕ) {t : List ℕ} → Entered (measured (seenBy i s) (take (i * 6 + 6 - i * 6) (drop (i * 6) s))) t
     → Entered (seenBy (i + 1) s) t
 unfolding seenBy
 seen-next i s {t} h = rw (add-one i) (rw (part-cut s (i * 6) 6) at h)
 
-pub operations-walk : (nodes : ℕ) (s : List ℕ) → Walks 6 s (λ i. checkOperation nodes (seenBy i s)) (λ i. checkOperations nodes (seenBy i s))
+pub operations-walk : (nodes : ℕ) (s : List ℕ)
+    → Walks 6 s (λ i. checkOperation nodes (seenBy i s)) (λ i. checkOperations nodes (seenBy i s))
 unfolding checkOperations seenBy
 operations-walk nodes s = record { at-end = λ i. refl; next-first = λ i rs. refl }

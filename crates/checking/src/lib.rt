@@ -5,9 +5,9 @@ ghost use mathlib.Core.List.{List, []};
 ghost use Prim.Native.Nat.{ℕ, _+_, _*_, _<_, _≤_};
 ghost use lib.ListN.{length};
 ghost use Rattle.model.specs.Checking.{badCount, badOption, programShort, lentShort};
-ghost use Rattle.model.specs.Checking.{checkNode, checkNodes, badReference, badOperation, badOutcome, measured, checkOperations};
-ghost use Rattle.model.specs.Checking.{checkRow, checkRows, checkProgram, checking};
-ghost use Rattle.model.specs.Program.{fieldOf, records};
+ghost use Rattle.model.specs.Checking.{checkNodeOfKind, checkNode, checkNodes, badReference, checkRow, checkRows};
+ghost use Rattle.model.specs.Checking.{badOperation, badOutcome, measured, checkOperations, checkProgram, checking};
+ghost use Rattle.model.specs.Program.{records};
 ghost use Rattle.checking.specs.Call.{jobOf, lentOf};
 ghost use Rattle.checking.specs.Table.{hasBit, withBit};
 ghost use Rattle.checking.specs.Outcomes.{Entered, Checked};
@@ -21,6 +21,9 @@ const MOST: usize = 1048576;
 const LARGEST_OUTCOME: u32 = 65534;
 
 const NO_OUTCOME: u32 = 65535;
+
+// The numbers of a table that has a bit for each outcome.
+const TABLE: usize = 1024;
 
 // Refusal 1.
 fn bad_count(c: Counts) -> bool
@@ -53,27 +56,27 @@ fn program_short(c: Counts, nodes: &[u32], operations: &[u32], rows: &[u32]) -> 
 // Refusal 3, of the work stores and the results.
 fn lent_short(
     c: Counts,
-    o: Options,
+    limit: usize,
     words: &[u64],
     numbers: &[u32],
     operations: &[u32],
     rows: &[u32],
 ) -> bool
-    requires { ⌜ (badCount c ≡ false) × (badOption o ≡ false) ⌝ }
+    requires { ⌜ (badCount c ≡ false) × (limit ≤ 1048576) ⌝ }
     ensures { λ r. ⌜ r ≡ lentShort c
-        (lentOf (now (words .entry)) (now (numbers .entry)) (now (operations .entry)) (now (rows .entry))) (o .«max_packed_words») ⌝ }
+        (lentOf (now (words .entry)) (now (numbers .entry)) (now (operations .entry)) (now (rows .entry))) limit ⌝ }
 {
-    let shape = layout::shape_of(c, o.max_packed_words);
+    let shape = layout::shape_of(c, limit);
     (words.len() < shape.limit + layout::SCRATCH * shape.l)
         | (numbers.len() < layout::ROWS * shape.u)
         | (operations.len() < 6 * c.operations)
         | (rows.len() < 8 * c.qubits)
 }
 
-// Refusals 4 and 5 of node i, which is a letter.
-fn check_letter(r: &[u32], i: usize, qubits: usize) -> Answer
-    requires { ⌜ (length (now r) ≡ 5) × (0 < i) × (fieldOf (now r) 0 ≡ 1) ⌝ }
-    ensures { λ a. ⌜ a ≡ checkNode qubits i (now (r .entry)) ⌝ }
+// Refusals 4 and 5 of a letter: as node 1, and as any node but 0.
+fn check_letter(r: &[u32], qubits: usize) -> Answer
+    requires { ⌜ length (now r) ≡ 5 ⌝ }
+    ensures { λ a. ⌜ a ≡ checkNodeOfKind qubits 1 1 (now (r .entry)) ⌝ }
 {
     if r[2] > 3 {
         return Answer::BadNode;
@@ -96,7 +99,7 @@ fn check_node(r: &[u32], i: usize, qubits: usize) -> Answer
         return Answer::BadNode;
     }
     if r[0] == 1 {
-        return check_letter(r, i, qubits);
+        return check_letter(r, qubits);
     }
     if r[0] > 2 {
         return Answer::BadNode;
@@ -171,7 +174,7 @@ fn check_rows(rows: &[u32], count: usize, nodes: usize) -> Answer
 }
 
 // Whether the table has the outcome.
-fn is_entered(table: &[u64; 1024], outcome: u32) -> bool
+fn is_entered(table: &[u64; TABLE], outcome: u32) -> bool
     requires { ⌜ outcome < 65536 ⌝ }
     ensures { λ b. ⌜ b ≡ hasBit (now (table .entry)) outcome ⌝ }
 {
@@ -180,7 +183,7 @@ fn is_entered(table: &[u64; 1024], outcome: u32) -> bool
 }
 
 // The table gets the outcome.
-fn enter(table: &mut [u64; 1024], outcome: u32)
+fn enter(table: &mut [u64; TABLE], outcome: u32)
     requires { ⌜ outcome < 65536 ⌝ }
     ensures { λ _. ⌜ now (table .exit) ≡ withBit (now (table .entry)) outcome ⌝ }
 {
@@ -190,7 +193,7 @@ fn enter(table: &mut [u64; 1024], outcome: u32)
 }
 
 // Refusal 8 of an operation that passes refusal 7. The table has the outcomes measured before it.
-fn bad_outcome(table: &[u64; 1024], r: &[u32]) -> bool
+fn bad_outcome(table: &[u64; TABLE], r: &[u32]) -> bool
     requires { ⌜ (length (now r) ≡ 6) × (badOperation (now r) ≡ false) ⌝ }
     ensures { λ b. ⌜ ((seen : List ℕ) → Entered seen (now (table .entry)) → b ≡ badOutcome seen (now (r .entry))) ⌝ }
 {
@@ -204,9 +207,10 @@ fn bad_outcome(table: &[u64; 1024], r: &[u32]) -> bool
 }
 
 // The outcome of an operation that passes refusal 7 is entered, if it is measured.
-fn enter_measured(table: &mut [u64; 1024], r: &[u32])
+fn enter_measured(table: &mut [u64; TABLE], r: &[u32])
     requires { ⌜ (length (now r) ≡ 6) × (badOperation (now r) ≡ false) ⌝ }
-    ensures { λ _. ⌜ ((seen : List ℕ) → Entered seen (now (table .entry)) → Entered (measured seen (now (r .entry))) (now (table .exit))) ⌝ }
+    ensures { λ _. ⌜ ((seen : List ℕ) → Entered seen (now (table .entry))
+        → Entered (measured seen (now (r .entry))) (now (table .exit))) ⌝ }
 {
     if r[0] != 2 {
         return;
@@ -215,7 +219,7 @@ fn enter_measured(table: &mut [u64; 1024], r: &[u32])
 }
 
 // Refusals 7, 6 and 8 of an operation. The table has the outcomes measured before it, and then its own.
-fn check_operation(table: &mut [u64; 1024], r: &[u32], nodes: usize) -> Answer
+fn check_operation(table: &mut [u64; TABLE], r: &[u32], nodes: usize) -> Answer
     requires { ⌜ length (now r) ≡ 6 ⌝ }
     ensures { λ a. ⌜ ((seen : List ℕ) → Entered seen (now (table .entry))
         → Checked nodes seen (now (r .entry)) a (now (table .exit))) ⌝ }
@@ -239,7 +243,7 @@ fn check_operations(operations: &[u32], count: usize, nodes: usize) -> Answer
     ensures { λ a. ⌜ a ≡ checkOperations nodes [] (records 6 count (now (operations .entry))) ⌝ }
 {
     // bit o: outcome o is measured
-    let mut table = [0u64; 1024];
+    let mut table = [0u64; TABLE];
     for i in 0..count {
         let at = i * 6;
         let e = at + 6;
@@ -253,7 +257,7 @@ fn check_operations(operations: &[u32], count: usize, nodes: usize) -> Answer
 
 // Refusals 4 to 8 of a program whose slices are long enough.
 fn check_program(c: Counts, nodes: &[u32], operations: &[u32], rows: &[u32]) -> Answer
-    requires { ⌜ (badCount c ≡ false) × (programShort (jobOf c (now nodes) (now operations) (now rows)) ≡ false) ⌝ }
+    requires { ⌜ programShort (jobOf c (now nodes) (now operations) (now rows)) ≡ false ⌝ }
     ensures { λ a. ⌜ a ≡ checkProgram (jobOf c (now (nodes .entry)) (now (operations .entry)) (now (rows .entry))) ⌝ }
 {
     let a = check_nodes(nodes, c.nodes, c.qubits);
@@ -291,7 +295,7 @@ pub fn checking(
     if program_short(counts, nodes, operations, rows)
         | lent_short(
             counts,
-            options,
+            options.max_packed_words,
             words,
             numbers,
             result_operations,

@@ -1,5 +1,5 @@
 -- A plain rotation has no outcome; else the table answers. Assumes nothing.
-use Rattle.checking.specs.Outcomes.{Entered, outcome-small, rotation-passes, looked-up}
+use Rattle.checking.specs.Outcomes.{outcome-small, rotation-passes, looked-up}
 use native.Mathlib.Omega.{arith}
 use borrow.Author.Needs.{needs}
 use Rattle.checking.proofs.bad_outcome.Statement.{statement}

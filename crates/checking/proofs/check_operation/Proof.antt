@@ -1,6 +1,6 @@
 -- The model's three tests, one after the other; then the outcome is entered. Assumes nothing.
 use mathlib.Core.Path.{sym, _∙_}
-use Rattle.checking.specs.Outcomes.{Entered, Checked, operation-bad, reference-bad, outcome-bad, operation-passes}
+use Rattle.checking.specs.Outcomes.{operation-bad, reference-bad, outcome-bad, operation-passes}
 use borrow.Author.Needs.{needs}
 use Rattle.checking.proofs.check_operation.Statement.{statement}
 use Rattle.checking.proofs.check_operation.Tie as tie
@@ -23,45 +23,45 @@ bad-reference-requires c κs = search needs
 returns-2 : tie.Need-returns-2
 returns-2 c =
     let bad-reference = c .before in
-    let test = bad-reference .before .before .before in
-    let bad-operation = test .before in
-    λ seen h. reference-bad (bad-operation .bad-operation .ensures) (test .if1 .left) (bad-reference .bad-reference .ensures)
+    let known = bad-reference .before .before .before in
+    let bad-operation = known .before in
+    λ seen h. reference-bad (bad-operation .bad-operation .ensures) (known .if1 .left) (bad-reference .bad-reference .ensures)
     (c .if2 .taken)
 
 bad-outcome-requires : tie.Need-bad-outcome-requires
 bad-outcome-requires c κs =
-    let test = c .before .before .before .before .before in
-    let bad-operation = test .before in
+    let known = c .before .before .before .before .before in
+    let bad-operation = known .before in
     let start = bad-operation .before .before in
-    (start .pre, sym (bad-operation .bad-operation .ensures) ∙ test .if1 .left)
+    (start .pre, sym (bad-operation .bad-operation .ensures) ∙ known .if1 .left)
 
 returns-3 : tie.Need-returns-3
 returns-3 c =
     let bad-outcome = c .before in
-    let test = bad-outcome .before .before in
-    let bad-reference = test .before in
-    let test′ = bad-reference .before .before .before in
-    let bad-operation = test′ .before in
-    λ seen h. outcome-bad (bad-operation .bad-operation .ensures) (test′ .if1 .left) (bad-reference .bad-reference .ensures)
-    (test .if2 .left) (bad-outcome .bad-outcome .ensures seen h) (c .if3 .taken)
+    let inside = bad-outcome .before .before in
+    let bad-reference = inside .before in
+    let known = bad-reference .before .before .before in
+    let bad-operation = known .before in
+    λ seen h. outcome-bad (bad-operation .bad-operation .ensures) (known .if1 .left) (bad-reference .bad-reference .ensures)
+    (inside .if2 .left) (bad-outcome .bad-outcome .ensures seen h) (c .if3 .taken)
 
 enter-measured-requires : tie.Need-enter-measured-requires
 enter-measured-requires c κs =
-    let test = c .before .before .before .before .before .before .before .before in
-    let bad-operation = test .before in
+    let known = c .before .before .before .before .before .before .before .before in
+    let bad-operation = known .before in
     let start = bad-operation .before .before in
-    (start .pre, sym (bad-operation .bad-operation .ensures) ∙ test .if1 .left)
+    (start .pre, sym (bad-operation .bad-operation .ensures) ∙ known .if1 .left)
 
 returns-4 : tie.Need-returns-4
 returns-4 c =
-    let test = c .before .before in
-    let bad-outcome = test .before in
-    let test′ = bad-outcome .before .before in
-    let bad-reference = test′ .before in
-    let test′′ = bad-reference .before .before .before in
-    let bad-operation = test′′ .before in
-    λ seen h. operation-passes (bad-operation .bad-operation .ensures) (test′′ .if1 .left) (bad-reference .bad-reference .ensures)
-    (test′ .if2 .left) (bad-outcome .bad-outcome .ensures seen h) (test .if3 .left) (c .enter-measured .ensures seen h)
+    let outcome-right = c .before .before in
+    let bad-outcome = outcome-right .before in
+    let inside = bad-outcome .before .before in
+    let bad-reference = inside .before in
+    let known = bad-reference .before .before .before in
+    let bad-operation = known .before in
+    λ seen h. operation-passes (bad-operation .bad-operation .ensures) (known .if1 .left) (bad-reference .bad-reference .ensures)
+    (inside .if2 .left) (bad-outcome .bad-outcome .ensures seen h) (outcome-right .if3 .left) (c .enter-measured .ensures seen h)
 
 pub check-operation-spec : {M : Type 1} → statement M
 check-operation-spec =

@@ -4,7 +4,7 @@ use Prim.Native.Nat.{_-_}
 use lib.ListN.{length-take, length-drop}
 use Rattle.model.specs.Checking.{checkOperations}
 use Rattle.checking.specs.Walk.{LeftFrom, all-left, none-left, passes, refused}
-use Rattle.checking.specs.Outcomes.{Entered, Checked, seenBy, none-seen, seen-next, operations-walk}
+use Rattle.checking.specs.Outcomes.{Entered, seenBy, none-seen, seen-next, operations-walk}
 use native.Mathlib.Omega.{arith}
 use borrow.Author.Needs.{needs}
 use Rattle.checking.proofs.check_operations.Statement.{statement}
@@ -61,9 +61,14 @@ loop-less c = omega arith
 
 loop-again : tie.Need-loop-again Inv-loop μ-loop
 loop-again c =
-    let checked = c .before .before .check-operation .ensures _ (c .before .before .before .before .before .before .loop .inv .1) in
-    (passes (operations-walk _ _) (c .before .before .before .before .before .before .loop .inv .0) (omega arith) (checked .answer) (c .before .number-of .ensures) (c .if1 .left),
-    seen-next _ _ (checked .entered (omega arith)))
+    let number-of = c .before in
+    let check-operation = number-of .before in
+    let head = check-operation .before .before .before .before in (
+      passes (operations-walk _ _) (head .loop .inv .0) (omega arith)
+          (check-operation .check-operation .ensures _ (head .loop .inv .1) .answer) (number-of .number-of .ensures) (c .if1 .left),
+      seen-next _ _
+          (check-operation .check-operation .ensures _ (head .loop .inv .1) .entered (omega arith)),
+    )
 
 returns-2 : tie.Need-returns-2 Inv-loop μ-loop
 unfolding seenBy

@@ -1,5 +1,5 @@
 -- The outcome of a measurement is entered; else nothing is written. Assumes nothing.
-use Rattle.checking.specs.Outcomes.{Entered, outcome-small, not-measured, now-measured}
+use Rattle.checking.specs.Outcomes.{outcome-small, not-measured, now-measured}
 use native.Mathlib.Omega.{arith}
 use borrow.Author.Needs.{needs}
 use Rattle.checking.proofs.enter_measured.Statement.{statement}
