@@ -1,5 +1,6 @@
 pub mod Call
 pub mod Nodes
 pub mod Walk
+pub mod Table
 pub mod Outcomes
-pub mod Whole
+pub mod Refusals

@@ -1,16 +1,16 @@
 // Checking: refusals 1 to 8. It takes no slice by &mut, so it writes nothing.
 ghost use mathlib.Core.Path.{_≡_};
 ghost use mathlib.Core.Bool.{false};
-ghost use mathlib.Core.List.{[]};
-ghost use Prim.Native.Nat.{_+_, _*_, _<_, _≤_};
+ghost use mathlib.Core.List.{List, []};
+ghost use Prim.Native.Nat.{ℕ, _+_, _*_, _<_, _≤_};
 ghost use lib.ListN.{length};
 ghost use Rattle.model.specs.Checking.{badCount, badOption, programShort, lentShort};
-ghost use Rattle.model.specs.Checking.{checkNode, checkNodes, badReference, badOperation, badOutcome, checkOperation, checkOperations};
-ghost use Rattle.model.specs.Checking.{checkRow, checkRows, checkProgram, checking};
-ghost use Rattle.model.specs.Lists.{member};
-ghost use Rattle.model.specs.Program.{fieldOf, records};
+ghost use Rattle.model.specs.Checking.{checkNodeOfKind, checkNode, checkNodes, badReference, checkRow, checkRows};
+ghost use Rattle.model.specs.Checking.{badOperation, badOutcome, measured, checkOperations, checkProgram, checking};
+ghost use Rattle.model.specs.Program.{records};
 ghost use Rattle.checking.specs.Call.{jobOf, lentOf};
-ghost use Rattle.checking.specs.Outcomes.{seenBy, measuresIt};
+ghost use Rattle.checking.specs.Table.{hasBit, withBit};
+ghost use Rattle.checking.specs.Outcomes.{Entered, Checked};
 use model::Answer;
 use model::Counts;
 use model::Options;
@@ -21,6 +21,9 @@ const MOST: usize = 1048576;
 const LARGEST_OUTCOME: u32 = 65534;
 
 const NO_OUTCOME: u32 = 65535;
+
+// The numbers of a table that has a bit for each outcome.
+const TABLE: usize = 1024;
 
 // Refusal 1.
 fn bad_count(c: Counts) -> bool
@@ -53,27 +56,27 @@ fn program_short(c: Counts, nodes: &[u32], operations: &[u32], rows: &[u32]) -> 
 // Refusal 3, of the work stores and the results.
 fn lent_short(
     c: Counts,
-    o: Options,
+    limit: usize,
     words: &[u64],
     numbers: &[u32],
     operations: &[u32],
     rows: &[u32],
 ) -> bool
-    requires { ⌜ (badCount c ≡ false) × (badOption o ≡ false) ⌝ }
+    requires { ⌜ (badCount c ≡ false) × (limit ≤ 1048576) ⌝ }
     ensures { λ r. ⌜ r ≡ lentShort c
-        (lentOf (now (words .entry)) (now (numbers .entry)) (now (operations .entry)) (now (rows .entry))) (o .«max_packed_words») ⌝ }
+        (lentOf (now (words .entry)) (now (numbers .entry)) (now (operations .entry)) (now (rows .entry))) limit ⌝ }
 {
-    let shape = layout::shape_of(c, o.max_packed_words);
+    let shape = layout::shape_of(c, limit);
     (words.len() < shape.limit + layout::SCRATCH * shape.l)
         | (numbers.len() < layout::ROWS * shape.u)
         | (operations.len() < 6 * c.operations)
         | (rows.len() < 8 * c.qubits)
 }
 
-// Refusals 4 and 5 of node i, which is a letter.
-fn check_letter(r: &[u32], i: usize, qubits: usize) -> Answer
-    requires { ⌜ (length (now r) ≡ 5) × (0 < i) × (fieldOf (now r) 0 ≡ 1) ⌝ }
-    ensures { λ a. ⌜ a ≡ checkNode qubits i (now (r .entry)) ⌝ }
+// Refusals 4 and 5 of a letter: as node 1, and as any node but 0.
+fn check_letter(r: &[u32], qubits: usize) -> Answer
+    requires { ⌜ length (now r) ≡ 5 ⌝ }
+    ensures { λ a. ⌜ a ≡ checkNodeOfKind qubits 1 1 (now (r .entry)) ⌝ }
 {
     if r[2] > 3 {
         return Answer::BadNode;
@@ -96,7 +99,7 @@ fn check_node(r: &[u32], i: usize, qubits: usize) -> Answer
         return Answer::BadNode;
     }
     if r[0] == 1 {
-        return check_letter(r, i, qubits);
+        return check_letter(r, qubits);
     }
     if r[0] > 2 {
         return Answer::BadNode;
@@ -170,47 +173,56 @@ fn check_rows(rows: &[u32], count: usize, nodes: usize) -> Answer
     Answer::Accepted
 }
 
-// Whether an operation measures the outcome.
-fn measures(r: &[u32], outcome: u32) -> bool
-    requires { ⌜ length (now r) ≡ 6 ⌝ }
-    ensures { λ m. ⌜ m ≡ measuresIt outcome (now (r .entry)) ⌝ }
+// Whether the table has the outcome.
+fn is_entered(table: &[u64; TABLE], outcome: u32) -> bool
+    requires { ⌜ outcome < 65536 ⌝ }
+    ensures { λ b. ⌜ b ≡ hasBit (now (table .entry)) outcome ⌝ }
 {
-    (r[0] == 2) & (outcome == r[4])
+    let o = outcome as usize;
+    (table[o / 64] >> (o % 64)) % 2 == 1
 }
 
-// Whether one of the first n operations measures the outcome.
-fn measured_before(operations: &[u32], n: usize, outcome: u32) -> bool
-    requires { ⌜ 6 * n ≤ length (now operations) ⌝ }
-    ensures { λ m. ⌜ m ≡ member outcome (seenBy n (now (operations .entry))) ⌝ }
+// The table gets the outcome.
+fn enter(table: &mut [u64; TABLE], outcome: u32)
+    requires { ⌜ outcome < 65536 ⌝ }
+    ensures { λ _. ⌜ now (table .exit) ≡ withBit (now (table .entry)) outcome ⌝ }
 {
-    for i in 0..n {
-        let at = i * 6;
-        let e = at + 6;
-        if measures(&operations[at..e], outcome) {
-            return true;
-        }
-    }
-    false
+    let o = outcome as usize;
+    let j = o / 64;
+    table[j] = table[j] | 1 << (o % 64);
 }
 
-// Refusal 8 of operation i, whose record is r.
-fn bad_outcome(operations: &[u32], i: usize, r: &[u32]) -> bool
-    requires { ⌜ (6 * i ≤ length (now operations)) × (length (now r) ≡ 6) ⌝ }
-    ensures { λ b. ⌜ b ≡ badOutcome (seenBy i (now (operations .entry))) (now (r .entry)) ⌝ }
+// Refusal 8 of an operation that passes refusal 7. The table has the outcomes measured before it.
+fn bad_outcome(table: &[u64; TABLE], r: &[u32]) -> bool
+    requires { ⌜ (length (now r) ≡ 6) × (badOperation (now r) ≡ false) ⌝ }
+    ensures { λ b. ⌜ ((seen : List ℕ) → Entered seen (now (table .entry)) → b ≡ badOutcome seen (now (r .entry))) ⌝ }
 {
     let kind = r[0];
     // a plain rotation has no outcome to look for
     if kind == 1 {
         return false;
     }
-    let before = measured_before(operations, i, r[4]);
+    let before = is_entered(table, r[4]);
     ((kind == 2) & before) | ((kind == 3) & !before)
 }
 
-// Refusals 7, 6 and 8 of operation i, whose record is r.
-fn check_operation(operations: &[u32], i: usize, r: &[u32], nodes: usize) -> Answer
-    requires { ⌜ (6 * i ≤ length (now operations)) × (length (now r) ≡ 6) ⌝ }
-    ensures { λ a. ⌜ a ≡ checkOperation nodes (seenBy i (now (operations .entry))) (now (r .entry)) ⌝ }
+// The outcome of an operation that passes refusal 7 is entered, if it is measured.
+fn enter_measured(table: &mut [u64; TABLE], r: &[u32])
+    requires { ⌜ (length (now r) ≡ 6) × (badOperation (now r) ≡ false) ⌝ }
+    ensures { λ _. ⌜ ((seen : List ℕ) → Entered seen (now (table .entry))
+        → Entered (measured seen (now (r .entry))) (now (table .exit))) ⌝ }
+{
+    if r[0] != 2 {
+        return;
+    }
+    enter(table, r[4]);
+}
+
+// Refusals 7, 6 and 8 of an operation. The table has the outcomes measured before it, and then its own.
+fn check_operation(table: &mut [u64; TABLE], r: &[u32], nodes: usize) -> Answer
+    requires { ⌜ length (now r) ≡ 6 ⌝ }
+    ensures { λ a. ⌜ ((seen : List ℕ) → Entered seen (now (table .entry))
+        → Checked nodes seen (now (r .entry)) a (now (table .exit))) ⌝ }
 {
     if bad_operation(r) {
         return Answer::BadOperation;
@@ -218,9 +230,10 @@ fn check_operation(operations: &[u32], i: usize, r: &[u32], nodes: usize) -> Ans
     if bad_reference(nodes, r[1], r[2]) {
         return Answer::BadReference;
     }
-    if bad_outcome(operations, i, r) {
+    if bad_outcome(table, r) {
         return Answer::BadOutcome;
     }
+    enter_measured(table, r);
     Answer::Accepted
 }
 
@@ -229,10 +242,12 @@ fn check_operations(operations: &[u32], count: usize, nodes: usize) -> Answer
     requires { ⌜ 6 * count ≤ length (now operations) ⌝ }
     ensures { λ a. ⌜ a ≡ checkOperations nodes [] (records 6 count (now (operations .entry))) ⌝ }
 {
+    // bit o: outcome o is measured
+    let mut table = [0u64; TABLE];
     for i in 0..count {
         let at = i * 6;
         let e = at + 6;
-        let a = check_operation(operations, i, &operations[at..e], nodes);
+        let a = check_operation(&mut table, &operations[at..e], nodes);
         if model::number_of(a) != 0 {
             return a;
         }
@@ -242,7 +257,7 @@ fn check_operations(operations: &[u32], count: usize, nodes: usize) -> Answer
 
 // Refusals 4 to 8 of a program whose slices are long enough.
 fn check_program(c: Counts, nodes: &[u32], operations: &[u32], rows: &[u32]) -> Answer
-    requires { ⌜ (badCount c ≡ false) × (programShort (jobOf c (now nodes) (now operations) (now rows)) ≡ false) ⌝ }
+    requires { ⌜ programShort (jobOf c (now nodes) (now operations) (now rows)) ≡ false ⌝ }
     ensures { λ a. ⌜ a ≡ checkProgram (jobOf c (now (nodes .entry)) (now (operations .entry)) (now (rows .entry))) ⌝ }
 {
     let a = check_nodes(nodes, c.nodes, c.qubits);
@@ -280,7 +295,7 @@ pub fn checking(
     if program_short(counts, nodes, operations, rows)
         | lent_short(
             counts,
-            options,
+            options.max_packed_words,
             words,
             numbers,
             result_operations,

@@ -1,6 +1,6 @@
--- A plain rotation has no outcome; else the scan answers. Assumes nothing.
-use mathlib.Core.Path.{refl}
-use Rattle.model.specs.Checking.{badOutcome}
+-- A plain rotation has no outcome; else the table answers. Assumes nothing.
+use Rattle.checking.specs.Outcomes.{outcome-small, rotation-passes, looked-up}
+use native.Mathlib.Omega.{arith}
 use borrow.Author.Needs.{needs}
 use Rattle.checking.proofs.bad_outcome.Statement.{statement}
 use Rattle.checking.proofs.bad_outcome.Tie as tie
@@ -9,18 +9,19 @@ shared-slice-read-kind : tie.Need-shared-slice-read-kind
 shared-slice-read-kind c = search needs
 
 returns : tie.Need-returns
-unfolding badOutcome
-returns c = rw (c .if1 .taken) refl
+returns c = λ seen h. rotation-passes seen _ (c .if1 .taken)
 
-shared-slice-read-measured-before : tie.Need-shared-slice-read-measured-before
-shared-slice-read-measured-before c = search needs
+shared-slice-read-is-entered : tie.Need-shared-slice-read-is-entered
+shared-slice-read-is-entered c = search needs
 
-measured-before-requires : tie.Need-measured-before-requires
-measured-before-requires c κs = search needs
+is-entered-requires : tie.Need-is-entered-requires
+is-entered-requires c κs = omega (arith, outcome-small _ (c .before .before .before .before .pre .1) (c .before .if1 .left))
 
 returns-2 : tie.Need-returns-2
-unfolding badOutcome
-returns-2 c = rw (c .measured-before .ensures) refl
+returns-2 c =
+    let test = c .before .before in
+    let start = test .before .before .before in
+    λ seen h. looked-up _ _ (c .is-entered .ensures) (outcome-small _ (start .pre .1) (test .if1 .left)) h
 
 pub bad-outcome-spec : {M : Type 1} → statement M
 bad-outcome-spec =
@@ -28,6 +29,6 @@ bad-outcome-spec =
     (tie.spec
     shared-slice-read-kind
     returns
-    shared-slice-read-measured-before
-    measured-before-requires
+    shared-slice-read-is-entered
+    is-entered-requires
     returns-2)

@@ -1,7 +1,6 @@
--- The model's three tests, one after the other. Assumes nothing.
+-- The model's three tests, one after the other; then the outcome is entered. Assumes nothing.
 use mathlib.Core.Path.{sym, _∙_}
-use Rattle.model.specs.Checking.{checkOperation}
-use Rattle.theory.specs.Cases.{if-true, if-false}
+use Rattle.checking.specs.Outcomes.{operation-bad, reference-bad, outcome-bad, operation-passes}
 use borrow.Author.Needs.{needs}
 use Rattle.checking.proofs.check_operation.Statement.{statement}
 use Rattle.checking.proofs.check_operation.Tie as tie
@@ -10,8 +9,7 @@ bad-operation-requires : tie.Need-bad-operation-requires
 bad-operation-requires c κs = search needs
 
 returns : tie.Need-returns
-unfolding checkOperation
-returns c = sym (if-true _ _ (sym (c .before .bad-operation .ensures) ∙ c .if1 .taken))
+returns c = λ seen h. operation-bad (c .before .bad-operation .ensures) (c .if1 .taken)
 
 shared-slice-read-bad-reference : tie.Need-shared-slice-read-bad-reference
 shared-slice-read-bad-reference c = search needs
@@ -23,27 +21,47 @@ bad-reference-requires : tie.Need-bad-reference-requires
 bad-reference-requires c κs = search needs
 
 returns-2 : tie.Need-returns-2
-unfolding checkOperation
 returns-2 c =
-    sym (if-false _ _ (sym (c .before .before .before .before .before .bad-operation .ensures)
-    ∙ c .before .before .before .before .if1 .left) ∙ if-true _ _ (sym (c .before .bad-reference .ensures) ∙ c .if2 .taken))
+    let bad-reference = c .before in
+    let known = bad-reference .before .before .before in
+    let bad-operation = known .before in
+    λ seen h. reference-bad (bad-operation .bad-operation .ensures) (known .if1 .left) (bad-reference .bad-reference .ensures)
+    (c .if2 .taken)
 
 bad-outcome-requires : tie.Need-bad-outcome-requires
-bad-outcome-requires c κs = search needs
+bad-outcome-requires c κs =
+    let known = c .before .before .before .before .before in
+    let bad-operation = known .before in
+    let start = bad-operation .before .before in
+    (start .pre, sym (bad-operation .bad-operation .ensures) ∙ known .if1 .left)
 
 returns-3 : tie.Need-returns-3
-unfolding checkOperation
 returns-3 c =
-    sym (if-false _ _ (sym (c .before .before .before .before .before .before .before .bad-operation .ensures)
-    ∙ c .before .before .before .before .before .before .if1 .left) ∙ if-false _ _ (sym (c .before .before .before .bad-reference .ensures)
-    ∙ c .before .before .if2 .left) ∙ if-true _ _ (sym (c .before .bad-outcome .ensures) ∙ c .if3 .taken))
+    let bad-outcome = c .before in
+    let inside = bad-outcome .before .before in
+    let bad-reference = inside .before in
+    let known = bad-reference .before .before .before in
+    let bad-operation = known .before in
+    λ seen h. outcome-bad (bad-operation .bad-operation .ensures) (known .if1 .left) (bad-reference .bad-reference .ensures)
+    (inside .if2 .left) (bad-outcome .bad-outcome .ensures seen h) (c .if3 .taken)
+
+enter-measured-requires : tie.Need-enter-measured-requires
+enter-measured-requires c κs =
+    let known = c .before .before .before .before .before .before .before .before in
+    let bad-operation = known .before in
+    let start = bad-operation .before .before in
+    (start .pre, sym (bad-operation .bad-operation .ensures) ∙ known .if1 .left)
 
 returns-4 : tie.Need-returns-4
-unfolding checkOperation
 returns-4 c =
-    sym (if-false _ _ (sym (c .before .before .before .before .before .before .before .bad-operation .ensures)
-    ∙ c .before .before .before .before .before .before .if1 .left) ∙ if-false _ _ (sym (c .before .before .before .bad-reference .ensures)
-    ∙ c .before .before .if2 .left) ∙ if-false _ _ (sym (c .before .bad-outcome .ensures) ∙ c .if3 .left))
+    let outcome-right = c .before .before in
+    let bad-outcome = outcome-right .before in
+    let inside = bad-outcome .before .before in
+    let bad-reference = inside .before in
+    let known = bad-reference .before .before .before in
+    let bad-operation = known .before in
+    λ seen h. operation-passes (bad-operation .bad-operation .ensures) (known .if1 .left) (bad-reference .bad-reference .ensures)
+    (inside .if2 .left) (bad-outcome .bad-outcome .ensures seen h) (outcome-right .if3 .left) (c .enter-measured .ensures seen h)
 
 pub check-operation-spec : {M : Type 1} → statement M
 check-operation-spec =
@@ -57,4 +75,5 @@ check-operation-spec =
     returns-2
     bad-outcome-requires
     returns-3
+    enter-measured-requires
     returns-4)

@@ -1,27 +1,24 @@
--- The loop's invariant: what is left to check from operation i on, with the outcomes before it, gives the whole answer. Assumes nothing.
-use mathlib.Core.Path.{_≡_, sym, _∙_}
-use mathlib.Core.List.{[]}
-use Prim.Native.Nat.{_-_, _≤_}
+-- The loop's invariant: what is left to check from operation i on, with the outcomes before it, answers for all, and the table has these
+-- outcomes. Assumes nothing.
+use Prim.Native.Nat.{_-_}
 use lib.ListN.{length-take, length-drop}
-use Rattle.model.specs.Program.{records}
 use Rattle.model.specs.Checking.{checkOperations}
-use Rattle.checking.specs.Walk.{recordsFrom, walk-next, walk-stop, walk-end}
-use Rattle.checking.specs.Outcomes.{seenBy, operations-first, operations-walk}
+use Rattle.checking.specs.Walk.{LeftFrom, all-left, none-left, passes, refused}
+use Rattle.checking.specs.Outcomes.{Entered, seenBy, none-seen, seen-next, operations-walk}
 use native.Mathlib.Omega.{arith}
 use borrow.Author.Needs.{needs}
 use Rattle.checking.proofs.check_operations.Statement.{statement}
 use Rattle.checking.proofs.check_operations.Tie as tie
 
 abbrev Inv-loop : tie.InvT-loop
-Inv-loop operations count nodes i₀ i =
-    (i ≤ count) × (checkOperations nodes [] (records 6 count operations) ≡ checkOperations nodes (seenBy i operations)
-    (recordsFrom 6 count i operations))
+Inv-loop operations count nodes table₀ i₀ table i =
+    LeftFrom 6 count operations (λ j. checkOperations nodes (seenBy j operations)) i × Entered (seenBy i operations) table
 
 abbrev μ-loop : tie.MeasureT-loop
-μ-loop operations count nodes i₀ i = count - i
+μ-loop operations count nodes table₀ i₀ table i = count - i
 
 loop-holds : tie.Need-loop-holds Inv-loop μ-loop
-loop-holds c = (omega arith, operations-first _ _ _)
+loop-holds c = (all-left (operations-walk _ _), none-seen _)
 
 mul-at : tie.Need-mul-at Inv-loop μ-loop
 mul-at c = omega arith
@@ -42,15 +39,19 @@ part-check-operation-end : tie.Need-part-check-operation-end Inv-loop μ-loop
 part-check-operation-end c = omega arith
 
 check-operation-requires : tie.Need-check-operation-requires Inv-loop μ-loop
-check-operation-requires c κs = (omega arith, simp (length-take, length-drop) (omega arith))
+check-operation-requires c κs = simp (length-take, length-drop) (omega arith)
 
 number-of-requires : tie.Need-number-of-requires Inv-loop μ-loop
 number-of-requires c κs = search needs
 
 returns : tie.Need-returns Inv-loop μ-loop
+unfolding seenBy
 returns c =
-    sym (c .before .before .before .before .before .loop .inv .1 ∙ walk-stop (operations-walk _ _) _ _ _ (omega arith)
-    (c .before .before .check-operation .ensures) (λ h. c .if1 .taken (c .before .number-of .ensures ∙ h)))
+    let number-of = c .before in
+    let check-operation = number-of .before in
+    let head = check-operation .before .before .before .before in
+    refused (operations-walk _ _) (head .loop .inv .0) (omega arith)
+    (check-operation .check-operation .ensures _ (head .loop .inv .1) .answer) (number-of .number-of .ensures) (c .if1 .taken)
 
 add-i : tie.Need-add-i Inv-loop μ-loop
 add-i c = omega arith
@@ -59,14 +60,19 @@ loop-less : tie.Need-loop-less Inv-loop μ-loop
 loop-less c = omega arith
 
 loop-again : tie.Need-loop-again Inv-loop μ-loop
-loop-again c = (
-  omega arith,
-  c .before .before .before .before .before .loop .inv .1 ∙ walk-next (operations-walk _ _) _ _ _ (omega arith)
-      (c .before .before .check-operation .ensures) (sym (c .before .number-of .ensures) ∙ c .if1 .left),
-)
+loop-again c =
+    let number-of = c .before in
+    let check-operation = number-of .before in
+    let head = check-operation .before .before .before .before in (
+      passes (operations-walk _ _) (head .loop .inv .0) (omega arith)
+          (check-operation .check-operation .ensures _ (head .loop .inv .1) .answer) (number-of .number-of .ensures) (c .if1 .left),
+      seen-next _ _
+          (check-operation .check-operation .ensures _ (head .loop .inv .1) .entered (omega arith)),
+    )
 
 returns-2 : tie.Need-returns-2 Inv-loop μ-loop
-returns-2 c = sym (c .before .loop .inv .1 ∙ walk-end (operations-walk _ _) _ _ (omega arith))
+unfolding seenBy
+returns-2 c = none-left (operations-walk _ _) (c .before .loop .inv .0) (omega arith)
 
 pub check-operations-spec : {M : Type 1} → statement M
 check-operations-spec =

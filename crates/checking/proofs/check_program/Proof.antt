@@ -1,14 +1,14 @@
 -- Nodes, then operations, then frame rows; the first refusal stands. Assumes nothing.
 use mathlib.Core.Path.{sym, _∙_}
-use Rattle.layout.specs.Bounds.{counts-fit, program-long}
-use Rattle.checking.specs.Whole.{node-refused, operation-refused, rows-decide}
+use Rattle.layout.specs.Bounds.{program-long}
+use Rattle.checking.specs.Refusals.{node-refused, operation-refused, rows-decide}
 use native.Mathlib.Omega.{arith}
 use borrow.Author.Needs.{needs}
 use Rattle.checking.proofs.check_program.Statement.{statement}
 use Rattle.checking.proofs.check_program.Tie as tie
 
 check-nodes-requires : tie.Need-check-nodes-requires
-check-nodes-requires c κs = let p = c .before .before .before .pre in program-long _ (p .1) .0
+check-nodes-requires c κs = program-long _ (c .before .before .before .pre) .0
 
 number-of-requires : tie.Need-number-of-requires
 number-of-requires c κs = search needs
@@ -17,7 +17,7 @@ returns : tie.Need-returns
 returns c = node-refused _ _ (c .before .before .check-nodes .ensures) (λ h. c .if1 .taken (c .before .number-of .ensures ∙ h))
 
 check-operations-requires : tie.Need-check-operations-requires
-check-operations-requires c κs = let p = c .before .before .before .before .before .before .pre in program-long _ (p .1) .1
+check-operations-requires c κs = program-long _ (c .before .before .before .before .before .before .pre) .1
 
 number-of-requires-2 : tie.Need-number-of-requires-2
 number-of-requires-2 c κs = search needs
@@ -30,15 +30,11 @@ returns-2 c =
 
 mul-check-rows : tie.Need-mul-check-rows
 mul-check-rows c =
-    let p = c .before .before .before .before .before .before .before .before .before .before .pre in
-    let f = counts-fit _ (p .0) in
-    omega arith
+    let l = program-long _ (c .before .before .before .before .before .before .before .before .before .before .pre) .2 in omega arith
 
 check-rows-requires : tie.Need-check-rows-requires
 check-rows-requires c κs =
-    let p = c .before .before .before .before .before .before .before .before .before .before .pre in
-    let l = program-long _ (p .1) .2 in
-    omega arith
+    let l = program-long _ (c .before .before .before .before .before .before .before .before .before .before .pre) .2 in omega arith
 
 returns-3 : tie.Need-returns-3
 returns-3 c =

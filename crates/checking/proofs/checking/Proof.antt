@@ -1,7 +1,8 @@
 -- The model's order of refusals. Assumes nothing.
 use mathlib.Core.Path.{sym, _∙_}
 use Rattle.theory.specs.Cases.{neither}
-use Rattle.checking.specs.Whole.{count-refused, option-refused, slice-refused, program-decides}
+use Rattle.layout.specs.Bounds.{limit-fits}
+use Rattle.checking.specs.Refusals.{count-refused, option-refused, slice-refused, program-decides}
 use borrow.Author.Needs.{needs}
 use Rattle.checking.proofs.checking.Statement.{statement}
 use Rattle.checking.proofs.checking.Tie as tie
@@ -26,8 +27,10 @@ program-short-requires c κs = let counts = c .before .before in sym (counts .be
 lent-short-requires : tie.Need-lent-short-requires
 lent-short-requires c κs =
     let options = c .before in
-    let counts = options .before .before in
-    (sym (counts .before .bad-count .ensures) ∙ counts .if1 .left, sym (options .before .bad-option .ensures) ∙ options .if2 .left)
+    let counts = options .before .before in (
+      sym (counts .before .bad-count .ensures) ∙ counts .if1 .left,
+      limit-fits _ (sym (options .before .bad-option .ensures) ∙ options .if2 .left),
+    )
 
 returns-3 : tie.Need-returns-3
 returns-3 c =
@@ -37,18 +40,16 @@ returns-3 c =
     (c .before .before .program-short .ensures) (c .before .lent-short .ensures) (c .if3 .taken)
 
 check-program-requires : tie.Need-check-program-requires
-check-program-requires c κs =
-    let counts = c .before .before .before .before .before in
-    let n = neither _ (c .before .lent-short .result) (c .if3 .left) in
-    (sym (counts .before .bad-count .ensures) ∙ counts .if1 .left, sym (c .before .before .program-short .ensures) ∙ n .0)
+check-program-requires c κs = sym (c .before .before .program-short .ensures) ∙ neither _ (c .before .lent-short .result) (c .if3 .left) .0
 
 returns-4 : tie.Need-returns-4
 returns-4 c =
     let slices = c .before in
     let options = slices .before .before .before in
     let counts = options .before .before in
-    program-decides _ _ _ (counts .before .bad-count .ensures) (counts .if1 .left) (options .before .bad-option .ensures) (options .if2 .left)
-    (slices .before .before .program-short .ensures) (slices .before .lent-short .ensures) (slices .if3 .left) (c .check-program .ensures)
+    program-decides _ _ _ (counts .before .bad-count .ensures) (counts .if1 .left) (options .before .bad-option .ensures)
+    (options .if2 .left) (slices .before .before .program-short .ensures) (slices .before .lent-short .ensures) (slices .if3 .left)
+    (c .check-program .ensures)
 
 pub checking-spec : {M : Type 1} → statement M
 checking-spec =
