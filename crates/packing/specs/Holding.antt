@@ -10,9 +10,9 @@ use Rattle.store.specs.Row.{row}
 use Rattle.model.specs.Program.{Program}
 use Rattle.model.specs.Words.{Value, idOf}
 use Rattle.model.specs.Packing.{Pack}
-use Rattle.axes.specs.View.{axesOf}
+use Rattle.axes.specs.Held.{sizesOf, HoldsAxes}
 use Rattle.layout.specs.declared.Shape.{Shape}
-use Rattle.layout.specs.Rows.{usesRow, nodeSlot, nodePhase, freeRow, rootAxis, rootSign, entries}
+use Rattle.layout.specs.Rows.{usesRow, nodeSlot, nodePhase, freeRow, rootAxis, rootSign, axesRows, entries}
 use Rattle.layout.specs.Only.{Only}
 use Rattle.layout.specs.Words.{slotPlace, KeptFrom}
 use Rattle.layout.specs.Shape.{Granted}
@@ -71,7 +71,7 @@ Done p n i j = (referenceAt p j .node < n) ⊎ ((referenceAt p j .node ≡ n) ×
 pub record Holding (p : Program) (z : Shape) (b n i : ℕ) (k : Pack) (st : Slots) (ws xs : List ℕ) : Type 0 where
   pub going : k .refused ≡ false
   pub fits : k .store .peak ≤ z .limit
-  pub axes : axesOf (z .l) (st .axes) ws ≡ k .store .axes
+  pub axes : HoldsAxes (sizesOf z (st .axes)) ws xs (k .store .axes)
   pub room : st .slots * (2 * z .l) + st .axes * (2 * z .l) ≤ z .limit
   pub slots : k .slots ≡ st .slots
   pub free : k .live + st .free ≡ st .slots
@@ -111,9 +111,9 @@ Turned p z b n i k (Next st) ws xs = Holding p z b n i k st ws xs
 Turned p z b n i k NonHermitianAxis ws xs = (k .refused ≡ true) × (k .store .peak ≤ z .limit)
 Turned p z b n i k ExpansionLimit ws xs = z .limit < k .store .peak
 
--- the rows that a turn writes
+-- the rows that a turn writes; storing an axis writes the last ones
 abbrev pub turnRows : List ℕ
-turnRows = usesRow ∷ nodeSlot ∷ nodePhase ∷ freeRow ∷ rootAxis ∷ rootSign ∷ []
+turnRows = usesRow ∷ nodeSlot ∷ nodePhase ∷ freeRow ∷ rootAxis ∷ rootSign ∷ axesRows
 
 -- what a turn leaves of both stores
 pub record Left (z : Shape) (ws xs ws′ xs′ : List ℕ) : Type 0 where

@@ -8,14 +8,13 @@ use native.Mathlib.Numerals.{add-one}
 use native.Mathlib.Omega.{arith}
 use lib.ListN.{length}
 use borrow.Author.Tests.{lt-ltb, le-ltb}
-use Rattle.store.specs.Chunk.{chunks}
 use Rattle.model.specs.Lists.{anyOf, member, allOf}
 use Rattle.model.specs.Interface.{numberOf}
 use Rattle.model.specs.Program.{Program}
 use Rattle.model.specs.Roots.{roots}
 use Rattle.model.specs.Packing.{Pack, useCounts, emptyPack, packed}
 use Rattle.theory.specs.Cases.{if-true, if-false}
-use Rattle.axes.specs.View.{axesOf, axes-length}
+use Rattle.axes.specs.Held.{sizesOf, HoldsAxes, held-count, held-as, held-none}
 use Rattle.layout.specs.declared.Shape.{Shape}
 use Rattle.layout.specs.Rows.{mark, acted, relevantRow, usesRow, entries}
 use Rattle.layout.specs.Only.{Only, only-then, only-of}
@@ -46,13 +45,13 @@ none-done : (p : Program) (j : ℕ) → Done p 0 0 j → ⊥
 none-done p j (inl a) = omega arith
 none-done p j (inr (e, a)) = omega arith
 
-start : {p : Program} {z : Shape} {ws xs : List ℕ} → Linked p z xs
+start : {p : Program} {z : Shape} {ws xs : List ℕ} → Granted z ws xs → Linked p z xs
     → entries xs (z .u) usesRow (z .nodes) ≡ useCounts (p .nodes) (roots p) → Holding p z 0 0 0 (before p 0) noSlots ws xs
-unfolding before emptyPack usedBelow axesOf chunks
-start {p} linked uses = record {
+unfolding before emptyPack usedBelow
+start {p} granted linked uses = record {
   going = refl;
   fits = omega arith;
-  axes = refl;
+  axes = held-none granted;
   room = omega arith;
   slots = refl;
   free = refl;
@@ -108,7 +107,6 @@ module _ {p : Program} {z : Shape} {ws₀ xs₀ ws xs : List ℕ} (w : Whole p z
       ap (λ (k : Pack). k .store .peak) (before-all p),
     ));
     axes = λ m e. absurd (limit-no-axes e);
-    room = λ m e. absurd (limit-no-axes e);
     signs = λ m e. absurd (limit-no-axes e);
     words = words;
     numbers = numbers;
@@ -122,7 +120,6 @@ module _ {p : Program} {z : Shape} {ws₀ xs₀ ws xs : List ℕ} (w : Whole p z
       record {
         answer = answer-odd (z .limit) (packed p) (rw e (h .1)) (rw e (h .0));
         axes = λ m f. absurd (odd-no-axes f);
-        room = λ m f. absurd (odd-no-axes f);
         signs = λ m f. absurd (odd-no-axes f);
         words = words;
         numbers = numbers;
@@ -132,9 +129,8 @@ module _ {p : Program} {z : Shape} {ws₀ xs₀ ws xs : List ℕ} (w : Whole p z
   packed-axes : {st : Slots} {n : ℕ} → n ≡ z .nodes → Holding p z n n 0 (before p n) st ws xs → PackedAs z p (Axes (st .axes)) ws₀ xs₀ ws xs
   packed-axes {st} {n} e h = record {
     answer = answer-axes (z .limit) (packed p) (rw (sym all) (h .fits)) (rw (sym all) (h .going)) (st .axes)
-        (ap length (sym axes-are) ∙ axes-length (z .l) (st .axes) ws);
-    axes = λ m f. rw (sym (same-axes f)) axes-are;
-    room = λ m f. rw (sym (same-axes f)) (omega (arith, h .room));
+        (held-count axes-held);
+    axes = λ m f. rw (sym (same-axes f)) axes-held;
     signs = λ m f.
         signs-are w (h .linked) (λ j a r. rw (sym all) (h .signed j a r (inl (omega (arith, reference-node p (w .fine) j a, w .nodes)))));
     words = words;
@@ -144,8 +140,8 @@ module _ {p : Program} {z : Shape} {ws₀ xs₀ ws xs : List ℕ} (w : Whole p z
       all : before p n ≡ packed p
       all = let last : n ≡ length (p .nodes) = omega (arith, w .nodes) in rw last (before-all p)
 
-      axes-are : axesOf (z .l) (st .axes) ws ≡ packed p .store .axes
-      axes-are = h .axes ∙ ap (λ (k : Pack). k .store .axes) all
+      axes-held : HoldsAxes (sizesOf z (st .axes)) ws xs (packed p .store .axes)
+      axes-held = held-as (h .axes) (ap (λ (k : Pack). k .store .axes) all)
 
 -- ---- the loop
 
@@ -156,10 +152,11 @@ pub record AtNode (z : Shape) (ns os rs ws₀ xs₀ ws xs : List ℕ) (st : Slot
   pub holding : Holding (programIn z ns os rs) z n n 0 (before (programIn z ns os rs) n) st ws xs
 
 module _ {z : Shape} {ns os rs : List ℕ} where
-  pub first-node : {ws xs : List ℕ} → Linked (programIn z ns os rs) z xs
+  pub first-node : {ws xs : List ℕ} → Granted z ws xs → Linked (programIn z ns os rs) z xs
       → entries xs (z .u) usesRow (z .nodes) ≡ useCounts (programIn z ns os rs .nodes) (roots (programIn z ns os rs))
       → AtNode z ns os rs ws xs ws xs noSlots 0
-  first-node {ws} {xs} linked uses = record { count = omega arith; left = left-none z ws xs; holding = start linked uses }
+  first-node {ws} {xs} granted linked uses =
+      record { count = omega arith; left = left-none z ws xs; holding = start granted linked uses }
 
   module _ {ws₀ xs₀ ws xs : List ℕ} {st : Slots} {n : ℕ} (a : AtNode z ns os rs ws₀ xs₀ ws xs st n) where
     -- node n can have its turn

@@ -18,11 +18,11 @@ use Rattle.theory.specs.ByNode.{OfChildren, children-before}
 use Rattle.theory.specs.Checked.{Fine}
 use Rattle.theory.specs.NodeValue.{nodeValue-same, nodeValue-length}
 use Rattle.theory.specs.PackedRoots.{children-keep}
-use Rattle.axes.specs.View.{axesOf, axes-length, axes-apart}
+use Rattle.axes.specs.Held.{sizesOf, HoldsAxes, held-count, held-rows, held-words, held-as}
 use Rattle.layout.specs.declared.Shape.{Shape}
 use Rattle.layout.specs.Rows.{rowCount, usesRow, firstRoot, nextRoot, nodeSlot, nodePhase, freeRow, rootAxis, rootSign, entries}
 use Rattle.layout.specs.Only.{Only, only-then, only-of}
-use Rattle.layout.specs.Words.{slotPlace, slots-le, slot-in, slot-behind, KeptFrom, kept-then, kept-put}
+use Rattle.layout.specs.Words.{slotPlace, slots-le, slot-in, slot-behind, KeptFrom, kept-then, kept-put, OnlyWords, words-put}
 use Rattle.layout.specs.Shape.{Sized}
 use Rattle.records.specs.declared.NodeRecord.{NodeRecord}
 use Rattle.records.specs.Records.{nodeSaid, said-letter, said-by, leaf-of, product-of}
@@ -238,12 +238,13 @@ module _ {p : Program} {z : Shape} {st : Slots} {n : ℕ} {x : NodeRecord} {ws x
       }
 
   -- the axes
-  axes₁ : axesOf (z .l) (st .axes) ws′ ≡ k₁ .store .axes
+  axes₁ : HoldsAxes (sizesOf z (st .axes)) ws′ t (k₁ .store .axes)
+  unfolding member anyOf
   axes₁ =
-      ap (axesOf (z .l) (st .axes)) words-are
-      ∙ axes-apart (z .l) (st .axes) ws (z .limit) word scratch-in (omega (arith, h .holding .room))
-      ∙ h .holding .axes
-      ∙ ap (λ (y : Store). y .axes) (sym (children-keep (nodeAt p n) (before p n) .0))
+      let written : OnlyWords (z .limit) (z .limit + length word) ws ws′ =
+      rw words-are (words-put (z .limit) (z .limit + length word) ws (z .limit) word (omega arith) (omega arith) scratch-in) in
+      held-as (held-rows (held-words (h .holding .axes) written (omega (arith, h .holding .room))) (c .only) refl)
+      (ap (λ (y : Store). y .axes) (sym (children-keep (nodeAt p n) (before p n) .0)))
 
   -- `take_slot` can be called
   pub take-pre : TakePre z t st₁
@@ -264,7 +265,7 @@ module _ {p : Program} {z : Shape} {st : Slots} {n : ℕ} {x : NodeRecord} {ws x
   slots-count = children-keep (nodeAt p n) (before p n) .1 .0 ∙ h .holding .slots
 
   axes-count : length (k₁ .store .axes) ≡ st .axes
-  axes-count = ap length (sym axes₁) ∙ axes-length (z .l) (st .axes) ws′
+  axes-count = held-count axes₁
 
   kept₁ : KeptFrom (z .limit + 2 * z .l) ws ws′
   kept₁ = rw words-are (kept-put (z .limit + 2 * z .l) ws (z .limit) word (omega (arith, value-long h)) (omega (arith, h .granted .words-long)))
@@ -341,14 +342,15 @@ module _ {p : Program} {z : Shape} {st : Slots} {n : ℕ} {x : NodeRecord} {ws x
             h .used,
           )
 
-      axes″ : axesOf (z .l) (st′ .axes) ws″ ≡ takeSlot (z .l) k₁ .store .axes
+      axes″ : HoldsAxes (sizesOf z (st′ .axes)) ws″ t″ (takeSlot (z .l) k₁ .store .axes)
+      unfolding member anyOf
       axes″ =
           let room : st .axes * (2 * z .l) + st′ .slots * (2 * z .l) ≤ z .limit = rw (← took .same-axes) (omega (arith, took .room)) in
-          ap₂ (axesOf (z .l)) (took .same-axes) words″
-          ∙ axes-apart (z .l) (st .axes) ws′ (slotPlace (z .limit) (z .l) s) word word-in
-          (slot-behind (z .limit) (z .l) (st′ .slots) slots-fit′ s (st .axes * (2 * z .l)) (took .takes .inside) room)
-          ∙ axes₁
-          ∙ sym (took .stored)
+          let at = slotPlace (z .limit) (z .l) s in
+          let written : OnlyWords at (at + length word) ws′ ws″ =
+          rw words″ (words-put at (at + length word) ws′ at word (omega arith) (omega arith) word-in) in
+          let behind = slot-behind (z .limit) (z .l) (st′ .slots) slots-fit′ s (st .axes * (2 * z .l)) (took .takes .inside) room in
+          rw (took .same-axes, took .stored) (held-rows (held-words axes₁ written behind) (q .only) refl)
 
       held″ : SlotsHold (z .l) (z .limit) (suc n) (st′ .slots) (st′ .free) (valueOf p) (takeSlot (z .l) k₁ .uses)
           (row t″ (z .u) nodeSlot) (row t″ (z .u) nodePhase) (row t″ (z .u) freeRow) ws″

@@ -124,7 +124,8 @@ fn pack_root(
         return Step::NonHermitianAxis;
     }
     let counted = st.slots * (2 * shape.l);
-    let i = axes::intern(words, v.at, st.axes, counted, shape.limit, shape.l);
+    let sizes = axes::sizes_of(shape, st.axes);
+    let i = axes::intern(words, numbers, sizes, counted, v.at);
     let Interned::Id(id) = i else {
         return Step::ExpansionLimit;
     };

@@ -43,14 +43,20 @@ abbrev first : tie.At-loop Inv-loop μ-loop → tie.Start Inv-loop μ-loop
 first c = start (c .before .before .before .before .before .before .before)
 
 -- what is written before the loop
+prepared-at : (c : tie.After-prepare Inv-loop μ-loop) → let a = start (c .before .before .before .before) .args in
+    Only preparedRows (a .shape .u) (a .numbers .now) (c .prepare .last .1 .1 .1 .0)
+prepared-at c = prepared-rows (c .before .before .before .before .relevance .ensures .only) (c .prepare .ensures .only)
+
+-- from the loop
 prepared : (c : tie.At-loop Inv-loop μ-loop) → let a = first c .args in
     Only preparedRows (a .shape .u) (a .numbers .now) (c .before .before .before .prepare .last .1 .1 .1 .0)
-prepared c =
-    let e = c .before .before .before in
-    prepared-rows (e .before .before .before .before .relevance .ensures .only) (e .prepare .ensures .only)
+prepared c = prepared-at (c .before .before .before)
 
 loop-holds : tie.Need-loop-holds Inv-loop μ-loop
-loop-holds c = let p = c .before .before .prepare .ensures in first-node (p .linked) (p .uses)
+loop-holds c =
+    let e = c .before .before in
+    let p = e .prepare .ensures in
+    first-node (granted-prepared (start (e .before .before .before .before) .pre) (prepared-at e)) (p .linked) (p .uses)
 
 -- a node is left
 below : (c : tie.In-loop Inv-loop μ-loop) → c .before .loop .n < first (c .before) .args .shape .nodes
