@@ -27,19 +27,19 @@ use Rattle.packing_states.specs.States.{before}
 use Rattle.packing_states.specs.StateLaws.{before-all, peak-before, refused-before}
 use Rattle.packing_states.specs.Live.{usedBelow}
 use Rattle.packing_states.specs.Linked.{Linked}
-use Rattle.packing_states.specs.InMemory.{reference-node, Whole, given-whole}
+use Rattle.packing_states.specs.InMemory.{reference-node, OfShape, given-shape}
 use Rattle.packing.specs.declared.Slots.{Slots}
 use Rattle.packing.specs.declared.Packed.{Packed}
 use Rattle.packing.specs.declared.Packed.the-variants.{Axes, NonHermitianAxis, ExpansionLimit}
-use Rattle.packing.specs.Holding.{Done, Holding, Left, NodeAt}
+use Rattle.packing.specs.Holding.{Done, Holding, NodeAt}
 use Rattle.packing.specs.Packed.{axesAfter, PackPre, packedAnswer, packingAnswer, packRows, PackedAs}
-use Rattle.packing.specs.LeftLaws.{left-none, left-then, granted-left}
+use Rattle.packing.specs.RestKept.{RestKept, rest-none, rest-then, rest-granted}
 use Rattle.packing.specs.Signs.{signs-are}
 
 -- ---- before the first node: no axes, no slots
 
 abbrev pub noSlots : Slots
-noSlots = record { axes = 0; slots = 0; free = 0 }
+noSlots = record { axes = 0; slots = 0; free = 0; taken = 0 }
 
 none-done : (p : Program) (j : ℕ) → Done p 0 0 j → ⊥
 none-done p j (inl a) = omega arith
@@ -96,7 +96,7 @@ module _ (limit : ℕ) (k : Pack) where
   unfolding packedAnswer
   answer-axes h r n e = sym (if-false _ _ (le-ltb limit (k .store .peak) h) ∙ if-false _ _ r ∙ ap Axes e)
 
-module _ {p : Program} {z : Shape} {ws₀ xs₀ ws xs : List ℕ} (w : Whole p z) (words : KeptFrom (z .limit + 2 * z .l) ws₀ ws)
+module _ {p : Program} {z : Shape} {ws₀ xs₀ ws xs : List ℕ} (w : OfShape p z) (words : KeptFrom (z .limit + 2 * z .l) ws₀ ws)
     (numbers : Only packRows (z .u) xs₀ xs) where
   -- refusal 10
   packed-limit : (n : ℕ) → n ≤ z .nodes → z .limit < before p n .store .peak → PackedAs z p ExpansionLimit ws₀ xs₀ ws xs
@@ -148,7 +148,7 @@ module _ {p : Program} {z : Shape} {ws₀ xs₀ ws xs : List ℕ} (w : Whole p z
 -- before node n, the stores having been ws₀ and xs₀ before the first
 pub record AtNode (z : Shape) (ns os rs ws₀ xs₀ ws xs : List ℕ) (st : Slots) (n : ℕ) : Type 0 where
   pub count : n ≤ z .nodes
-  pub left : Left z ws₀ xs₀ ws xs
+  pub rest : RestKept z ws₀ xs₀ ws xs
   pub holding : Holding (programIn z ns os rs) z n n 0 (before (programIn z ns os rs) n) st ws xs
 
 module _ {z : Shape} {ns os rs : List ℕ} where
@@ -156,18 +156,18 @@ module _ {z : Shape} {ns os rs : List ℕ} where
       → entries xs (z .u) usesRow (z .nodes) ≡ useCounts (programIn z ns os rs .nodes) (roots (programIn z ns os rs))
       → AtNode z ns os rs ws xs ws xs noSlots 0
   first-node {ws} {xs} granted linked uses =
-      record { count = omega arith; left = left-none z ws xs; holding = start granted linked uses }
+      record { count = omega arith; rest = rest-none z ws xs; holding = start granted linked uses }
 
   module _ {ws₀ xs₀ ws xs : List ℕ} {st : Slots} {n : ℕ} (a : AtNode z ns os rs ws₀ xs₀ ws xs st n) where
     -- node n can have its turn
     pub node-turn : Granted z ws₀ xs₀ → Given z ns os rs → n < z .nodes → NodeAt z st n ns os rs ws xs
-    node-turn g h b = record { granted = granted-left g (a .left); given = h; node = b; holding = a .holding }
+    node-turn g h b = record { granted = rest-granted g (a .rest); given = h; node = b; holding = a .holding }
 
     -- and has had it
-    pub next-node : {ws′ xs′ : List ℕ} {st′ : Slots} → n < z .nodes → Left z ws xs ws′ xs′
+    pub next-node : {ws′ xs′ : List ℕ} {st′ : Slots} → n < z .nodes → RestKept z ws xs ws′ xs′
         → Holding (programIn z ns os rs) z (suc n) (suc n) 0 (before (programIn z ns os rs) (suc n)) st′ ws′ xs′
         → AtNode z ns os rs ws₀ xs₀ ws′ xs′ st′ (n + 1)
-    next-node b k h = rw (add-one n) (record { count = b; left = left-then (a .left) k; holding = h })
+    next-node b k h = rw (add-one n) (record { count = b; rest = rest-then (a .rest) k; holding = h })
 
 -- ---- packing, from what it demands
 
@@ -185,26 +185,26 @@ module _ {z : Shape} {ns os rs ws xs xs₀ : List ℕ} (pre : PackPre z ns os rs
   pub granted-prepared : Granted z ws xs₀
   granted-prepared = granted-same (pre .granted) refl (prepared .long)
 
-  numbers-left : {ws′ xs′ : List ℕ} → Left z ws xs₀ ws′ xs′ → Only packRows (z .u) xs xs′
+  numbers-rest : {ws′ xs′ : List ℕ} → RestKept z ws xs₀ ws′ xs′ → Only packRows (z .u) xs xs′
   unfolding member anyOf allOf
-  numbers-left l = only-then (only-of packRows refl prepared) (only-of packRows refl (l .numbers))
+  numbers-rest l = only-then (only-of packRows refl prepared) (only-of packRows refl (l .numbers))
 
   module _ {n : ℕ} {ws′ xs′ : List ℕ} {st : Slots} (a : AtNode z ns os rs ws xs₀ ws′ xs′ st n) where
     -- the last node's turn is over
     pub pack-axes : n ≡ z .nodes → PackedAs z (programIn z ns os rs) (Axes (st .axes)) ws xs ws′ xs′
-    pack-axes e = packed-axes (given-whole (pre .given)) (a .left .words) (numbers-left (a .left)) e (a .holding)
+    pack-axes e = packed-axes (given-shape (pre .given)) (a .rest .words) (numbers-rest (a .rest)) e (a .holding)
 
-    module _ {ws″ xs″ : List ℕ} (b : n < z .nodes) (k : Left z ws′ xs′ ws″ xs″) where
+    module _ {ws″ xs″ : List ℕ} (b : n < z .nodes) (k : RestKept z ws′ xs′ ws″ xs″) where
       -- a turn ends packing by 9
       pub pack-odd : (before (programIn z ns os rs) (suc n) .refused ≡ true) × (before (programIn z ns os rs) (suc n) .store .peak ≤ z .limit)
           → PackedAs z (programIn z ns os rs) NonHermitianAxis ws xs ws″ xs″
       pack-odd h =
-          let l = left-then (a .left) k in
-          packed-odd (given-whole (pre .given)) (l .words) (numbers-left l) (suc n) b h
+          let l = rest-then (a .rest) k in
+          packed-odd (given-shape (pre .given)) (l .words) (numbers-rest l) (suc n) b h
 
       -- or by 10
       pub pack-limit : z .limit < before (programIn z ns os rs) (suc n) .store .peak
           → PackedAs z (programIn z ns os rs) ExpansionLimit ws xs ws″ xs″
       pack-limit h =
-          let l = left-then (a .left) k in
-          packed-limit (given-whole (pre .given)) (l .words) (numbers-left l) (suc n) b h
+          let l = rest-then (a .rest) k in
+          packed-limit (given-shape (pre .given)) (l .words) (numbers-rest l) (suc n) b h

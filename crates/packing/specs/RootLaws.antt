@@ -63,7 +63,7 @@ module _ {p : Program} {z : Shape} {st : Slots} {n j phase : ℕ} {ws xs : List 
 
   -- the reference has its entry in a row
   pub reference-in : j < z .u
-  reference-in = omega (arith, h .reference, h .whole .references, h .granted .sized .row)
+  reference-in = omega (arith, h .reference, h .program .references, h .granted .sized .row)
 
   pub node-in : n < z .u
   node-in = omega (arith, h .node, nodes-in (h .granted))
@@ -76,7 +76,7 @@ module _ {p : Program} {z : Shape} {st : Slots} {n j phase : ℕ} {ws xs : List 
     held-turns = held-phase z xs n e ∙ h .holding .held .turns n (omega arith) (h .used)
 
     pub held-small : v .phase < 4
-    held-small = omega (arith, held-turns, value-turns p (h .whole .fine) n (omega (arith, h .node, h .whole .nodes)))
+    held-small = omega (arith, held-turns, value-turns p (h .program .fine) n (omega (arith, h .node, h .program .nodes)))
 
     held-word : wordAt (z .l) ws (v .at) ≡ valueOf p n .word
     held-word = ap (wordAt (z .l) ws) (held-place z xs n e) ∙ h .holding .held .word n (omega arith) (h .used)
@@ -118,7 +118,7 @@ module _ {p : Program} {z : Shape} {st : Slots} {n j phase : ℕ} {ws xs : List 
   stored-next e =
       pack-reference p n j (h .root) (h .holding .going) ∙ if-false _ _ e
       ∙ ap₂ (λ (l s : ℕ). useNode n (withStore (intern l (s * (2 * l)) (within p n j .store) (valueOf p n .word)) (within p n j)))
-      (width-is (h .granted) (h .whole)) (h .holding .slots)
+      (width-is (h .granted) (h .program)) (h .holding .slots)
 
   -- ---- the answer of `intern`
 

@@ -25,7 +25,8 @@ use Rattle.packing_states.specs.ReferenceLaws.{root-is}
 use Rattle.packing_states.specs.ReferenceRows.{ReferenceRows, referenceRows, axis-own, sign-own, axis-other, sign-other}
 use Rattle.packing_states.specs.Linked.{Linked}
 use Rattle.packing.specs.declared.Slots.{Slots}
-use Rattle.packing.specs.Holding.{SignedAt, Done, Holding, Left, RootAt}
+use Rattle.packing.specs.Holding.{SignedAt, Done, Holding, RootAt}
+use Rattle.packing.specs.RestKept.{RestKept}
 use Rattle.packing.specs.Bounds.{slots-fit, nodes-in, slots-in}
 use Rattle.packing.specs.Keeping.{slots-words}
 use Rattle.packing.specs.Values.{ReleasePre, Released}
@@ -109,9 +110,9 @@ module _ {p : Program} {z : Shape} {st : Slots} {n j phase : ℕ} {ws xs : List 
     rows : ReferenceRows rootTurnRows (z .u) j id turns xs t
     rows = rows-released (a .numbers) m r
 
-    pub left-next : Left z ws xs ws′ t
+    pub rest-next : RestKept z ws xs ws′ t
     unfolding member anyOf allOf
-    left-next = record { words = kept-later (omega arith) (a .kept); numbers = only-of _ refl (rows .only) }
+    rest-next = record { words = kept-later (omega arith) (a .kept); numbers = only-of _ refl (rows .only) }
 
     abbrev axesNext : List (List ℕ)
     axesNext = rootStore p z st n j .axes
@@ -161,7 +162,7 @@ module _ {p : Program} {z : Shape} {st : Slots} {n j phase : ℕ} {ws xs : List 
           go (no ne) = signed-other i ne (h .holding .signed i b root (earlier ne d))
 
       pub holding-next : Holding p z (suc n) n (suc j) (useNode n (withStore (rootStore p z st n j) (within p n j)))
-          (record { axes = countWith (st .axes) id; slots = st .slots; free = free }) ws′ t
+          (record { axes = countWith (st .axes) id; slots = st .slots; free = free; taken = st .taken }) ws′ t
       unfolding useNode member anyOf
       holding-next =
           let s = slots-release n (omega arith) (h .used) slots-marked long-marked (nodes-in (h .granted)) (h .node)

@@ -24,12 +24,13 @@ use Rattle.packing_states.specs.ReferenceRows.{ReferenceRows, referenceRows, re
 use Rattle.packing.specs.declared.Slots.{Slots}
 use Rattle.packing.specs.declared.ValueHeld.{ValueHeld}
 use Rattle.packing.specs.declared.Step.the-variants.{Next, NonHermitianAxis, ExpansionLimit}
-use Rattle.packing.specs.Holding.{Turned, turnRows, Left, RootAt}
+use Rattle.packing.specs.Holding.{Turned, RootAt}
+use Rattle.packing.specs.RestKept.{turnRows, RestKept}
 use Rattle.packing.specs.Bounds.{slots-fit}
 use Rattle.packing.specs.Values.{heldAt, ReleasePre, Released}
 use Rattle.packing.specs.RootLaws.{reference-in, phase-total, odd-root, even-root, refused-next, stored-next}
 use Rattle.packing.specs.RootLaws.{RootHasId, root-has-id, root-no-room}
-use Rattle.packing.specs.RootNext.{release-pre, left-next, holding-next}
+use Rattle.packing.specs.RootNext.{release-pre, rest-next, holding-next}
 
 module _ {p : Program} {z : Shape} {st : Slots} {n j phase : ℕ} {ws xs : List ℕ} (h : RootAt p z st n j phase ws xs) where
   -- ---- bounds
@@ -55,9 +56,9 @@ module _ {p : Program} {z : Shape} {st : Slots} {n j phase : ℕ} {ws xs : List 
         (s : Stores sizes (st .slots * (2 * z .l)) ws xs (v .at) r ws′ xs′) where
       -- ---- 10
 
-      pub left-limit : r ≡ InternLimit → Left z ws xs ws′ xs′
+      pub rest-limit : r ≡ InternLimit → RestKept z ws xs ws′ xs′
       unfolding member anyOf allOf
-      left-limit q =
+      rest-limit q =
           let full = root-no-room h e f s q in
           record { words = rw (full .kept) (kept-none _ ws); numbers = only-of turnRows refl (full .numbers) }
 
@@ -89,9 +90,10 @@ module _ {p : Program} {z : Shape} {st : Slots} {n j phase : ℕ} {ws xs : List 
           root-release = release-pre h stored written
 
           module _ {free : ℕ} {t : List ℕ} (c : Released y (z .u) (st .free) n free t) where
-            pub root-left : Left z ws xs ws′ t
-            root-left = left-next h stored written c
+            pub root-rest : RestKept z ws xs ws′ t
+            root-rest = rest-next h stored written c
 
             pub root-next : (((v .phase + phase % 4) % 4) % 2 ≡ 1 → ⊥) → {count : ℕ} → count ≡ countWith (st .axes) id
-                → Turned p z (suc n) n (suc j) (within p n (suc j)) (Next (record { axes = count; slots = st .slots; free = free })) ws′ t
+                → Turned p z (suc n) n (suc j) (within p n (suc j))
+                (Next (record { axes = count; slots = st .slots; free = free; taken = st .taken })) ws′ t
             root-next o g = rw (g, stored-next h (even-root h e o)) (holding-next h stored written c (phase-total h e))

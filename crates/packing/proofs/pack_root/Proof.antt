@@ -1,8 +1,8 @@
 -- A root that is odd is refused; else its word is interned, its axis and sign are written, and its node's use is given up. Assumes nothing.
 use Rattle.packing.specs.RootLaws.{reference-in, node-held, held-small, intern-pre}
-use Rattle.packing.specs.LeftLaws.{left-none}
+use Rattle.packing.specs.RestKept.{rest-none}
 use Rattle.packing.specs.RootTurn.{l-small, slots-small, axes-small, id-small, stored-long}
-use Rattle.packing.specs.RootTurn.{root-odd, left-limit, root-limit, root-release, root-left, root-next}
+use Rattle.packing.specs.RootTurn.{root-odd, rest-limit, root-limit, root-release, root-rest, root-next}
 use native.Mathlib.Omega.{arith}
 use borrow.Author.Needs.{needs}
 use Rattle.packing.proofs.pack_root.Statement.{statement}
@@ -18,7 +18,7 @@ same-length : tie.Need-same-length
 same-length c = search needs
 
 returns : tie.Need-returns
-returns c = (left-none _ _ _, λ p h. root-odd h (c .before .before .held .ensures) (c .if1 .taken))
+returns c = (rest-none _ _ _, λ p h. root-odd h (c .before .before .held .ensures) (c .if1 .taken))
 
 mul-counted : tie.Need-mul-counted
 mul-counted c = omega (arith, l-small (c .before .before .before .before .before .before .before .pre .it))
@@ -55,7 +55,7 @@ returns-2 c =
     let test = sizes-of .before .before .before in
     let held = test .before .before in
     let start = held .before .before .before .before in
-    ( left-limit (start .pre .it) (held .held .ensures) (sizes-of .sizes-of .ensures) (intern .intern .ensures) (c .enum-told .given .1), λ
+    ( rest-limit (start .pre .it) (held .held .ensures) (sizes-of .sizes-of .ensures) (intern .intern .ensures) (c .enum-told .given .1), λ
     p h. root-limit h (held .held .ensures) (sizes-of .sizes-of .ensures) (intern .intern .ensures) (test .if1 .left)
     (c .enum-told .given .1), )
 
@@ -123,7 +123,7 @@ returns-3 c =
     let test = sizes-of .before .before .before in
     let held = test .before .before in
     let start = held .before .before .before .before in
-    ( root-left (start .pre .it) (held .held .ensures) (sizes-of .sizes-of .ensures) (intern .intern .ensures) (i .i .given .1)
+    ( root-rest (start .pre .it) (held .held .ensures) (sizes-of .sizes-of .ensures) (intern .intern .ensures) (i .i .given .1)
     (write .write .ensures) (write2 .write2 .ensures) (release .release .ensures), λ p h. root-next h (held .held .ensures)
     (sizes-of .sizes-of .ensures) (intern .intern .ensures) (i .i .given .1) (write .write .ensures) (write2 .write2 .ensures)
     (release .release .ensures) (test .if1 .left) (c .count-with .ensures), )
