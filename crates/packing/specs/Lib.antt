@@ -5,7 +5,6 @@ pub mod RestKept
 pub mod Holding
 pub mod Bounds
 pub mod Packed
-pub mod Answers
 pub mod Checked
 pub mod Release
 pub mod NodeValues

@@ -7,13 +7,10 @@ use Prim.Native.Nat.{ℕ, suc, _+_, _*_, _≤_, _<_}
 use native.Mathlib.Numerals.{add-one}
 use native.Mathlib.Omega.{arith}
 use lib.ListN.{length}
-use borrow.Author.Tests.{lt-ltb, le-ltb}
 use Rattle.model.specs.Lists.{anyOf, member, allOf}
-use Rattle.model.specs.Interface.{numberOf}
 use Rattle.model.specs.Program.{Program}
 use Rattle.model.specs.Roots.{roots}
 use Rattle.model.specs.Packing.{Pack, useCounts, emptyPack, packed}
-use Rattle.theory.specs.Cases.{if-true, if-false}
 use Rattle.axes.specs.Held.{sizesOf, HoldsAxes, held-count, held-as, held-none}
 use Rattle.layout.specs.declared.Shape.{Shape}
 use Rattle.layout.specs.Rows.{mark, acted, relevantRow, usesRow, entries}
@@ -28,11 +25,11 @@ use Rattle.packing_states.specs.StateLaws.{before-all, peak-before, refused-bef
 use Rattle.packing_states.specs.Live.{usedBelow}
 use Rattle.packing_states.specs.Linked.{Linked}
 use Rattle.packing_states.specs.InMemory.{reference-node, OfShape, given-shape}
+use Rattle.packing_answer.specs.declared.Packed.the-variants.{Axes, NonHermitianAxis, ExpansionLimit}
+use Rattle.packing_answer.specs.Answer.{same-axes, odd-no-axes, limit-no-axes, answer-limit, answer-odd, answer-axes}
 use Rattle.packing.specs.declared.Slots.{Slots}
-use Rattle.packing.specs.declared.Packed.{Packed}
-use Rattle.packing.specs.declared.Packed.the-variants.{Axes, NonHermitianAxis, ExpansionLimit}
 use Rattle.packing.specs.Holding.{Done, Holding, NodeAt}
-use Rattle.packing.specs.Packed.{axesAfter, PackPre, packedAnswer, packingAnswer, packRows, PackedAs}
+use Rattle.packing.specs.Packed.{PackPre, packRows, PackedAs}
 use Rattle.packing.specs.RestKept.{RestKept, rest-none, rest-then, rest-granted}
 use Rattle.packing.specs.Signs.{signs-are}
 
@@ -71,30 +68,6 @@ start {p} granted linked uses = record {
 }
 
 -- ---- the ends
-
-same-axes : {m n : ℕ} → Axes m ≡ Axes n → m ≡ n
-unfolding axesAfter
-same-axes e = ap (axesAfter 0) e
-
-odd-no-axes : {n : ℕ} → NonHermitianAxis ≡ Axes n → ⊥
-odd-no-axes e = let z : _≡_ {A = ℕ} 9 0 = ap (λ (r : Packed). numberOf (packingAnswer r)) e in omega arith
-
-limit-no-axes : {n : ℕ} → ExpansionLimit ≡ Axes n → ⊥
-limit-no-axes e = let z : _≡_ {A = ℕ} 10 0 = ap (λ (r : Packed). numberOf (packingAnswer r)) e in omega arith
-
--- the answer, by what the packed program is
-module _ (limit : ℕ) (k : Pack) where
-  answer-limit : limit < k .store .peak → ExpansionLimit ≡ packedAnswer limit k
-  unfolding packedAnswer
-  answer-limit h = sym (if-true _ _ (lt-ltb limit (k .store .peak) h))
-
-  answer-odd : k .store .peak ≤ limit → k .refused ≡ true → NonHermitianAxis ≡ packedAnswer limit k
-  unfolding packedAnswer
-  answer-odd h r = sym (if-false _ _ (le-ltb limit (k .store .peak) h) ∙ if-true _ _ r)
-
-  answer-axes : k .store .peak ≤ limit → k .refused ≡ false → (n : ℕ) → length (k .store .axes) ≡ n → Axes n ≡ packedAnswer limit k
-  unfolding packedAnswer
-  answer-axes h r n e = sym (if-false _ _ (le-ltb limit (k .store .peak) h) ∙ if-false _ _ r ∙ ap Axes e)
 
 module _ {p : Program} {z : Shape} {ws₀ xs₀ ws xs : List ℕ} (w : OfShape p z) (words : KeptFrom (z .limit + 2 * z .l) ws₀ ws)
     (numbers : Only packRows (z .u) xs₀ xs) where

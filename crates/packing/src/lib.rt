@@ -8,7 +8,7 @@ ghost use Rattle.packing_states.specs.SomeProgram.{SomeProgram};
 ghost use Rattle.packing.specs.Holding.{PlaceAt, RootAt, RootsAt, NodeAt, Turned};
 ghost use Rattle.packing.specs.RestKept.{RestKept};
 ghost use Rattle.packing.specs.Phases.{PhasePre, phaseIn};
-ghost use Rattle.packing.specs.Packed.{PackPre, PackedAs, packingAnswer};
+ghost use Rattle.packing.specs.Packed.{PackPre, PackedAs};
 ghost use Rattle.records.specs.Given.{programIn};
 
 mod values;
@@ -20,7 +20,7 @@ use layout::ROOT_AXIS;
 use layout::ROOT_SIGN;
 use layout::Shape;
 use layout::USES;
-use model::Answer;
+use packing_answer::Packed;
 use records::NodeRecord;
 
 // Axes stored, slots allocated, slots on the free stack, and the slot taken last.
@@ -40,13 +40,6 @@ struct ValueHeld {
 // How a step ends: the slots then, or a refusal.
 enum Step {
     Next(Slots),
-    NonHermitianAxis,
-    ExpansionLimit,
-}
-
-// How packing ends: with so many axes, or refused.
-pub enum Packed {
-    Axes(usize),
     NonHermitianAxis,
     ExpansionLimit,
 }
@@ -222,15 +215,4 @@ pub fn pack(
         }
     }
     Packed::Axes(st.axes)
-}
-
-// The answer that packing's end is.
-pub fn answer(p: Packed) -> Answer
-    ensures { λ r. ⌜ r ≡ packingAnswer p ⌝ }
-{
-    match p {
-        Packed::Axes(_) => Answer::Accepted,
-        Packed::NonHermitianAxis => Answer::NonHermitianAxis,
-        Packed::ExpansionLimit => Answer::ExpansionLimit,
-    }
 }

@@ -14,8 +14,9 @@ use Rattle.theory.specs.Checked.{answered}
 use Rattle.layout.specs.declared.Shape.{Shape}
 use Rattle.layout.specs.Shape.{shapeOf}
 use Rattle.records.specs.Given.{programIn}
-use Rattle.packing.specs.declared.Packed.{Packed}
-use Rattle.packing.specs.Packed.{axesAfter, PackPre, packedAnswer, packingAnswer, PackedAs}
+use Rattle.packing_answer.specs.declared.Packed.{Packed}
+use Rattle.packing_answer.specs.Answer.{axesAfter, packedAnswer, packingAnswer}
+use Rattle.packing.specs.Packed.{PackPre, PackedAs}
 use Rattle.packing.specs.Checked.{checked-sizes, checked-pack}
 
 -- the counts that a call hands in

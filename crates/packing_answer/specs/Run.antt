@@ -15,7 +15,7 @@ use Rattle.model.specs.Packing.{packed}
 use Rattle.theory.specs.Cases.{if-true, if-false}
 use Rattle.theory.specs.Limit.{within-answer, beyond-answer}
 use Rattle.theory.specs.Peak.{run-rises}
-use Rattle.packing.specs.Packed.{packedAnswer, packingAnswer}
+use Rattle.packing_answer.specs.Answer.{packedAnswer, packingAnswer}
 
 -- 9 and 10 come at the model's moment: an answer of packing other than 0 is the answer of every run
 pub run-refused : (r : Rules) (rounds : ℕ) (p : Program) (limit : ℕ) → (packingAnswer (packedAnswer limit (packed p)) ≡ Accepted → ⊥)
