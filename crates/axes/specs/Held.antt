@@ -1,10 +1,11 @@
 -- What both stores hold of the axes: the one thing that packing and the passes carry of them. Assumes nothing.
 use mathlib.Core.Path.{_≡_, refl, sym, ap, _∙_, subst}
 use mathlib.Core.Bool.{false}
-use mathlib.Core.List.{List}
+use mathlib.Core.List.{List, []}
 use Prim.Native.Nat.{ℕ, _+_, _*_, _≤_, _<_}
 use native.Mathlib.Omega.{arith}
 use lib.ListN.{length}
+use Rattle.store.specs.Chunk.{chunks}
 use Rattle.model.specs.Lists.{anyOf, member}
 use Rattle.layout.specs.declared.Shape.{Shape}
 use Rattle.layout.specs.Rows.{rowCount, axesRows}
@@ -78,3 +79,8 @@ granted-held g n h = record {
   words-long = omega (arith, g .words-long);
   numbers-long = g .numbers-long;
 }
+
+-- with none, whatever is in them
+pub held-none : {z : Shape} {ws xs : List ℕ} → Granted z ws xs → HoldsAxes (sizesOf z 0) ws xs []
+unfolding axesOf chunks
+held-none g = granted-held g 0 (omega arith)

@@ -89,7 +89,7 @@ module _ {ns : List ℕ} {u n : ℕ} {s : List ℕ} where
           let g = said-here ns n x here _ (said-identity x k) in
           record { only = only-none (mark ∷ acted ∷ []) u s; marks = rw (f, g) refl; acts = rw (f, g) refl }
 
-      pub from-letter : {t : List ℕ} → x .kind ≡ 1 → Written s u acted (x .a) 1 t → MarkedFrom ns u n s t
+      pub from-letter : {t : List ℕ} → x .kind ≡ 1 → Written s u acted (x .left) 1 t → MarkedFrom ns u n s t
       unfolding marksFrom actedFrom allOf member anyOf
       from-letter {t} k w =
           let f = marked in
@@ -102,7 +102,7 @@ module _ {ns : List ℕ} {u n : ℕ} {s : List ℕ} where
           }
 
       pub from-product : {t v : List ℕ} → (x .kind ≡ 0 → ⊥) → (x .kind ≡ 1 → ⊥)
-          → Written s u mark (x .a) 1 v → Written v u mark (x .b) 1 t → MarkedFrom ns u n s t
+          → Written s u mark (x .left) 1 v → Written v u mark (x .right) 1 t → MarkedFrom ns u n s t
       unfolding marksFrom actedFrom allOf member anyOf
       from-product {t} {v} i k w y =
           let f = marked in
@@ -114,7 +114,7 @@ module _ {ns : List ℕ} {u n : ℕ} {s : List ℕ} where
           record {
             only = only-of (mark ∷ acted ∷ []) refl both;
             marks = rw (f, g) (written-row long (omega arith) (inside .1) y
-                ∙ ap (λ (xs : List ℕ). set xs (x .b) 1) (written-row (h .node .long) (omega arith) (inside .0) w));
+                ∙ ap (λ (xs : List ℕ). set xs (x .right) 1) (written-row (h .node .long) (omega arith) (inside .0) w));
             acts = rw (f, g) (both .rows acted (omega arith) refl);
           }
 
@@ -140,7 +140,8 @@ module _ (nodes : List Node) (o : Ordered 0 nodes) (n : ℕ) (h : n < length nod
   unfolding reaches someMarked someBelow
   adds b c e f = ap (λ (x : Bool). isSet acts q || (someMarked n marks mentioned || x)) (ap₂ _&&_ e f)
 
-  reach-step : (b : Bool) (node : Node) → isSet marks n ≡ b → getD nodes n identity ≡ node → LeafIn (length acts) node → ChildrenBefore n node
+  reach-step : (b : Bool) (node : Node) → isSet marks n ≡ b → getD nodes n identity ≡ node → LeafIn (length acts) node
+      → ChildrenBefore n node
       → n ≤ length marks → reaches nodes n (marksFrom b node marks) (actedFrom b node acts) q ≡ reaches nodes (suc n) marks acts q
   unfolding marksFrom actedFrom reaches
   reach-step false node e f l k s =

@@ -20,14 +20,16 @@ pub record NodesPre (ns : List ℕ) (u count : ℕ) (xs : List ℕ) : Type 0 whe
 -- what is asked of one node: it is there, and so are the entries of its qubit or its children
 pub record NodePre (ns : List ℕ) (u n : ℕ) (xs : List ℕ) : Type 0 where
   pub node : NodeInRows ns u n xs
-  pub qubit : nodeRecord ns n .kind ≡ 1 → nodeRecord ns n .a < u
+  pub qubit : nodeRecord ns n .kind ≡ 1 → nodeRecord ns n .left < u
 
 module _ {ns : List ℕ} {u count : ℕ} {xs : List ℕ} (h : NodesPre ns u count xs) (n : ℕ) (b : n < count) where
   pub leaf-here : LeafIn u (nodeHere ns n)
-  leaf-here = rw (node-here count ns n b) at (every-at (LeafIn u) (nodesIn count ns) identity n (h .leaves) (omega (arith, nodes-count count ns)))
+  leaf-here =
+      rw (node-here count ns n b) at (every-at (LeafIn u) (nodesIn count ns) identity n (h .leaves) (omega (arith, nodes-count count ns)))
 
-  qubit-in : nodeRecord ns n .kind ≡ 1 → nodeRecord ns n .a < u
-  qubit-in o = let l : (nodeRecord ns n .a < u) × (nodeRecord ns n .p ≤ 3) = rw (said-letter (nodeRecord ns n) o) at leaf-here in l .0
+  qubit-in : nodeRecord ns n .kind ≡ 1 → nodeRecord ns n .left < u
+  qubit-in o =
+      let l : (nodeRecord ns n .left < u) × (nodeRecord ns n .«left_phase» ≤ 3) = rw (said-letter (nodeRecord ns n) o) at leaf-here in l .0
 
   -- what is asked of each node
   pub node-pre : {ys : List ℕ} → length ys ≡ length xs → NodePre ns u n ys
@@ -36,13 +38,13 @@ module _ {ns : List ℕ} {u count : ℕ} {xs : List ℕ} (h : NodesPre ns u coun
 -- ---- the record that was read
 
 module _ {ns : List ℕ} {u n : ℕ} {xs : List ℕ} (h : NodePre ns u n xs) (x : NodeRecord) (here : x ≡ nodeRecord ns n) where
-  pub qubit-inside : x .kind ≡ 1 → x .a < u
+  pub qubit-inside : x .kind ≡ 1 → x .left < u
   qubit-inside = rw here (h .qubit)
 
-  product-inside : 2 ≤ x .kind → (x .a < u) × (x .b < u)
+  product-inside : 2 ≤ x .kind → (x .left < u) × (x .right < u)
   product-inside = rw here (h .node .children)
 
-  pub children-inside : (x .kind ≡ 0 → ⊥) → (x .kind ≡ 1 → ⊥) → (x .a < u) × (x .b < u)
+  pub children-inside : (x .kind ≡ 0 → ⊥) → (x .kind ≡ 1 → ⊥) → (x .left < u) × (x .right < u)
   children-inside i k = product-inside (product-kind (x .kind) (i, k))
 
 -- what it says is the node

@@ -21,7 +21,7 @@ use Rattle.records.specs.Nodes.{nodesIn}
 use Rattle.records.specs.Records.{operationSaid, operation-said}
 use Rattle.records.specs.Given.{programIn}
 use Rattle.layout.specs.Cleared.{both-only, both-first, both-second}
-use Rattle.packing_states.specs.InMemory.{operations-count, operation-reference, reference-node, given-whole}
+use Rattle.packing_states.specs.InMemory.{operations-count, operation-reference, reference-node, given-shape}
 use Rattle.packing_states.specs.NodeRows.{given-rows}
 use Rattle.mentions.specs.Marks.{isSet, set-zero, someBelow, some-same, some-none, some-any, someMarked}
 use Rattle.mentions.specs.Mentioned.{any-same, any-flatten, mentions-below}
@@ -59,7 +59,7 @@ module _ {z : Shape} {ns os s : List ℕ} (h : RelevancePre z ns os s) where
   inside : (i : ℕ) → i < z .operations → nodeOfOperation os i < z .nodes
   inside i b =
       let rs = h .rows in
-      let w = given-whole (h .given) in
+      let w = given-shape (h .given) in
       omega (
         arith,
         reference-node (programIn z ns os rs) (w .fine) i (omega (arith, w .references)),
@@ -160,8 +160,8 @@ module _ {z : Shape} {ns os s a t : List ℕ} (h : RelevancePre z ns os s) (mark
         (λ q b. acted-tells h q b both-long unmarked clear ops down rs) (mentionsAt (mentions (nodesIn (z .nodes) ns)) n)
         (mentions-below (z .qubits) (nodesIn (z .nodes) ns) (leaves h) n)
 
-    pub relevance-told : Relevance z ns os s x
-    relevance-told = record {
+    pub relevance-is : Relevance z ns os s x
+    relevance-is = record {
       only = all-only;
       tells = λ rs n b. last .tells n b ∙ ap (λ (y : Bool). if y then 1 else 0) (same rs n);
     }

@@ -58,11 +58,11 @@ fn mark_from(nodes: &[u32], numbers: &mut [u32], u: usize, n: usize)
         return;
     }
     if x.kind == 1 {
-        store::write(numbers, u, ACTED, x.a as usize, 1);
+        store::write(numbers, u, ACTED, x.left as usize, 1);
         return;
     }
-    store::write(numbers, u, MARK, x.a as usize, 1);
-    store::write(numbers, u, MARK, x.b as usize, 1);
+    store::write(numbers, u, MARK, x.left as usize, 1);
+    store::write(numbers, u, MARK, x.right as usize, 1);
 }
 
 // Which nodes mention an acted qubit.
@@ -86,10 +86,10 @@ fn relevant(nodes: &[u32], numbers: &[u32], u: usize, n: usize) -> bool
         return false;
     }
     if x.kind == 1 {
-        return store::read(numbers, u, ACTED, x.a as usize) != 0;
+        return store::read(numbers, u, ACTED, x.left as usize) != 0;
     }
-    if store::read(numbers, u, RELEVANT, x.a as usize) != 0 {
+    if store::read(numbers, u, RELEVANT, x.left as usize) != 0 {
         return true;
     }
-    store::read(numbers, u, RELEVANT, x.b as usize) != 0
+    store::read(numbers, u, RELEVANT, x.right as usize) != 0
 }

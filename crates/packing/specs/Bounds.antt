@@ -10,7 +10,7 @@ use Rattle.model.specs.Packing.{Pack}
 use Rattle.layout.specs.declared.Shape.{Shape}
 use Rattle.layout.specs.Words.{slots-le}
 use Rattle.layout.specs.Shape.{Granted}
-use Rattle.packing_states.specs.InMemory.{Whole}
+use Rattle.packing_states.specs.InMemory.{OfShape}
 use Rattle.packing.specs.declared.Slots.{Slots}
 use Rattle.packing.specs.Values.{slotOf, HeldPre}
 use Rattle.packing.specs.Holding.{Holding}
@@ -26,7 +26,7 @@ module _ {z : Shape} {ws xs : List ℕ} (g : Granted z ws xs) where
   nodes-in = omega (arith, g .sized .row)
 
   -- l is the program's
-  pub width-is : {p : Program} → Whole p z → width (p .qubits) ≡ z .l
+  pub width-is : {p : Program} → OfShape p z → width (p .qubits) ≡ z .l
   width-is w = ap width (w .qubits) ∙ sym (g .sized .l-is)
 
   module _ {p : Program} {b n i : ℕ} {k : Pack} {st : Slots} (h : Holding p z b n i k st ws xs) where

@@ -2,7 +2,7 @@
 use mathlib.Core.Path.{_≡_}
 use mathlib.Core.Bool.{true, false}
 use mathlib.Core.Logic.{_≢_, _⊎_}
-use mathlib.Core.List.{List, [], _∷_}
+use mathlib.Core.List.{List}
 use Prim.Native.Nat.{ℕ, suc, _+_, _*_, _%_, _≤_, _<_}
 use lib.ListN.{length, getD}
 use Rattle.store.specs.Part.{part}
@@ -10,11 +10,10 @@ use Rattle.store.specs.Row.{row}
 use Rattle.model.specs.Program.{Program}
 use Rattle.model.specs.Words.{Value, idOf}
 use Rattle.model.specs.Packing.{Pack}
-use Rattle.axes.specs.View.{axesOf}
+use Rattle.axes.specs.Held.{sizesOf, HoldsAxes}
 use Rattle.layout.specs.declared.Shape.{Shape}
 use Rattle.layout.specs.Rows.{usesRow, nodeSlot, nodePhase, freeRow, rootAxis, rootSign, entries}
-use Rattle.layout.specs.Only.{Only}
-use Rattle.layout.specs.Words.{slotPlace, KeptFrom}
+use Rattle.layout.specs.Words.{slotPlace}
 use Rattle.layout.specs.Shape.{Granted}
 use Rattle.records.specs.declared.NodeRecord.{NodeRecord}
 use Rattle.records.specs.Records.{nodeSaid}
@@ -23,11 +22,9 @@ use Rattle.packing_states.specs.References.{referenceAt, total, isRootAt, rootO
 use Rattle.packing_states.specs.States.{nodeAt, valueOf, before, slotted, within}
 use Rattle.packing_states.specs.Live.{usedBelow}
 use Rattle.packing_states.specs.Linked.{Linked}
-use Rattle.packing_states.specs.InMemory.{Whole}
+use Rattle.packing_states.specs.InMemory.{OfShape}
 use Rattle.packing.specs.Phases.{phaseIn}
 use Rattle.packing.specs.declared.Slots.{Slots}
-use Rattle.packing.specs.declared.Placed.{Placed}
-use Rattle.packing.specs.declared.Placed.the-variants.{Slots as SlotsThen, ExpansionLimit as NoSlot}
 use Rattle.packing.specs.declared.Step.{Step}
 use Rattle.packing.specs.declared.Step.the-variants.{Next, NonHermitianAxis, ExpansionLimit}
 
@@ -71,7 +68,7 @@ Done p n i j = (referenceAt p j .node < n) ⊎ ((referenceAt p j .node ≡ n) ×
 pub record Holding (p : Program) (z : Shape) (b n i : ℕ) (k : Pack) (st : Slots) (ws xs : List ℕ) : Type 0 where
   pub going : k .refused ≡ false
   pub fits : k .store .peak ≤ z .limit
-  pub axes : axesOf (z .l) (st .axes) ws ≡ k .store .axes
+  pub axes : HoldsAxes (sizesOf z (st .axes)) ws xs (k .store .axes)
   pub room : st .slots * (2 * z .l) + st .axes * (2 * z .l) ≤ z .limit
   pub slots : k .slots ≡ st .slots
   pub free : k .live + st .free ≡ st .slots
@@ -100,32 +97,18 @@ holding-done f h = record {
   linked = h .linked;
 }
 
--- node n has its slot, or its sum exceeds the limit
-abbrev pub PlacedAs : Program → Shape → ℕ → Placed → List ℕ → List ℕ → Type 0
-PlacedAs p z n (SlotsThen st) ws xs = Holding p z (suc n) n 0 (slotted p n) st ws xs
-PlacedAs p z n NoSlot ws xs = z .limit < slotted p n .store .peak
-
 -- how a turn ends that leads to k
 abbrev pub Turned : Program → Shape → ℕ → ℕ → ℕ → Pack → Step → List ℕ → List ℕ → Type 0
 Turned p z b n i k (Next st) ws xs = Holding p z b n i k st ws xs
 Turned p z b n i k NonHermitianAxis ws xs = (k .refused ≡ true) × (k .store .peak ≤ z .limit)
 Turned p z b n i k ExpansionLimit ws xs = z .limit < k .store .peak
 
--- the rows that a turn writes
-abbrev pub turnRows : List ℕ
-turnRows = usesRow ∷ nodeSlot ∷ nodePhase ∷ freeRow ∷ rootAxis ∷ rootSign ∷ []
-
--- what a turn leaves of both stores
-pub record Left (z : Shape) (ws xs ws′ xs′ : List ℕ) : Type 0 where
-  pub words : KeptFrom (z .limit + 2 * z .l) ws ws′
-  pub numbers : Only turnRows (z .u) xs xs′
-
 -- ---- what the turns demand
 
 -- node n, which is used, is to get its slot
 pub record PlaceAt (p : Program) (z : Shape) (st : Slots) (n : ℕ) (x : NodeRecord) (ws xs : List ℕ) : Type 0 where
   pub granted : Granted z ws xs
-  pub whole : Whole p z
+  pub program : OfShape p z
   pub node : n < z .nodes
   pub said : nodeSaid x ≡ nodeAt p n
   pub used : 0 < getD (before p n .uses) n 0
@@ -134,7 +117,7 @@ pub record PlaceAt (p : Program) (z : Shape) (st : Slots) (n : ℕ) (x : NodeRec
 -- reference j, a root of node n, is to be packed
 pub record RootAt (p : Program) (z : Shape) (st : Slots) (n j phase : ℕ) (ws xs : List ℕ) : Type 0 where
   pub granted : Granted z ws xs
-  pub whole : Whole p z
+  pub program : OfShape p z
   pub node : n < z .nodes
   pub reference : j < total p
   pub root : rootOf p n j ≡ true
@@ -145,7 +128,7 @@ pub record RootAt (p : Program) (z : Shape) (st : Slots) (n j phase : ℕ) (ws x
 -- node n's roots are to be packed
 pub record RootsAt (p : Program) (z : Shape) (st : Slots) (n : ℕ) (os rs ws xs : List ℕ) : Type 0 where
   pub granted : Granted z ws xs
-  pub whole : Whole p z
+  pub program : OfShape p z
   pub operations-long : z .operations * 6 ≤ length os
   pub rows-long : 2 * z .qubits * 4 ≤ length rs
   pub phases : (j : ℕ) → j < total p → phaseIn (z .operations) os rs j ≡ referenceAt p j .phase

@@ -1,12 +1,11 @@
 pub mod Values
 pub mod ValueLaws
 pub mod Phases
+pub mod RestKept
 pub mod Holding
 pub mod Bounds
 pub mod Packed
-pub mod Answers
 pub mod Checked
-pub mod LeftLaws
 pub mod Release
 pub mod NodeValues
 pub mod Keeping

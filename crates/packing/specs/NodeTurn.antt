@@ -18,21 +18,19 @@ use Rattle.records.specs.Records.{nodeRecord, operationRecord, rowRecord, nodeS
 use Rattle.records.specs.Given.{programIn, Given}
 use Rattle.packing_states.specs.References.{referenceAt, total, isRootAt}
 use Rattle.packing_states.specs.States.{before, slotted, within}
-use Rattle.packing_states.specs.StateLaws.{before-unused, before-used, peak-within}
+use Rattle.packing_states.specs.StateLaws.{before-unused, before-used, peak-within, refused-within}
 use Rattle.packing_states.specs.Uses.{unused-no-roots}
 use Rattle.packing_states.specs.Live.{used-below-same}
-use Rattle.packing_states.specs.InMemory.{total-is, node-is, operation-reference, row-reference, Whole, given-whole}
+use Rattle.packing_states.specs.InMemory.{total-is, node-is, operation-reference, row-reference, OfShape, given-shape}
 use Rattle.packing.specs.declared.Slots.{Slots}
-use Rattle.packing.specs.declared.Placed.{Placed}
-use Rattle.packing.specs.declared.Placed.the-variants.{Slots as SlotsThen, ExpansionLimit as NoSlot}
 use Rattle.packing.specs.declared.Step.{Step}
 use Rattle.packing.specs.declared.Step.the-variants.{Next, NonHermitianAxis, ExpansionLimit}
 use Rattle.packing.specs.Phases.{phaseIn, phase-operation, phase-row}
 use Rattle.packing_states.specs.SomeProgram.{SomeProgram}
-use Rattle.packing.specs.Holding.{slots-among, SlotsHold, Done, Holding, holding-done, PlacedAs, Turned, Left, PlaceAt, RootsAt, NodeAt}
+use Rattle.packing.specs.Holding.{slots-among, SlotsHold, Done, Holding, holding-done, Turned, PlaceAt, RootsAt, NodeAt}
 use Rattle.packing.specs.Bounds.{nodes-in}
 use Rattle.packing.specs.Release.{holding-slots, count-is}
-use Rattle.packing.specs.LeftLaws.{left-none, left-then, granted-left}
+use Rattle.packing.specs.RestKept.{RestKept, rest-none, rest-then, rest-granted}
 use Rattle.packing_states.specs.ReferenceLaws.{its-root}
 
 -- ---- the program in the lent slices
@@ -67,7 +65,7 @@ held-unused {n = n} {uses = uses} e h = slots-among (λ m a u. (below m a u, u))
         go (yes f) = let z : getD uses m 0 ≡ 0 = rw f e in absurd (omega arith)
         go (no f) = omega arith
 
-module _ {p : Program} {z : Shape} {n : ℕ} {st : Slots} {ws xs : List ℕ} (w : Whole p z) (b : n < z .nodes)
+module _ {p : Program} {z : Shape} {n : ℕ} {st : Slots} {ws xs : List ℕ} (w : OfShape p z) (b : n < z .nodes)
     (h : Holding p z n n 0 (before p n) st ws xs) where
   in-nodes : n < length (p .nodes)
   in-nodes = omega (arith, w .nodes)
@@ -111,10 +109,15 @@ past-roots {p} {n = n} = holding-done earlier
     earlier j a r (inr (e, d)) = absurd (omega arith)
 
 module _ (p : Program) (n : ℕ) (f : before p n .refused ≡ false) (u : 0 < getD (before p n .uses) n 0) where
-  -- a sum above the limit stays above it
-  above : (limit : ℕ) → limit < slotted p n .store .peak → limit < before p (suc n) .store .peak
+  -- a refusal before its roots ends its turn
+  after-odd : (z : Shape) → (slotted p n .refused ≡ true) × (slotted p n .store .peak ≤ z .limit)
+      → (before p (suc n) .refused ≡ true) × (before p (suc n) .store .peak ≤ z .limit)
   unfolding within
-  above limit h = rw (before-used p n f u) (omega (arith, peak-within p n 0 (total p) (omega arith)))
+  after-odd z h = rw (before-used p n f u, refused-within p n 0 (total p) (h .0) (omega arith)) h
+
+  after-limit : (z : Shape) → z .limit < slotted p n .store .peak → z .limit < before p (suc n) .store .peak
+  unfolding within
+  after-limit z h = rw (before-used p n f u) (omega (arith, peak-within p n 0 (total p) (omega arith)))
 
   -- its roots end its turn
   after-roots : (z : Shape) (r : Step) (ws xs : List ℕ) → Turned p z (suc n) n (total p) (within p n (total p)) r ws xs
@@ -138,9 +141,9 @@ module _ {z : Shape} {st : Slots} {n : ℕ} {ns os rs ws xs : List ℕ} (a : Nod
   uses-is v e = e ∙ count-is n (a .granted .numbers-long) (nodes-in (a .granted)) (a .node) (holding-slots (a .holding))
 
   pub turn-unused : {v : ℕ} → v ≡ getD (row xs (z .u) usesRow) n 0 → v ≡ 0
-      → Left z ws xs ws xs × Turned (programIn z ns os rs) z (suc n) (suc n) 0 (before (programIn z ns os rs) (suc n)) (Next st) ws xs
+      → RestKept z ws xs ws xs × Turned (programIn z ns os rs) z (suc n) (suc n) 0 (before (programIn z ns os rs) (suc n)) (Next st) ws xs
   turn-unused {v} e f =
-      (left-none z ws xs, after-unused (given-whole (a .given)) (a .node) (a .holding) (sym (uses-is v e) ∙ f))
+      (rest-none z ws xs, after-unused (given-shape (a .given)) (a .node) (a .holding) (sym (uses-is v e) ∙ f))
 
   module _ {v : ℕ} (e : v ≡ getD (row xs (z .u) usesRow) n 0) (f : v ≡ 0 → ⊥) where
     used : 0 < getD (before (programIn z ns os rs) n .uses) n 0
@@ -149,7 +152,7 @@ module _ {z : Shape} {st : Slots} {n : ℕ} {ns os rs ws xs : List ℕ} (a : Nod
     place-at : {x : NodeRecord} → x ≡ nodeRecord ns n → PlaceAt (programIn z ns os rs) z st n x ws xs
     place-at i = record {
       granted = a .granted;
-      whole = given-whole (a .given);
+      program = given-shape (a .given);
       node = a .node;
       said = ap nodeSaid i ∙ sym (node-is z ns os rs n (a .node));
       used = used;
@@ -161,18 +164,24 @@ module _ {z : Shape} {st : Slots} {n : ℕ} {ns os rs ws xs : List ℕ} (a : Nod
     place-there i = record { p = programIn z ns os rs; it = place-at i }
 
     -- and has been
-    module _ {x : NodeRecord} {r : Placed} {ws′ xs′ : List ℕ} (i : x ≡ nodeRecord ns n) (k : Left z ws xs ws′ xs′)
-        (t : (p : Program) → PlaceAt p z st n x ws xs → PlacedAs p z n r ws′ xs′) where
-      -- without a slot
-      pub turn-limit : r ≡ NoSlot
-          → Left z ws xs ws′ xs′ × Turned (programIn z ns os rs) z (suc n) (suc n) 0 (before (programIn z ns os rs) (suc n)) ExpansionLimit ws′ xs′
-      turn-limit c = (k, above (programIn z ns os rs) n (a .holding .going) used (z .limit) (rw c at (t (programIn z ns os rs) (place-at i))))
+    module _ {x : NodeRecord} {r : Step} {ws′ xs′ : List ℕ} (i : x ≡ nodeRecord ns n) (k : RestKept z ws xs ws′ xs′)
+        (t : (p : Program) → PlaceAt p z st n x ws xs → Turned p z (suc n) n 0 (slotted p n) r ws′ xs′) where
+      -- refused
+      pub turn-odd : r ≡ NonHermitianAxis → RestKept z ws xs ws′ xs′
+          × Turned (programIn z ns os rs) z (suc n) (suc n) 0 (before (programIn z ns os rs) (suc n)) NonHermitianAxis ws′ xs′
+      turn-odd c =
+          (k, after-odd (programIn z ns os rs) n (a .holding .going) used z (rw c at (t (programIn z ns os rs) (place-at i))))
 
-      module _ {s : Slots} (c : r ≡ SlotsThen s) where
+      pub turn-limit : r ≡ ExpansionLimit → RestKept z ws xs ws′ xs′
+          × Turned (programIn z ns os rs) z (suc n) (suc n) 0 (before (programIn z ns os rs) (suc n)) ExpansionLimit ws′ xs′
+      turn-limit c =
+          (k, after-limit (programIn z ns os rs) n (a .holding .going) used z (rw c at (t (programIn z ns os rs) (place-at i))))
+
+      module _ {s : Slots} (c : r ≡ Next s) where
         roots-at : RootsAt (programIn z ns os rs) z s n os rs ws′ xs′
         roots-at = record {
-          granted = granted-left (a .granted) k;
-          whole = given-whole (a .given);
+          granted = rest-granted (a .granted) k;
+          program = given-shape (a .given);
           operations-long = a .given .operations-long;
           rows-long = a .given .rows-long;
           phases = phases-there (a .given);
@@ -187,8 +196,8 @@ module _ {z : Shape} {st : Slots} {n : ℕ} {ns os rs ws xs : List ℕ} (a : Nod
         roots-there = record { p = programIn z ns os rs; it = roots-at }
 
         -- and have been
-        pub turn-roots : (q : Step) {ws″ xs″ : List ℕ} → Left z ws′ xs′ ws″ xs″
+        pub turn-roots : (q : Step) {ws″ xs″ : List ℕ} → RestKept z ws′ xs′ ws″ xs″
             → ((p : Program) → RootsAt p z s n os rs ws′ xs′ → Turned p z (suc n) n (total p) (within p n (total p)) q ws″ xs″)
-            → Left z ws xs ws″ xs″ × Turned (programIn z ns os rs) z (suc n) (suc n) 0 (before (programIn z ns os rs) (suc n)) q ws″ xs″
+            → RestKept z ws xs ws″ xs″ × Turned (programIn z ns os rs) z (suc n) (suc n) 0 (before (programIn z ns os rs) (suc n)) q ws″ xs″
         turn-roots q l m =
-            (left-then k l, after-roots (programIn z ns os rs) n (a .holding .going) used z q _ _ (m (programIn z ns os rs) roots-at))
+            (rest-then k l, after-roots (programIn z ns os rs) n (a .holding .going) used z q _ _ (m (programIn z ns os rs) roots-at))

@@ -1,48 +1,29 @@
 -- What packing demands and leaves: the model's `packed`, read through views. Assumes nothing.
 use mathlib.Core.Path.{_≡_}
-use mathlib.Core.List.{List, [], _∷_, _++_, map}
-use Prim.Native.Nat.{ℕ, _+_, _*_, _≤_}
-use lib.Dec.{ltb}
-use lib.ListN.{length, getD}
+use mathlib.Core.List.{List, _∷_, _++_, map}
+use Prim.Native.Nat.{ℕ, _+_, _*_}
+use lib.ListN.{getD}
 use Rattle.store.specs.Row.{row}
-use Rattle.model.specs.declared.Answer.{Answer}
-use Rattle.model.specs.declared.Answer.the-variants as answers
 use Rattle.model.specs.Lists.{if_then_else_, numbersFrom}
 use Rattle.model.specs.Program.{PauliRef, Program}
 use Rattle.model.specs.Roots.{isRoot, operationRoot}
-use Rattle.model.specs.Packing.{Pack, packed, valuesOf, SignedAxis, signedAxis}
-use Rattle.axes.specs.View.{axesOf}
+use Rattle.model.specs.Packing.{packed, valuesOf, SignedAxis, signedAxis}
+use Rattle.axes.specs.Held.{sizesOf, HoldsAxes}
 use Rattle.layout.specs.declared.Shape.{Shape}
-use Rattle.layout.specs.Rows.{mark, acted, relevantRow, usesRow, firstRoot, nextRoot, nodeSlot, nodePhase, freeRow, rootAxis, rootSign, noAxis}
+use Rattle.layout.specs.Rows.{mark, acted, relevantRow, usesRow, firstRoot, nextRoot, nodeSlot, nodePhase, freeRow, rootAxis, rootSign}
+use Rattle.layout.specs.Rows.{axesRows, noAxis}
 use Rattle.layout.specs.Only.{Only}
-use Rattle.layout.specs.Words.{axisPlace, KeptFrom}
+use Rattle.layout.specs.Words.{KeptFrom}
 use Rattle.layout.specs.Shape.{Granted}
 use Rattle.records.specs.Given.{Given}
-use Rattle.packing.specs.declared.Packed.{Packed}
-use Rattle.packing.specs.declared.Packed.the-variants.{Axes, NonHermitianAxis, ExpansionLimit}
+use Rattle.packing_answer.specs.declared.Packed.{Packed}
+use Rattle.packing_answer.specs.declared.Packed.the-variants.{Axes}
+use Rattle.packing_answer.specs.Answer.{packedAnswer}
 
 -- the work stores are long enough, and the program is one that Checking passed
 pub record PackPre (z : Shape) (ns os rs ws xs : List ℕ) : Type 0 where
   pub granted : Granted z ws xs
   pub given : Given z ns os rs
-
--- "9 a root's total phase is odd; 10 a tested word sum exceeds the limit": the first sum above the limit ends the work
-unfoldable pub packedAnswer : ℕ → Pack → Packed
-packedAnswer limit k =
-    if ltb limit (k .store .peak) then ExpansionLimit
-    else if k .refused then NonHermitianAxis else Axes (length (k .store .axes))
-
--- 01's answer
-abbrev pub packingAnswer : Packed → Answer
-packingAnswer (Axes n) = answers.Accepted
-packingAnswer NonHermitianAxis = answers.NonHermitianAxis
-packingAnswer ExpansionLimit = answers.ExpansionLimit
-
--- how many axes there are where packing is accepted, else the number before
-unfoldable pub axesAfter : ℕ → Packed → ℕ
-axesAfter before (Axes n) = n
-axesAfter before NonHermitianAxis = before
-axesAfter before ExpansionLimit = before
 
 -- ---- the roots' axes and signs
 
@@ -62,18 +43,17 @@ rowSign p r = if isRoot p r then signedAxis (packed p .store .axes) (valuesOf p)
 unfoldable pub signsOf : Program → List SignedAxis
 signsOf p = map (λ o. signedAxis (packed p .store .axes) (valuesOf p) (operationRoot o)) (p .operations) ++ map (rowSign p) (p .rows)
 
--- the rows that packing writes
+-- the rows that packing writes; storing an axis writes the last ones
 abbrev pub packRows : List ℕ
 packRows =
-    mark ∷ acted ∷ relevantRow ∷ usesRow ∷ firstRoot ∷ nextRoot ∷ nodeSlot ∷ nodePhase ∷ freeRow ∷ rootAxis ∷ rootSign ∷ []
+    mark ∷ acted ∷ relevantRow ∷ usesRow ∷ firstRoot ∷ nextRoot ∷ nodeSlot ∷ nodePhase ∷ freeRow ∷ rootAxis ∷ rootSign ∷ axesRows
 
 -- the answer is the model's; where packing is accepted, so are the axes, which are within the limit, and each root's axis and sign;
--- only packing's rows, and words below limit + 2l, are written. Left free are, after acceptance, the words from axes × 2l to
+-- only packing's rows, and words below limit + 2l, are written. RestKept free are, after acceptance, the words from axes × 2l to
 -- limit + 2l, and packRows but for the references' axis and sign; after a refusal, all words below limit + 2l and all of packRows
 pub record PackedAs (z : Shape) (p : Program) (r : Packed) (ws xs ws′ xs′ : List ℕ) : Type 0 where
   pub answer : r ≡ packedAnswer (z .limit) (packed p)
-  pub axes : (n : ℕ) → r ≡ Axes n → axesOf (z .l) n ws′ ≡ packed p .store .axes
-  pub room : (n : ℕ) → r ≡ Axes n → axisPlace (z .l) n ≤ z .limit
+  pub axes : (n : ℕ) → r ≡ Axes n → HoldsAxes (sizesOf z n) ws′ xs′ (packed p .store .axes)
   pub signs : (n : ℕ) → r ≡ Axes n → signsIn z xs′ ≡ signsOf p
   pub words : KeptFrom (z .limit + 2 * z .l) ws ws′
   pub numbers : Only packRows (z .u) xs xs′

@@ -1,21 +1,17 @@
 -- Packing from node to node: its start, its loop and its ends. Assumes nothing.
 use mathlib.Core.Path.{_≡_, refl, sym, ap, _∙_}
-use mathlib.Core.Bool.{true, false}
+use mathlib.Core.Bool.{true}
 use mathlib.Core.Logic.{inl, inr}
 use mathlib.Core.List.{List, _∷_}
 use Prim.Native.Nat.{ℕ, suc, _+_, _*_, _≤_, _<_}
 use native.Mathlib.Numerals.{add-one}
 use native.Mathlib.Omega.{arith}
 use lib.ListN.{length}
-use borrow.Author.Tests.{lt-ltb, le-ltb}
-use Rattle.store.specs.Chunk.{chunks}
 use Rattle.model.specs.Lists.{anyOf, member, allOf}
-use Rattle.model.specs.Interface.{numberOf}
 use Rattle.model.specs.Program.{Program}
 use Rattle.model.specs.Roots.{roots}
 use Rattle.model.specs.Packing.{Pack, useCounts, emptyPack, packed}
-use Rattle.theory.specs.Cases.{if-true, if-false}
-use Rattle.axes.specs.View.{axesOf, axes-length}
+use Rattle.axes.specs.Held.{sizesOf, HoldsAxes, held-count, held-as, held-none}
 use Rattle.layout.specs.declared.Shape.{Shape}
 use Rattle.layout.specs.Rows.{mark, acted, relevantRow, usesRow, entries}
 use Rattle.layout.specs.Only.{Only, only-then, only-of}
@@ -28,31 +24,31 @@ use Rattle.packing_states.specs.States.{before}
 use Rattle.packing_states.specs.StateLaws.{before-all, peak-before, refused-before}
 use Rattle.packing_states.specs.Live.{usedBelow}
 use Rattle.packing_states.specs.Linked.{Linked}
-use Rattle.packing_states.specs.InMemory.{reference-node, Whole, given-whole}
+use Rattle.packing_states.specs.InMemory.{reference-node, OfShape, given-shape}
+use Rattle.packing_answer.specs.declared.Packed.the-variants.{Axes, NonHermitianAxis, ExpansionLimit}
+use Rattle.packing_answer.specs.Answer.{same-axes, odd-no-axes, limit-no-axes, answer-limit, answer-odd, answer-axes}
 use Rattle.packing.specs.declared.Slots.{Slots}
-use Rattle.packing.specs.declared.Packed.{Packed}
-use Rattle.packing.specs.declared.Packed.the-variants.{Axes, NonHermitianAxis, ExpansionLimit}
-use Rattle.packing.specs.Holding.{Done, Holding, Left, NodeAt}
-use Rattle.packing.specs.Packed.{axesAfter, PackPre, packedAnswer, packingAnswer, packRows, PackedAs}
-use Rattle.packing.specs.LeftLaws.{left-none, left-then, granted-left}
+use Rattle.packing.specs.Holding.{Done, Holding, NodeAt}
+use Rattle.packing.specs.Packed.{PackPre, packRows, PackedAs}
+use Rattle.packing.specs.RestKept.{RestKept, rest-none, rest-then, rest-granted}
 use Rattle.packing.specs.Signs.{signs-are}
 
 -- ---- before the first node: no axes, no slots
 
 abbrev pub noSlots : Slots
-noSlots = record { axes = 0; slots = 0; free = 0 }
+noSlots = record { axes = 0; slots = 0; free = 0; taken = 0 }
 
 none-done : (p : Program) (j : ℕ) → Done p 0 0 j → ⊥
 none-done p j (inl a) = omega arith
 none-done p j (inr (e, a)) = omega arith
 
-start : {p : Program} {z : Shape} {ws xs : List ℕ} → Linked p z xs
+start : {p : Program} {z : Shape} {ws xs : List ℕ} → Granted z ws xs → Linked p z xs
     → entries xs (z .u) usesRow (z .nodes) ≡ useCounts (p .nodes) (roots p) → Holding p z 0 0 0 (before p 0) noSlots ws xs
-unfolding before emptyPack usedBelow axesOf chunks
-start {p} linked uses = record {
+unfolding before emptyPack usedBelow
+start {p} granted linked uses = record {
   going = refl;
   fits = omega arith;
-  axes = refl;
+  axes = held-none granted;
   room = omega arith;
   slots = refl;
   free = refl;
@@ -73,31 +69,7 @@ start {p} linked uses = record {
 
 -- ---- the ends
 
-same-axes : {m n : ℕ} → Axes m ≡ Axes n → m ≡ n
-unfolding axesAfter
-same-axes e = ap (axesAfter 0) e
-
-odd-no-axes : {n : ℕ} → NonHermitianAxis ≡ Axes n → ⊥
-odd-no-axes e = let z : _≡_ {A = ℕ} 9 0 = ap (λ (r : Packed). numberOf (packingAnswer r)) e in omega arith
-
-limit-no-axes : {n : ℕ} → ExpansionLimit ≡ Axes n → ⊥
-limit-no-axes e = let z : _≡_ {A = ℕ} 10 0 = ap (λ (r : Packed). numberOf (packingAnswer r)) e in omega arith
-
--- the answer, by what the packed program is
-module _ (limit : ℕ) (k : Pack) where
-  answer-limit : limit < k .store .peak → ExpansionLimit ≡ packedAnswer limit k
-  unfolding packedAnswer
-  answer-limit h = sym (if-true _ _ (lt-ltb limit (k .store .peak) h))
-
-  answer-odd : k .store .peak ≤ limit → k .refused ≡ true → NonHermitianAxis ≡ packedAnswer limit k
-  unfolding packedAnswer
-  answer-odd h r = sym (if-false _ _ (le-ltb limit (k .store .peak) h) ∙ if-true _ _ r)
-
-  answer-axes : k .store .peak ≤ limit → k .refused ≡ false → (n : ℕ) → length (k .store .axes) ≡ n → Axes n ≡ packedAnswer limit k
-  unfolding packedAnswer
-  answer-axes h r n e = sym (if-false _ _ (le-ltb limit (k .store .peak) h) ∙ if-false _ _ r ∙ ap Axes e)
-
-module _ {p : Program} {z : Shape} {ws₀ xs₀ ws xs : List ℕ} (w : Whole p z) (words : KeptFrom (z .limit + 2 * z .l) ws₀ ws)
+module _ {p : Program} {z : Shape} {ws₀ xs₀ ws xs : List ℕ} (w : OfShape p z) (words : KeptFrom (z .limit + 2 * z .l) ws₀ ws)
     (numbers : Only packRows (z .u) xs₀ xs) where
   -- refusal 10
   packed-limit : (n : ℕ) → n ≤ z .nodes → z .limit < before p n .store .peak → PackedAs z p ExpansionLimit ws₀ xs₀ ws xs
@@ -108,7 +80,6 @@ module _ {p : Program} {z : Shape} {ws₀ xs₀ ws xs : List ℕ} (w : Whole p z
       ap (λ (k : Pack). k .store .peak) (before-all p),
     ));
     axes = λ m e. absurd (limit-no-axes e);
-    room = λ m e. absurd (limit-no-axes e);
     signs = λ m e. absurd (limit-no-axes e);
     words = words;
     numbers = numbers;
@@ -122,7 +93,6 @@ module _ {p : Program} {z : Shape} {ws₀ xs₀ ws xs : List ℕ} (w : Whole p z
       record {
         answer = answer-odd (z .limit) (packed p) (rw e (h .1)) (rw e (h .0));
         axes = λ m f. absurd (odd-no-axes f);
-        room = λ m f. absurd (odd-no-axes f);
         signs = λ m f. absurd (odd-no-axes f);
         words = words;
         numbers = numbers;
@@ -132,9 +102,8 @@ module _ {p : Program} {z : Shape} {ws₀ xs₀ ws xs : List ℕ} (w : Whole p z
   packed-axes : {st : Slots} {n : ℕ} → n ≡ z .nodes → Holding p z n n 0 (before p n) st ws xs → PackedAs z p (Axes (st .axes)) ws₀ xs₀ ws xs
   packed-axes {st} {n} e h = record {
     answer = answer-axes (z .limit) (packed p) (rw (sym all) (h .fits)) (rw (sym all) (h .going)) (st .axes)
-        (ap length (sym axes-are) ∙ axes-length (z .l) (st .axes) ws);
-    axes = λ m f. rw (sym (same-axes f)) axes-are;
-    room = λ m f. rw (sym (same-axes f)) (omega (arith, h .room));
+        (held-count axes-held);
+    axes = λ m f. rw (sym (same-axes f)) axes-held;
     signs = λ m f.
         signs-are w (h .linked) (λ j a r. rw (sym all) (h .signed j a r (inl (omega (arith, reference-node p (w .fine) j a, w .nodes)))));
     words = words;
@@ -144,33 +113,34 @@ module _ {p : Program} {z : Shape} {ws₀ xs₀ ws xs : List ℕ} (w : Whole p z
       all : before p n ≡ packed p
       all = let last : n ≡ length (p .nodes) = omega (arith, w .nodes) in rw last (before-all p)
 
-      axes-are : axesOf (z .l) (st .axes) ws ≡ packed p .store .axes
-      axes-are = h .axes ∙ ap (λ (k : Pack). k .store .axes) all
+      axes-held : HoldsAxes (sizesOf z (st .axes)) ws xs (packed p .store .axes)
+      axes-held = held-as (h .axes) (ap (λ (k : Pack). k .store .axes) all)
 
 -- ---- the loop
 
 -- before node n, the stores having been ws₀ and xs₀ before the first
 pub record AtNode (z : Shape) (ns os rs ws₀ xs₀ ws xs : List ℕ) (st : Slots) (n : ℕ) : Type 0 where
   pub count : n ≤ z .nodes
-  pub left : Left z ws₀ xs₀ ws xs
+  pub rest : RestKept z ws₀ xs₀ ws xs
   pub holding : Holding (programIn z ns os rs) z n n 0 (before (programIn z ns os rs) n) st ws xs
 
 module _ {z : Shape} {ns os rs : List ℕ} where
-  pub first-node : {ws xs : List ℕ} → Linked (programIn z ns os rs) z xs
+  pub first-node : {ws xs : List ℕ} → Granted z ws xs → Linked (programIn z ns os rs) z xs
       → entries xs (z .u) usesRow (z .nodes) ≡ useCounts (programIn z ns os rs .nodes) (roots (programIn z ns os rs))
       → AtNode z ns os rs ws xs ws xs noSlots 0
-  first-node {ws} {xs} linked uses = record { count = omega arith; left = left-none z ws xs; holding = start linked uses }
+  first-node {ws} {xs} granted linked uses =
+      record { count = omega arith; rest = rest-none z ws xs; holding = start granted linked uses }
 
   module _ {ws₀ xs₀ ws xs : List ℕ} {st : Slots} {n : ℕ} (a : AtNode z ns os rs ws₀ xs₀ ws xs st n) where
     -- node n can have its turn
     pub node-turn : Granted z ws₀ xs₀ → Given z ns os rs → n < z .nodes → NodeAt z st n ns os rs ws xs
-    node-turn g h b = record { granted = granted-left g (a .left); given = h; node = b; holding = a .holding }
+    node-turn g h b = record { granted = rest-granted g (a .rest); given = h; node = b; holding = a .holding }
 
     -- and has had it
-    pub next-node : {ws′ xs′ : List ℕ} {st′ : Slots} → n < z .nodes → Left z ws xs ws′ xs′
+    pub next-node : {ws′ xs′ : List ℕ} {st′ : Slots} → n < z .nodes → RestKept z ws xs ws′ xs′
         → Holding (programIn z ns os rs) z (suc n) (suc n) 0 (before (programIn z ns os rs) (suc n)) st′ ws′ xs′
         → AtNode z ns os rs ws₀ xs₀ ws′ xs′ st′ (n + 1)
-    next-node b k h = rw (add-one n) (record { count = b; left = left-then (a .left) k; holding = h })
+    next-node b k h = rw (add-one n) (record { count = b; rest = rest-then (a .rest) k; holding = h })
 
 -- ---- packing, from what it demands
 
@@ -188,26 +158,27 @@ module _ {z : Shape} {ns os rs ws xs xs₀ : List ℕ} (pre : PackPre z ns os rs
   pub granted-prepared : Granted z ws xs₀
   granted-prepared = granted-same (pre .granted) refl (prepared .long)
 
-  numbers-left : {ws′ xs′ : List ℕ} → Left z ws xs₀ ws′ xs′ → Only packRows (z .u) xs xs′
+  numbers-rest : {ws′ xs′ : List ℕ} → RestKept z ws xs₀ ws′ xs′ → Only packRows (z .u) xs xs′
   unfolding member anyOf allOf
-  numbers-left l = only-then (only-of packRows refl prepared) (only-of packRows refl (l .numbers))
+  numbers-rest l = only-then (only-of packRows refl prepared) (only-of packRows refl (l .numbers))
 
   module _ {n : ℕ} {ws′ xs′ : List ℕ} {st : Slots} (a : AtNode z ns os rs ws xs₀ ws′ xs′ st n) where
     -- the last node's turn is over
     pub pack-axes : n ≡ z .nodes → PackedAs z (programIn z ns os rs) (Axes (st .axes)) ws xs ws′ xs′
-    pack-axes e = packed-axes (given-whole (pre .given)) (a .left .words) (numbers-left (a .left)) e (a .holding)
+    pack-axes e = packed-axes (given-shape (pre .given)) (a .rest .words) (numbers-rest (a .rest)) e (a .holding)
 
-    module _ {ws″ xs″ : List ℕ} (b : n < z .nodes) (k : Left z ws′ xs′ ws″ xs″) where
+    module _ {ws″ xs″ : List ℕ} (b : n < z .nodes) (k : RestKept z ws′ xs′ ws″ xs″) where
       -- a turn ends packing by 9
-      pub pack-odd : (before (programIn z ns os rs) (suc n) .refused ≡ true) × (before (programIn z ns os rs) (suc n) .store .peak ≤ z .limit)
+      pub pack-odd : (before (programIn z ns os rs) (suc n) .refused ≡ true)
+          × (before (programIn z ns os rs) (suc n) .store .peak ≤ z .limit)
           → PackedAs z (programIn z ns os rs) NonHermitianAxis ws xs ws″ xs″
       pack-odd h =
-          let l = left-then (a .left) k in
-          packed-odd (given-whole (pre .given)) (l .words) (numbers-left l) (suc n) b h
+          let l = rest-then (a .rest) k in
+          packed-odd (given-shape (pre .given)) (l .words) (numbers-rest l) (suc n) b h
 
       -- or by 10
       pub pack-limit : z .limit < before (programIn z ns os rs) (suc n) .store .peak
           → PackedAs z (programIn z ns os rs) ExpansionLimit ws xs ws″ xs″
       pack-limit h =
-          let l = left-then (a .left) k in
-          packed-limit (given-whole (pre .given)) (l .words) (numbers-left l) (suc n) b h
+          let l = rest-then (a .rest) k in
+          packed-limit (given-shape (pre .given)) (l .words) (numbers-rest l) (suc n) b h

@@ -18,11 +18,11 @@ use Rattle.theory.specs.ByNode.{OfChildren, children-before}
 use Rattle.theory.specs.Checked.{Fine}
 use Rattle.theory.specs.NodeValue.{nodeValue-same, nodeValue-length}
 use Rattle.theory.specs.PackedRoots.{children-keep}
-use Rattle.axes.specs.View.{axesOf, axes-length, axes-apart}
+use Rattle.axes.specs.Held.{sizesOf, HoldsAxes, held-count, held-rows, held-words, held-as}
 use Rattle.layout.specs.declared.Shape.{Shape}
 use Rattle.layout.specs.Rows.{rowCount, usesRow, firstRoot, nextRoot, nodeSlot, nodePhase, freeRow, rootAxis, rootSign, entries}
 use Rattle.layout.specs.Only.{Only, only-then, only-of}
-use Rattle.layout.specs.Words.{slotPlace, slots-le, slot-in, slot-behind, KeptFrom, kept-then, kept-put}
+use Rattle.layout.specs.Words.{slotPlace, slots-le, slot-in, slot-behind, KeptFrom, kept-then, kept-put, OnlyWords, words-put}
 use Rattle.layout.specs.Shape.{Sized}
 use Rattle.records.specs.declared.NodeRecord.{NodeRecord}
 use Rattle.records.specs.Records.{nodeSaid, said-letter, said-by, leaf-of, product-of}
@@ -32,11 +32,11 @@ use Rattle.packing_states.specs.Uses.{children-below, children-used}
 use Rattle.packing_states.specs.Live.{used-below-more}
 use Rattle.packing_states.specs.Linked.{linked-same}
 use Rattle.packing.specs.declared.Slots.{Slots}
-use Rattle.packing.specs.declared.Placed.the-variants.{Slots as SlotsThen, ExpansionLimit}
-use Rattle.packing.specs.declared.Taken.the-variants.{Slot, ExpansionLimit as NoSlot}
+use Rattle.packing.specs.declared.Step.the-variants.{Next, ExpansionLimit}
 use Rattle.packing.specs.Values.{slotOf, phaseOf, usesOf, HeldPre, heldValue, EvaluatePre, valueOfRecord, Evaluated, ChildrenPre}
 use Rattle.packing.specs.Values.{ChildrenReleased, TakePre, taken, KeepPre, Kept}
-use Rattle.packing.specs.Holding.{SlotsHold, SignedAt, Holding, PlacedAs, turnRows, Left, PlaceAt}
+use Rattle.packing.specs.Holding.{SlotsHold, SignedAt, Holding, Turned, PlaceAt}
+use Rattle.packing.specs.RestKept.{turnRows, RestKept}
 use Rattle.packing.specs.Bounds.{slots-fit, nodes-in, width-is, slots-in, held-pre}
 use Rattle.packing.specs.NodeValues.{value-own, value-turns, leaf-in}
 use Rattle.packing.specs.Release.{SlotsAre, holding-slots, count-is, free-room, slots-release}
@@ -46,7 +46,7 @@ use Rattle.packing.specs.Taking.{Took, took-none, took-slot}
 -- ---- a record's node
 
 -- its children
-said-children : (P : ℕ → Type 0) (r : NodeRecord) → (2 ≤ r .kind → P (r .a) × P (r .b)) → OfChildren P (nodeSaid r)
+said-children : (P : ℕ → Type 0) (r : NodeRecord) → (2 ≤ r .kind → P (r .left) × P (r .right)) → OfChildren P (nodeSaid r)
 said-children P r h = said-by (OfChildren P) r tt tt h
 
 -- a leaf has none
@@ -68,25 +68,26 @@ module _ {p : Program} {z : Shape} {st : Slots} {n : ℕ} {x : NodeRecord} {ws x
   size = h .granted .sized
 
   fine : Fine p
-  fine = h .whole .fine
+  fine = h .program .fine
 
   below : n < length (p .nodes)
-  below = omega (arith, h .node, h .whole .nodes)
+  below = omega (arith, h .node, h .program .nodes)
 
   slots-below : st .slots < z .u
   slots-below = slots-in (h .granted) (h .holding)
 
-  is-product : 2 ≤ x .kind → nodeAt p n ≡ product (x .a) (x .p) (x .b) (x .q)
+  is-product : 2 ≤ x .kind → nodeAt p n ≡ product (x .left) (x .«left_phase») (x .right) (x .«right_phase»)
   is-product k = sym (h .said) ∙ product-of x k
 
-  children-in : 2 ≤ x .kind → (x .a < n) × (x .b < n)
+  children-in : 2 ≤ x .kind → (x .left < n) × (x .right < n)
   children-in k = children-below p fine n below (is-product k)
 
-  children-live : 2 ≤ x .kind → (0 < getD (before p n .uses) (x .a) 0) × (0 < getD (oneUseLess (x .a) (before p n .uses)) (x .b) 0)
+  children-live : 2 ≤ x .kind
+      → (0 < getD (before p n .uses) (x .left) 0) × (0 < getD (oneUseLess (x .left) (before p n .uses)) (x .right) 0)
   children-live k = children-used p fine n below (h .holding .going) (h .used) (is-product k)
 
-  second-live : 2 ≤ x .kind → 0 < getD (before p n .uses) (x .b) 0
-  second-live k = omega (arith, children-live k .1, less-at (before p n .uses) (x .a) (x .b))
+  second-live : 2 ≤ x .kind → 0 < getD (before p n .uses) (x .right) 0
+  second-live k = omega (arith, children-live k .1, less-at (before p n .uses) (x .left) (x .right))
 
   -- what is held of a node that is still to be used
   module _ (m : ℕ) (a : m < n) (u : 0 < getD (before p n .uses) m 0) where
@@ -108,26 +109,26 @@ module _ {p : Program} {z : Shape} {st : Slots} {n : ℕ} {x : NodeRecord} {ws x
         ∙ part-length ws (slotPlace (z .limit) (z .l) (slotOf xs (z .u) m)) (2 * z .l) (omega (arith, h .granted .words-long))
 
   -- a leaf's qubit has its bit
-  leaf-qubit : x .kind ≡ 1 → x .a < 64 * z .l
+  leaf-qubit : x .kind ≡ 1 → x .left < 64 * z .l
   leaf-qubit e =
       let leaf = rw (sym (h .said) ∙ said-letter x e) at (leaf-in p fine n below) in
-      omega (arith, leaf .0, h .whole .qubits, size .bits)
+      omega (arith, leaf .0, h .program .qubits, size .bits)
 
   -- `evaluate` can be called
   pub evaluate-pre : EvaluatePre z x ws xs
   evaluate-pre = record {
     scratch = omega (arith, h .granted .words-long);
     qubit = leaf-qubit;
-    first = λ k. node-held (x .a) (children-in k .0) (children-live k .0);
-    second = λ k. node-held (x .b) (children-in k .1) (second-live k);
-    first-phase = λ k. held-phase (x .a) (children-in k .0) (children-live k .0);
-    second-phase = λ k. held-phase (x .b) (children-in k .1) (second-live k);
+    first = λ k. node-held (x .left) (children-in k .0) (children-live k .0);
+    second = λ k. node-held (x .right) (children-in k .1) (second-live k);
+    first-phase = λ k. held-phase (x .left) (children-in k .0) (children-live k .0);
+    second-phase = λ k. held-phase (x .right) (children-in k .1) (second-live k);
   }
 
   -- the model's value, by what the record says
   value-said : nodeValue (z .l) (valueOf p) (nodeSaid x) ≡ valueOf p n
   value-said =
-      ap₂ (λ (l : ℕ) (node : Node). nodeValue l (valueOf p) node) (sym (width-is (h .granted) (h .whole))) (h .said)
+      ap₂ (λ (l : ℕ) (node : Node). nodeValue l (valueOf p) node) (sym (width-is (h .granted) (h .program))) (h .said)
       ∙ sym (value-own p fine n below)
 
   -- `evaluate` works it out
@@ -136,17 +137,17 @@ module _ {p : Program} {z : Shape} {st : Slots} {n : ℕ} {x : NodeRecord} {ws x
   value-is =
       nodeValue-same (z .l) (heldValue z ws xs) (valueOf p) (nodeSaid x)
       (said-children (λ i. heldValue z ws xs i ≡ valueOf p i) x
-      (λ k. (held-value (x .a) (children-in k .0) (children-live k .0), held-value (x .b) (children-in k .1) (second-live k))))
+      (λ k. (held-value (x .left) (children-in k .0) (children-live k .0), held-value (x .right) (children-in k .1) (second-live k))))
       ∙ value-said
 
   -- which has 2l numbers
   value-long : length (valueOf p n .word) ≡ 2 * z .l
   value-long =
       ap (λ (v : Value). length (v .word)) (sym value-said)
-      ∙ nodeValue-length (z .l) (p .qubits) (valueOf p) (nodeSaid x) (omega (arith, h .whole .qubits, size .bits))
+      ∙ nodeValue-length (z .l) (p .qubits) (valueOf p) (nodeSaid x) (omega (arith, h .program .qubits, size .bits))
       (rw (h .said) (leaf-in p fine n below))
       (said-children (λ i. length (valueOf p i .word) ≡ 2 * z .l) x
-      (λ k. (held-length (x .a) (children-in k .0) (children-live k .0), held-length (x .b) (children-in k .1) (second-live k))))
+      (λ k. (held-length (x .left) (children-in k .0) (children-live k .0), held-length (x .right) (children-in k .1) (second-live k))))
 
   -- ---- the children's uses
 
@@ -156,25 +157,25 @@ module _ {p : Program} {z : Shape} {st : Slots} {n : ℕ} {x : NodeRecord} {ws x
   used-count : (m : ℕ) → m < n → usesOf xs (z .u) m ≡ getD (before p n .uses) m 0
   used-count m a = count-is m (h .granted .numbers-long) (nodes-in (h .granted)) (omega (arith, h .node)) slots-are
 
-  second-count : 2 ≤ x .kind → getD (set (row xs (z .u) usesRow) (x .a) (usesOf xs (z .u) (x .a) - 1)) (x .b) 0
-      ≡ getD (oneUseLess (x .a) (before p n .uses)) (x .b) 0
+  second-count : 2 ≤ x .kind → getD (set (row xs (z .u) usesRow) (x .left) (usesOf xs (z .u) (x .left) - 1)) (x .right) 0
+      ≡ getD (oneUseLess (x .left) (before p n .uses)) (x .right) 0
   unfolding entries oneUseLess
   second-count k =
       let c = children-in k in
       let uses = row xs (z .u) usesRow in
-      let v = usesOf xs (z .u) (x .a) - 1 in
-      sym (getD-take (z .nodes) (set uses (x .a) v) (x .b) 0 (omega (arith, h .node)))
-      ∙ ap (λ (y : List ℕ). getD y (x .b) 0) (take-set-lt (z .nodes) uses (x .a) v (omega (arith, h .node)))
-      ∙ ap₂ (λ (y : List ℕ) (w : ℕ). getD (set y (x .a) (w - 1)) (x .b) 0) (h .holding .uses) (used-count (x .a) (c .0))
+      let v = usesOf xs (z .u) (x .left) - 1 in
+      sym (getD-take (z .nodes) (set uses (x .left) v) (x .right) 0 (omega (arith, h .node)))
+      ∙ ap (λ (y : List ℕ). getD y (x .right) 0) (take-set-lt (z .nodes) uses (x .left) v (omega (arith, h .node)))
+      ∙ ap₂ (λ (y : List ℕ) (w : ℕ). getD (set y (x .left) (w - 1)) (x .right) 0) (h .holding .uses) (used-count (x .left) (c .0))
 
   -- `release_children` can be called
   pub children-pre : ChildrenPre xs (z .u) (st .free) x
   children-pre = record {
     long = h .granted .numbers-long;
-    room = λ k. omega (arith, slots-below, free-room (x .a) (children-in k .0) (children-live k .0) slots-are);
+    room = λ k. omega (arith, slots-below, free-room (x .left) (children-in k .0) (children-live k .0) slots-are);
     first = λ k. omega (arith, children-in k .0, h .node, nodes-in (h .granted));
     second = λ k. omega (arith, children-in k .1, h .node, nodes-in (h .granted));
-    first-used = λ k. omega (arith, children-live k .0, used-count (x .a) (children-in k .0));
+    first-used = λ k. omega (arith, children-live k .0, used-count (x .left) (children-in k .0));
     second-used = λ k. omega (arith, children-live k .1, second-count k);
   }
 
@@ -191,10 +192,10 @@ module _ {p : Program} {z : Shape} {st : Slots} {n : ℕ} {x : NodeRecord} {ws x
             rw (sym (h .said), leaf-uses x (before p n) k, e .0, e .1) slots-are
         go (no ne) =
             let k : 2 ≤ x .kind = omega arith in
-            let one = slots-release (x .a) (children-in k .0) (children-live k .0) slots-are (h .granted .numbers-long)
+            let one = slots-release (x .left) (children-in k .0) (children-live k .0) slots-are (h .granted .numbers-long)
             (nodes-in (h .granted)) (omega (arith, h .node)) slots-below (c .first k) in
             rw (is-product k)
-            (slots-release (x .b) (children-in k .1) (children-live k .1) one
+            (slots-release (x .right) (children-in k .1) (children-live k .1) one
             (omega (arith, h .granted .numbers-long, c .first k .only .long)) (nodes-in (h .granted)) (omega (arith, h .node)) slots-below
             (c .second k))
 
@@ -209,7 +210,7 @@ module _ {p : Program} {z : Shape} {st : Slots} {n : ℕ} {x : NodeRecord} {ws x
   k₁ = useChildren (nodeAt p n) (before p n)
 
   abbrev st₁ : Slots
-  st₁ = record { axes = st .axes; slots = st .slots; free = r }
+  st₁ = record { axes = st .axes; slots = st .slots; free = r; taken = st .taken }
 
   words-are : ws′ ≡ put ws (z .limit) word
   words-are = v .words ∙ ap (λ (y : Value). put ws (z .limit) (y .word)) (value-is h)
@@ -238,12 +239,13 @@ module _ {p : Program} {z : Shape} {st : Slots} {n : ℕ} {x : NodeRecord} {ws x
       }
 
   -- the axes
-  axes₁ : axesOf (z .l) (st .axes) ws′ ≡ k₁ .store .axes
+  axes₁ : HoldsAxes (sizesOf z (st .axes)) ws′ t (k₁ .store .axes)
+  unfolding member anyOf
   axes₁ =
-      ap (axesOf (z .l) (st .axes)) words-are
-      ∙ axes-apart (z .l) (st .axes) ws (z .limit) word scratch-in (omega (arith, h .holding .room))
-      ∙ h .holding .axes
-      ∙ ap (λ (y : Store). y .axes) (sym (children-keep (nodeAt p n) (before p n) .0))
+      let written : OnlyWords (z .limit) (z .limit + length word) ws ws′ =
+      rw words-are (words-put (z .limit) (z .limit + length word) ws (z .limit) word (omega arith) (omega arith) scratch-in) in
+      held-as (held-rows (held-words (h .holding .axes) written (omega (arith, h .holding .room))) (c .only) refl)
+      (ap (λ (y : Store). y .axes) (sym (children-keep (nodeAt p n) (before p n) .0)))
 
   -- `take_slot` can be called
   pub take-pre : TakePre z t st₁
@@ -258,30 +260,36 @@ module _ {p : Program} {z : Shape} {st : Slots} {n : ℕ} {x : NodeRecord} {ws x
 
   is-slotted : slotted p n ≡ takeSlot (z .l) k₁
   unfolding slotted
-  is-slotted = ap (λ (l : ℕ). takeSlot l k₁) (width-is (h .granted) (h .whole))
+  is-slotted = ap (λ (l : ℕ). takeSlot l k₁) (width-is (h .granted) (h .program))
 
   slots-count : k₁ .slots ≡ st .slots
   slots-count = children-keep (nodeAt p n) (before p n) .1 .0 ∙ h .holding .slots
 
   axes-count : length (k₁ .store .axes) ≡ st .axes
-  axes-count = ap length (sym axes₁) ∙ axes-length (z .l) (st .axes) ws′
+  axes-count = held-count axes₁
 
   kept₁ : KeptFrom (z .limit + 2 * z .l) ws ws′
-  kept₁ = rw words-are (kept-put (z .limit + 2 * z .l) ws (z .limit) word (omega (arith, value-long h)) (omega (arith, h .granted .words-long)))
+  kept₁ =
+      rw words-are (kept-put (z .limit + 2 * z .l) ws (z .limit) word (omega (arith, value-long h)) (omega (arith, h .granted .words-long)))
 
   -- the limit refuses the slot
-  pub place-limit : taken z t st₁ ≡ NoSlot → PlacedAs p z n ExpansionLimit ws′ t
+  pub place-limit : taken z t st₁ ≡ ExpansionLimit → Turned p z (suc n) n 0 (slotted p n) ExpansionLimit ws′ t
   place-limit f =
       rw is-slotted (took-none z n (valueOf p) t ws′ (row t (z .u) nodePhase) st₁ k₁ slots-count (slots₁ .all) axes-count f)
 
-  pub left-limit : Left z ws xs ws′ t
+  pub rest-limit : RestKept z ws xs ws′ t
   unfolding allOf member anyOf
-  left-limit = record { words = kept₁; numbers = only-of turnRows refl (c .only) }
+  rest-limit = record { words = kept₁; numbers = only-of turnRows refl (c .only) }
 
   -- the slot that is taken
-  module _ {s : ℕ} {st′ : Slots} (f : taken z t st₁ ≡ Slot s st′) where
-    took : Took z n (st .axes) (st .slots) r (row t (z .u) nodeSlot) (row t (z .u) freeRow) k₁ (takeSlot (z .l) k₁) s st′
-    took = took-slot z n (valueOf p) t ws′ (row t (z .u) nodePhase) st₁ k₁ slots-count (slots₁ .all) axes-count (slots₁ .held) (h .holding .room)
+  module _ {st′ : Slots} (f : taken z t st₁ ≡ Next st′) where
+    abbrev s : ℕ
+    s = st′ .taken
+
+    took : Took z n (st .axes) (st .slots) r (row t (z .u) nodeSlot) (row t (z .u) freeRow) k₁ (takeSlot (z .l) k₁) st′
+    took =
+        took-slot z n (valueOf p) t ws′ (row t (z .u) nodePhase) st₁ k₁ slots-count (slots₁ .all) axes-count (slots₁ .held)
+        (h .holding .room)
         (omega (arith, h .holding .fits, ap (λ (y : Store). y .peak) (children-keep (nodeAt p n) (before p n) .0))) f
 
     slots-fit′ : st′ .slots * (2 * z .l) ≤ z .limit
@@ -341,14 +349,15 @@ module _ {p : Program} {z : Shape} {st : Slots} {n : ℕ} {x : NodeRecord} {ws x
             h .used,
           )
 
-      axes″ : axesOf (z .l) (st′ .axes) ws″ ≡ takeSlot (z .l) k₁ .store .axes
+      axes″ : HoldsAxes (sizesOf z (st′ .axes)) ws″ t″ (takeSlot (z .l) k₁ .store .axes)
+      unfolding member anyOf
       axes″ =
           let room : st .axes * (2 * z .l) + st′ .slots * (2 * z .l) ≤ z .limit = rw (← took .same-axes) (omega (arith, took .room)) in
-          ap₂ (axesOf (z .l)) (took .same-axes) words″
-          ∙ axes-apart (z .l) (st .axes) ws′ (slotPlace (z .limit) (z .l) s) word word-in
-          (slot-behind (z .limit) (z .l) (st′ .slots) slots-fit′ s (st .axes * (2 * z .l)) (took .takes .inside) room)
-          ∙ axes₁
-          ∙ sym (took .stored)
+          let at = slotPlace (z .limit) (z .l) s in
+          let written : OnlyWords at (at + length word) ws′ ws″ =
+          rw words″ (words-put at (at + length word) ws′ at word (omega arith) (omega arith) word-in) in
+          let behind = slot-behind (z .limit) (z .l) (st′ .slots) slots-fit′ s (st .axes * (2 * z .l)) (took .takes .inside) room in
+          rw (took .same-axes, took .stored) (held-rows (held-words axes₁ written behind) (q .only) refl)
 
       held″ : SlotsHold (z .l) (z .limit) (suc n) (st′ .slots) (st′ .free) (valueOf p) (takeSlot (z .l) k₁ .uses)
           (row t″ (z .u) nodeSlot) (row t″ (z .u) nodePhase) (row t″ (z .u) freeRow) ws″
@@ -380,12 +389,12 @@ module _ {p : Program} {z : Shape} {st : Slots} {n : ℕ} {x : NodeRecord} {ws x
       }
 
       -- the turn goes on
-      pub place-next : PlacedAs p z n (SlotsThen st′) ws″ t″
+      pub place-next : Turned p z (suc n) n 0 (slotted p n) (Next st′) ws″ t″
       place-next = rw is-slotted holding″
 
-      pub left-next : Left z ws xs ws″ t″
+      pub rest-next : RestKept z ws xs ws″ t″
       unfolding allOf member anyOf
-      left-next = record {
+      rest-next = record {
         words = kept-then kept₁
             (rw words″ (kept-put (z .limit + 2 * z .l) ws′ (slotPlace (z .limit) (z .l) s) word (omega (arith, place-in, value-long h))
             (omega (arith, words-long, h .granted .words-long))));

@@ -12,8 +12,10 @@ use Rattle.model.specs.Words.{Store, intern}
 use Rattle.model.specs.Packing.{withStore, withRefusal, useNode, packRoot}
 use Rattle.theory.specs.Cases.{if-true, if-false}
 use Rattle.axes.specs.View.{wordAt}
+use Rattle.axes.specs.Held.{sizesOf, held-stored}
 use Rattle.axes.specs.Intern.{InternPre, Stores}
 use Rattle.axes.specs.Stored.{HasId, NoRoom, InternedAs, interned-is}
+use Rattle.axes.specs.declared.Sizes.{Sizes}
 use Rattle.axes.specs.declared.Interned.{Interned}
 use Rattle.axes.specs.declared.Interned.the-variants.{Id, ExpansionLimit}
 use Rattle.layout.specs.declared.Shape.{Shape}
@@ -44,9 +46,14 @@ abbrev pub rootStore : Program → Shape → Slots → ℕ → ℕ → Store
 rootStore p z st n j = intern (z .l) (st .slots * (2 * z .l)) (within p n j .store) (valueOf p n .word)
 
 -- what the id of the root's word means
-abbrev pub RootHasId : Program → Shape → Slots → ℕ → ℕ → List ℕ → ℕ → List ℕ → Type 0
-RootHasId p z st n j ws id ws′ =
-    HasId (z .l) (st .slots * (2 * z .l)) (z .limit) (st .axes) ws (within p n j .store) (valueOf p n .word) id ws′
+abbrev pub RootHasId : Program → Shape → Slots → ℕ → ℕ → List ℕ → List ℕ → ℕ → List ℕ → List ℕ → Type 0
+RootHasId p z st n j ws xs id ws′ xs′ =
+    HasId (sizesOf z (st .axes)) (st .slots * (2 * z .l)) ws xs (within p n j .store) (valueOf p n .word) id ws′ xs′
+
+-- what its refusal means
+abbrev pub RootNoRoom : Program → Shape → Slots → ℕ → ℕ → List ℕ → List ℕ → List ℕ → List ℕ → Type 0
+RootNoRoom p z st n j ws xs ws′ xs′ =
+    NoRoom (sizesOf z (st .axes)) (st .slots * (2 * z .l)) ws xs (within p n j .store) (valueOf p n .word) ws′ xs′
 
 -- ---- before the root's turn
 
@@ -56,7 +63,7 @@ module _ {p : Program} {z : Shape} {st : Slots} {n j phase : ℕ} {ws xs : List 
 
   -- the reference has its entry in a row
   pub reference-in : j < z .u
-  reference-in = omega (arith, h .reference, h .whole .references, h .granted .sized .row)
+  reference-in = omega (arith, h .reference, h .program .references, h .granted .sized .row)
 
   pub node-in : n < z .u
   node-in = omega (arith, h .node, nodes-in (h .granted))
@@ -69,22 +76,24 @@ module _ {p : Program} {z : Shape} {st : Slots} {n j phase : ℕ} {ws xs : List 
     held-turns = held-phase z xs n e ∙ h .holding .held .turns n (omega arith) (h .used)
 
     pub held-small : v .phase < 4
-    held-small = omega (arith, held-turns, value-turns p (h .whole .fine) n (omega (arith, h .node, h .whole .nodes)))
+    held-small = omega (arith, held-turns, value-turns p (h .program .fine) n (omega (arith, h .node, h .program .nodes)))
 
     held-word : wordAt (z .l) ws (v .at) ≡ valueOf p n .word
     held-word = ap (wordAt (z .l) ws) (held-place z xs n e) ∙ h .holding .held .word n (omega arith) (h .used)
 
-    pub intern-pre : InternPre (z .l) (st .slots * (2 * z .l)) (z .limit) (st .axes) ws (v .at)
-    intern-pre =
+    sizes-pre : InternPre (sizesOf z (st .axes)) (st .slots * (2 * z .l)) ws xs (v .at)
+    sizes-pre =
         let s = slotOf xs (z .u) n in
         let at : v .at ≡ slotPlace (z .limit) (z .l) s = held-place z xs n e in
         record {
-          stored = omega (arith, h .holding .room);
+          held = held-stored (h .holding .axes);
           counted = slots-fit (h .holding);
-          inside = omega (arith, h .granted .words-long);
           word-in = omega (arith, at, h .granted .words-long, slot-in (z .limit) (z .l) (st .slots) (slots-fit (h .holding)) s slot-below);
           behind = omega (arith, at, slot-counted (z .limit) (z .l) (st .slots) (slots-fit (h .holding)) s slot-below);
         }
+
+    pub intern-pre : {sizes : Sizes} → sizes ≡ sizesOf z (st .axes) → InternPre sizes (st .slots * (2 * z .l)) ws xs (v .at)
+    intern-pre f = rw f sizes-pre
 
     -- the root's total phase
     pub phase-total : (v .phase + phase % 4) % 4 ≡ (valueOf p n .turns + referenceAt p j .phase) % 4
@@ -109,19 +118,21 @@ module _ {p : Program} {z : Shape} {st : Slots} {n j phase : ℕ} {ws xs : List 
   stored-next e =
       pack-reference p n j (h .root) (h .holding .going) ∙ if-false _ _ e
       ∙ ap₂ (λ (l s : ℕ). useNode n (withStore (intern l (s * (2 * l)) (within p n j .store) (valueOf p n .word)) (within p n j)))
-      (width-is (h .granted) (h .whole)) (h .holding .slots)
+      (width-is (h .granted) (h .program)) (h .holding .slots)
 
   -- ---- the answer of `intern`
 
-  module _ {v : ValueHeld} (e : v ≡ heldAt z xs n) {r : Interned} {ws′ : List ℕ}
-      (s : Stores (z .l) (st .slots * (2 * z .l)) (z .limit) (st .axes) ws (v .at) r ws′) where
-    stored-as : InternedAs (z .l) (st .slots * (2 * z .l)) (z .limit) (st .axes) ws (within p n j .store) (valueOf p n .word) r ws′
+  module _ {v : ValueHeld} (e : v ≡ heldAt z xs n) {sizes : Sizes} (f : sizes ≡ sizesOf z (st .axes)) {r : Interned} {ws′ xs′ : List ℕ}
+      (s : Stores sizes (st .slots * (2 * z .l)) ws xs (v .at) r ws′ xs′) where
+    stored-as : InternedAs (sizesOf z (st .axes)) (st .slots * (2 * z .l)) ws xs (within p n j .store) (valueOf p n .word) r ws′ xs′
     stored-as =
-        subst (λ (w : List ℕ). InternedAs (z .l) (st .slots * (2 * z .l)) (z .limit) (st .axes) ws (within p n j .store) w r ws′) (held-word e)
-        (interned-is _ _ _ _ ws (v .at) (intern-pre e) (within p n j .store) (sym (h .holding .axes)) s (h .holding .fits))
+        subst (λ (w : List ℕ). InternedAs (sizesOf z (st .axes)) (st .slots * (2 * z .l)) ws xs (within p n j .store) w r ws′ xs′)
+        (held-word e)
+        (interned-is _ _ ws xs (v .at) (sizes-pre e) (within p n j .store) (h .holding .axes)
+        (subst (λ (y : Sizes). Stores y (st .slots * (2 * z .l)) ws xs (v .at) r ws′ xs′) f s) (h .holding .fits))
 
-    pub root-has-id : {id : ℕ} → r ≡ Id id → RootHasId p z st n j ws id ws′
+    pub root-has-id : {id : ℕ} → r ≡ Id id → RootHasId p z st n j ws xs id ws′ xs′
     root-has-id q = rw q at stored-as
 
-    pub root-no-room : r ≡ ExpansionLimit → NoRoom (z .l) (st .slots * (2 * z .l)) (z .limit) ws (within p n j .store) (valueOf p n .word) ws′
+    pub root-no-room : r ≡ ExpansionLimit → RootNoRoom p z st n j ws xs ws′ xs′
     root-no-room q = rw q at stored-as

@@ -2,21 +2,22 @@
 use mathlib.Core.Path.{_≡_, refl, sym, ap, _∙_, subst}
 use mathlib.Core.Bool.{true, false, true≢false}
 use mathlib.Core.Logic.{_≢_, inl, inr}
-use mathlib.Core.List.{List, [], _∷_}
+use mathlib.Core.List.{List, _∷_}
 use Prim.Native.Nat.{ℕ, suc, _+_, _*_, _%_, _≤_, _<_}
 use native.Mathlib.Omega.{arith}
 use native.Mathlib.Decide.{ℕ-discrete}
-use lib.ListN.{length, getD, take}
+use lib.ListN.{length, getD, set, take}
 use Rattle.store.specs.Part.{part}
 use Rattle.model.specs.Lists.{anyOf, member, allOf}
 use Rattle.model.specs.Program.{Program}
 use Rattle.model.specs.Words.{idOf}
 use Rattle.model.specs.Packing.{withStore, useNode}
 use Rattle.theory.specs.Ids.{id-in, id-stored, intern-grows, stored-keeps, id-keeps}
+use Rattle.axes.specs.Held.{held-rows}
 use Rattle.axes.specs.Intern.{countWith}
 use Rattle.layout.specs.declared.Shape.{Shape}
-use Rattle.layout.specs.Rows.{rowCount, usesRow, nodeSlot, nodePhase, freeRow, firstRoot, nextRoot, rootAxis, rootSign, entries}
-use Rattle.layout.specs.Only.{only-then, only-of}
+use Rattle.layout.specs.Rows.{rowCount, usesRow, nodeSlot, nodePhase, freeRow, firstRoot, nextRoot, rootAxis, rootSign, axesRows, entries}
+use Rattle.layout.specs.Only.{Only, only-then, only-of}
 use Rattle.layout.specs.Words.{slotPlace, slot-in, slot-counted, kept-later, kept-part}
 use Rattle.packing_states.specs.References.{referenceAt, total, isRootAt}
 use Rattle.packing_states.specs.States.{valueOf, within}
@@ -24,7 +25,8 @@ use Rattle.packing_states.specs.ReferenceLaws.{root-is}
 use Rattle.packing_states.specs.ReferenceRows.{ReferenceRows, referenceRows, axis-own, sign-own, axis-other, sign-other}
 use Rattle.packing_states.specs.Linked.{Linked}
 use Rattle.packing.specs.declared.Slots.{Slots}
-use Rattle.packing.specs.Holding.{SignedAt, Done, Holding, Left, RootAt}
+use Rattle.packing.specs.Holding.{SignedAt, Done, Holding, RootAt}
+use Rattle.packing.specs.RestKept.{RestKept}
 use Rattle.packing.specs.Bounds.{slots-fit, nodes-in, slots-in}
 use Rattle.packing.specs.Keeping.{slots-words}
 use Rattle.packing.specs.Values.{ReleasePre, Released}
@@ -35,16 +37,18 @@ use Rattle.packing.specs.RootLaws.{rootStore, RootHasId, reference-in, n
 
 -- the rows of a root's whole turn
 abbrev rootTurnRows : List ℕ
-rootTurnRows = usesRow ∷ freeRow ∷ rootAxis ∷ rootSign ∷ []
+rootTurnRows = usesRow ∷ freeRow ∷ rootAxis ∷ rootSign ∷ axesRows
 
--- they are written, then the node's use is given up
-rows-released : {u j id turns free n r : ℕ} {xs xs′ t : List ℕ} → ReferenceRows referenceRows u j id turns xs xs′ → Released xs′ u free n r t
-    → ReferenceRows rootTurnRows u j id turns xs t
+-- the word is stored, they are written, then the node's use is given up
+rows-released : {u j id turns free n r : ℕ} {xs xs₁ xs′ t : List ℕ} → Only axesRows u xs xs₁
+    → ReferenceRows referenceRows u j id turns xs₁ xs′ → Released xs′ u free n r t → ReferenceRows rootTurnRows u j id turns xs t
 unfolding member anyOf allOf
-rows-released m r = record {
-  only = only-then (only-of _ refl (m .only)) (only-of _ refl (r .only));
-  axis = r .only .rows rootAxis (omega arith) refl ∙ m .axis;
-  sign = r .only .rows rootSign (omega arith) refl ∙ m .sign;
+rows-released {j = j} {id} {turns} o m r = record {
+  only = only-then (only-then (only-of _ refl o) (only-of _ refl (m .only))) (only-of _ refl (r .only));
+  axis =
+      r .only .rows rootAxis (omega arith) refl ∙ m .axis ∙ ap (λ (q : List ℕ). set q j id) (o .rows rootAxis (omega arith) refl);
+  sign =
+      r .only .rows rootSign (omega arith) refl ∙ m .sign ∙ ap (λ (q : List ℕ). set q j turns) (o .rows rootSign (omega arith) refl);
 }
 
 -- links stay: a reference that is no root is not this one
@@ -64,8 +68,12 @@ linked-after {p} {z} {j} {id} {turns} {xs} {t} w root k = record {
 -- ---- the turn
 
 module _ {p : Program} {z : Shape} {st : Slots} {n j phase : ℕ} {ws xs : List ℕ} (h : RootAt p z st n j phase ws xs)
-    {id turns : ℕ} {ws′ xs′ : List ℕ} (a : RootHasId p z st n j ws id ws′)
-    (m : ReferenceRows referenceRows (z .u) j id turns xs xs′) where
+    {id turns : ℕ} {ws′ xs₁ xs′ : List ℕ} (a : RootHasId p z st n j ws xs id ws′ xs₁)
+    (m : ReferenceRows referenceRows (z .u) j id turns xs₁ xs′) where
+  marked-only : Only (rootAxis ∷ rootSign ∷ axesRows) (z .u) xs xs′
+  unfolding member anyOf allOf
+  marked-only = only-then (only-of _ refl (a .numbers)) (only-of _ refl (m .only))
+
   same-words : (s : ℕ) → s < st .slots
       → part ws′ (slotPlace (z .limit) (z .l) s) (2 * z .l) ≡ part ws (slotPlace (z .limit) (z .l) s) (2 * z .l)
   same-words s b =
@@ -77,18 +85,18 @@ module _ {p : Program} {z : Shape} {st : Slots} {n j phase : ℕ} {ws xs : List 
       (withStore (rootStore p z st n j) (within p n j)) ws′ xs′
   unfolding member anyOf entries
   slots-marked =
-      let slots = m .only .rows nodeSlot (omega arith) refl in
-      let phases = m .only .rows nodePhase (omega arith) refl in
-      let stack = m .only .rows freeRow (omega arith) refl in
+      let slots = marked-only .rows nodeSlot (omega arith) refl in
+      let phases = marked-only .rows nodePhase (omega arith) refl in
+      let stack = marked-only .rows freeRow (omega arith) refl in
       record {
         all = h .holding .free;
         live = h .holding .live;
-        uses = ap (take (z .nodes)) (m .only .rows usesRow (omega arith) refl) ∙ h .holding .uses;
+        uses = ap (take (z .nodes)) (marked-only .rows usesRow (omega arith) refl) ∙ h .holding .uses;
         held = rw (slots, phases, stack) (slots-words same-words (h .holding .held));
       }
 
   long-marked : rowCount * z .u ≤ length xs′
-  long-marked = omega (arith, m .only .long, h .granted .numbers-long)
+  long-marked = omega (arith, marked-only .long, h .granted .numbers-long)
 
   pub release-pre : ReleasePre xs′ (z .u) (st .free) n
   release-pre = record {
@@ -100,11 +108,11 @@ module _ {p : Program} {z : Shape} {st : Slots} {n j phase : ℕ} {ws xs : List 
 
   module _ {free : ℕ} {t : List ℕ} (r : Released xs′ (z .u) (st .free) n free t) where
     rows : ReferenceRows rootTurnRows (z .u) j id turns xs t
-    rows = rows-released m r
+    rows = rows-released (a .numbers) m r
 
-    pub left-next : Left z ws xs ws′ t
+    pub rest-next : RestKept z ws xs ws′ t
     unfolding member anyOf allOf
-    left-next = record { words = kept-later (omega arith) (a .kept); numbers = only-of _ refl (rows .only) }
+    rest-next = record { words = kept-later (omega arith) (a .kept); numbers = only-of _ refl (rows .only) }
 
     abbrev axesNext : List (List ℕ)
     axesNext = rootStore p z st n j .axes
@@ -154,15 +162,15 @@ module _ {p : Program} {z : Shape} {st : Slots} {n j phase : ℕ} {ws xs : List 
           go (no ne) = signed-other i ne (h .holding .signed i b root (earlier ne d))
 
       pub holding-next : Holding p z (suc n) n (suc j) (useNode n (withStore (rootStore p z st n j) (within p n j)))
-          (record { axes = countWith (st .axes) id; slots = st .slots; free = free }) ws′ t
-      unfolding useNode
+          (record { axes = countWith (st .axes) id; slots = st .slots; free = free; taken = st .taken }) ws′ t
+      unfolding useNode member anyOf
       holding-next =
           let s = slots-release n (omega arith) (h .used) slots-marked long-marked (nodes-in (h .granted)) (h .node)
           (slots-in (h .granted) (h .holding)) r in
           record {
             going = h .holding .going;
             fits = a .fits;
-            axes = a .axes-are;
+            axes = held-rows (held-rows (a .held) (m .only) refl) (r .only) refl;
             room = omega (arith, a .room (omega (arith, h .holding .room)));
             slots = h .holding .slots;
             free = s .all;

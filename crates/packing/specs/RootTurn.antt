@@ -1,32 +1,36 @@
 -- How a root's turn ends, answer by answer, and the bounds under which its numbers fit. Assumes nothing.
-use mathlib.Core.Path.{_≡_, refl, sym, ap, _∙_, subst}
+use mathlib.Core.Path.{_≡_, refl}
 use mathlib.Core.List.{List}
 use Prim.Native.Nat.{ℕ, suc, _+_, _*_, _%_, _≤_, _<_}
 use native.Mathlib.Omega.{arith}
 use lib.ListN.{length}
 use Rattle.store.specs.Row.{Written}
+use Rattle.model.specs.Lists.{anyOf, member, allOf}
 use Rattle.model.specs.Program.{Program}
 use Rattle.model.specs.Packing.{useNode}
 use Rattle.theory.specs.Ids.{id-le}
-use Rattle.axes.specs.View.{axes-length}
+use Rattle.axes.specs.declared.Sizes.{Sizes}
+use Rattle.axes.specs.Held.{sizesOf, held-count}
 use Rattle.axes.specs.Intern.{Stores, countWith}
 use Rattle.axes.specs.declared.Interned.{Interned}
 use Rattle.axes.specs.declared.Interned.the-variants.{Id, ExpansionLimit as InternLimit}
 use Rattle.layout.specs.declared.Shape.{Shape}
-use Rattle.layout.specs.Rows.{rootAxis, rootSign}
+use Rattle.layout.specs.Rows.{rowCount, rootAxis, rootSign}
+use Rattle.layout.specs.Only.{only-of}
+use Rattle.layout.specs.Words.{kept-none}
 use Rattle.layout.specs.Shape.{longestRow}
 use Rattle.packing_states.specs.States.{valueOf, within}
 use Rattle.packing_states.specs.ReferenceRows.{ReferenceRows, referenceRows, reference-rows}
 use Rattle.packing.specs.declared.Slots.{Slots}
 use Rattle.packing.specs.declared.ValueHeld.{ValueHeld}
 use Rattle.packing.specs.declared.Step.the-variants.{Next, NonHermitianAxis, ExpansionLimit}
-use Rattle.packing.specs.Holding.{Turned, Left, RootAt}
+use Rattle.packing.specs.Holding.{Turned, RootAt}
+use Rattle.packing.specs.RestKept.{turnRows, RestKept}
 use Rattle.packing.specs.Bounds.{slots-fit}
 use Rattle.packing.specs.Values.{heldAt, ReleasePre, Released}
-use Rattle.packing.specs.LeftLaws.{left-none}
 use Rattle.packing.specs.RootLaws.{reference-in, phase-total, odd-root, even-root, refused-next, stored-next}
 use Rattle.packing.specs.RootLaws.{RootHasId, root-has-id, root-no-room}
-use Rattle.packing.specs.RootNext.{release-pre, left-next, holding-next}
+use Rattle.packing.specs.RootNext.{release-pre, rest-next, holding-next}
 
 module _ {p : Program} {z : Shape} {st : Slots} {n j phase : ℕ} {ws xs : List ℕ} (h : RootAt p z st n j phase ws xs) where
   -- ---- bounds
@@ -48,42 +52,48 @@ module _ {p : Program} {z : Shape} {st : Slots} {n j phase : ℕ} {ws xs : List 
     pub root-odd : ((v .phase + phase % 4) % 4) % 2 ≡ 1 → Turned p z (suc n) n (suc j) (within p n (suc j)) NonHermitianAxis ws xs
     root-odd o = rw (refused-next h (odd-root h e o)) (refl, h .holding .fits)
 
-    module _ {r : Interned} {ws′ : List ℕ}
-        (s : Stores (z .l) (st .slots * (2 * z .l)) (z .limit) (st .axes) ws (v .at) r ws′) where
+    module _ {sizes : Sizes} (f : sizes ≡ sizesOf z (st .axes)) {r : Interned} {ws′ xs′ : List ℕ}
+        (s : Stores sizes (st .slots * (2 * z .l)) ws xs (v .at) r ws′ xs′) where
       -- ---- 10
 
-      pub left-limit : r ≡ InternLimit → Left z ws xs ws′ xs
-      left-limit q = subst (λ (w : List ℕ). Left z ws xs w xs) (sym (root-no-room h e s q .kept)) (left-none z ws xs)
+      pub rest-limit : r ≡ InternLimit → RestKept z ws xs ws′ xs′
+      unfolding member anyOf allOf
+      rest-limit q =
+          let full = root-no-room h e f s q in
+          record { words = rw (full .kept) (kept-none _ ws); numbers = only-of turnRows refl (full .numbers) }
 
       pub root-limit : (((v .phase + phase % 4) % 4) % 2 ≡ 1 → ⊥) → r ≡ InternLimit
-          → Turned p z (suc n) n (suc j) (within p n (suc j)) ExpansionLimit ws′ xs
+          → Turned p z (suc n) n (suc j) (within p n (suc j)) ExpansionLimit ws′ xs′
       unfolding useNode
-      root-limit o q = rw (stored-next h (even-root h e o)) (root-no-room h e s q .exceeds)
+      root-limit o q = rw (stored-next h (even-root h e o)) (root-no-room h e f s q .exceeds)
 
       -- ---- the word has an id
 
       module _ {id : ℕ} (q : r ≡ Id id) where
-        stored : RootHasId p z st n j ws id ws′
-        stored = root-has-id h e s q
+        stored : RootHasId p z st n j ws xs id ws′ xs′
+        stored = root-has-id h e f s q
 
         pub id-small : id < longestRow
         id-small =
-            let long : length (within p n j .store .axes) ≡ st .axes =
-            ap length (sym (h .holding .axes)) ∙ axes-length (z .l) (st .axes) ws in
-            omega (arith, axes-small, long, stored .id-is, id-le (within p n j .store .axes) (valueOf p n .word))
+            omega (arith, axes-small, held-count (h .holding .axes), stored .id-is, id-le (within p n j .store .axes) (valueOf p n .word))
 
-        module _ {x y : List ℕ} (a : Written xs (z .u) rootAxis j id x)
+        -- the number store is as long
+        pub stored-long : rowCount * z .u ≤ length xs′
+        stored-long = omega (arith, h .granted .numbers-long, stored .numbers .long)
+
+        module _ {x y : List ℕ} (a : Written xs′ (z .u) rootAxis j id x)
             (b : Written x (z .u) rootSign j ((v .phase + phase % 4) % 4) y) where
-          written : ReferenceRows referenceRows (z .u) j id ((v .phase + phase % 4) % 4) xs y
-          written = reference-rows (h .granted .numbers-long) (reference-in h) a b
+          written : ReferenceRows referenceRows (z .u) j id ((v .phase + phase % 4) % 4) xs′ y
+          written = reference-rows stored-long (reference-in h) a b
 
           pub root-release : ReleasePre y (z .u) (st .free) n
           root-release = release-pre h stored written
 
           module _ {free : ℕ} {t : List ℕ} (c : Released y (z .u) (st .free) n free t) where
-            pub root-left : Left z ws xs ws′ t
-            root-left = left-next h stored written c
+            pub root-rest : RestKept z ws xs ws′ t
+            root-rest = rest-next h stored written c
 
             pub root-next : (((v .phase + phase % 4) % 4) % 2 ≡ 1 → ⊥) → {count : ℕ} → count ≡ countWith (st .axes) id
-                → Turned p z (suc n) n (suc j) (within p n (suc j)) (Next (record { axes = count; slots = st .slots; free = free })) ws′ t
-            root-next o f = rw (f, stored-next h (even-root h e o)) (holding-next h stored written c (phase-total h e))
+                → Turned p z (suc n) n (suc j) (within p n (suc j))
+                (Next (record { axes = count; slots = st .slots; free = free; taken = st .taken })) ws′ t
+            root-next o g = rw (g, stored-next h (even-root h e o)) (holding-next h stored written c (phase-total h e))

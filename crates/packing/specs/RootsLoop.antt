@@ -22,8 +22,8 @@ use Rattle.packing.specs.declared.Step.{Step}
 use Rattle.packing.specs.declared.Step.the-variants.{Next, NonHermitianAxis, ExpansionLimit}
 use Rattle.packing.specs.Phases.{PhasePre, phaseIn}
 use Rattle.packing_states.specs.SomeProgram.{SomeProgram}
-use Rattle.packing.specs.Holding.{Done, Holding, holding-done, Turned, Left, RootAt, RootsAt}
-use Rattle.packing.specs.LeftLaws.{left-none, left-then, granted-left}
+use Rattle.packing.specs.Holding.{Done, Holding, holding-done, Turned, RootAt, RootsAt}
+use Rattle.packing.specs.RestKept.{RestKept, rest-none, rest-then, rest-granted}
 
 -- ---- between two links
 
@@ -52,7 +52,8 @@ pub record AtLink (p : Program) (z : Shape) (n link : ℕ) (st : Slots) (ws xs :
   pub some : (r : ℕ) → link ≡ suc r → BeforeRoot p z n r st ws xs
 
 module _ {p : Program} {z : Shape} {n : ℕ} {st : Slots} {ws xs : List ℕ} where
-  at-link : (j link : ℕ) → j ≤ total p → link ≡ linkFrom p n j → Holding p z (suc n) n j (within p n j) st ws xs → AtLink p z n link st ws xs
+  at-link : (j link : ℕ) → j ≤ total p → link ≡ linkFrom p n j → Holding p z (suc n) n j (within p n j) st ws xs
+      → AtLink p z n link st ws xs
   at-link j link b e h = record {
     end = λ f.
         let g : linkFrom p n j ≡ 0 = sym e ∙ f in
@@ -67,7 +68,7 @@ module _ {p : Program} {z : Shape} {n : ℕ} {st : Slots} {ws xs : List ℕ} whe
 
 -- what is left of both stores, and where the loop is for each program that they hold
 pub record Along (z : Shape) (placed : Slots) (n : ℕ) (os rs ws₀ xs₀ ws xs : List ℕ) (st : Slots) (link : ℕ) : Type 0 where
-  pub left : Left z ws₀ xs₀ ws xs
+  pub rest : RestKept z ws₀ xs₀ ws xs
   pub at : (p : Program) → RootsAt p z placed n os rs ws₀ xs₀ → AtLink p z n link st ws xs
 
 -- how many references stand from the linked one on
@@ -85,19 +86,20 @@ module _ {z : Shape} {placed : Slots} {n : ℕ} {os rs ws₀ xs₀ : List ℕ} w
   pub along-first : (link : ℕ) → link ≡ getD (row xs₀ (z .u) firstRoot) n 0 → Along z placed n os rs ws₀ xs₀ ws₀ xs₀ placed link
   unfolding within
   along-first link e = record {
-    left = left-none z ws₀ xs₀;
+    rest = rest-none z ws₀ xs₀;
     at = λ p a. at-link 0 link (omega arith) (e ∙ a .holding .linked .first n (a .node)) (a .holding);
   }
 
   -- the node has its first link
-  pub first-there : SomeProgram (λ p. RootsAt p z placed n os rs ws₀ xs₀) → (rowCount * z .u ≤ length xs₀) × (firstRoot < rowCount) × (n < z .u)
+  pub first-there : SomeProgram (λ p. RootsAt p z placed n os rs ws₀ xs₀)
+      → (rowCount * z .u ≤ length xs₀) × (firstRoot < rowCount) × (n < z .u)
   first-there s = let g = s .it .granted in (g .numbers-long, omega arith, omega (arith, s .it .node, g .sized .row))
 
   module _ {ws xs : List ℕ} {st : Slots} {link r : ℕ} (a : Along z placed n os rs ws₀ xs₀ ws xs st link) (l : link ≡ suc r) where
     -- the linked root has its phase
     pub phase-there : SomeProgram (λ p. RootsAt p z placed n os rs ws₀ xs₀) → PhasePre (z .operations) os rs r
     phase-there s =
-        let w = s .it .whole .references in
+        let w = s .it .program .references in
         let b = a .at (s .p) (s .it) .some r l .reference in
         record {
           operation = λ h. omega (arith, s .it .operations-long);
@@ -109,13 +111,13 @@ module _ {z : Shape} {placed : Slots} {n : ℕ} {os rs ws₀ xs₀ : List ℕ} w
     root-at p phase h e =
         let b = a .at p h .some r l in
         record {
-          granted = granted-left (h .granted) (a .left);
-          whole = h .whole;
+          granted = rest-granted (h .granted) (a .rest);
+          program = h .program;
           node = h .node;
           reference = b .reference;
           root = b .root;
           phase-is = e ∙ h .phases r (b .reference);
-          used = root-used p (h .whole .fine) n (omega (arith, h .whole .nodes, h .node)) (h .going) (h .used) r
+          used = root-used p (h .program .fine) n (omega (arith, h .program .nodes, h .node)) (h .going) (h .used) r
               (b .reference) (b .root) (b .holding .going);
           holding = b .holding;
         }
@@ -126,14 +128,14 @@ module _ {z : Shape} {placed : Slots} {n : ℕ} {os rs ws₀ xs₀ : List ℕ} w
     root-there phase s e = record { p = s .p; it = root-at (s .p) phase (s .it) e }
 
     -- it has its next link, whatever packing it left
-    pub next-there : {ws′ xs′ : List ℕ} → SomeProgram (λ p. RootsAt p z placed n os rs ws₀ xs₀) → Left z ws xs ws′ xs′
+    pub next-there : {ws′ xs′ : List ℕ} → SomeProgram (λ p. RootsAt p z placed n os rs ws₀ xs₀) → RestKept z ws xs ws′ xs′
         → (rowCount * z .u ≤ length xs′) × (nextRoot < rowCount) × (r < z .u)
     next-there s k =
-        let g = granted-left (s .it .granted) (left-then (a .left) k) in
-        (g .numbers-long, omega arith, omega (arith, a .at (s .p) (s .it) .some r l .reference, s .it .whole .references, g .sized .row))
+        let g = rest-granted (s .it .granted) (rest-then (a .rest) k) in
+        (g .numbers-long, omega arith, omega (arith, a .at (s .p) (s .it) .some r l .reference, s .it .program .references, g .sized .row))
 
     -- and has been
-    module _ {step : Step} {phase : ℕ} {ws′ xs′ : List ℕ} (e : phase ≡ phaseIn (z .operations) os rs r) (k : Left z ws xs ws′ xs′)
+    module _ {step : Step} {phase : ℕ} {ws′ xs′ : List ℕ} (e : phase ≡ phaseIn (z .operations) os rs r) (k : RestKept z ws xs ws′ xs′)
         (t : (p : Program) → RootAt p z st n r phase ws xs → Turned p z (suc n) n (suc r) (within p n (suc r)) step ws′ xs′) where
       next-holding : (p : Program) → RootsAt p z placed n os rs ws₀ xs₀ → (st′ : Slots) → step ≡ Next st′
           → Holding p z (suc n) n (suc r) (within p n (suc r)) st′ ws′ xs′
@@ -150,7 +152,7 @@ module _ {z : Shape} {placed : Slots} {n : ℕ} {os rs ws₀ xs₀ : List ℕ} w
       pub along-next : (st′ : Slots) (link′ : ℕ) → step ≡ Next st′ → link′ ≡ getD (row xs′ (z .u) nextRoot) r 0
           → Along z placed n os rs ws₀ xs₀ ws′ xs′ st′ link′
       along-next st′ link′ f g = record {
-        left = left-then (a .left) k;
+        rest = rest-then (a .rest) k;
         at = λ p h. at-link (suc r) link′ (a .at p h .some r l .reference) (g ∙ next-is p h st′ f) (next-holding p h st′ f);
       }
 
@@ -161,15 +163,16 @@ module _ {z : Shape} {placed : Slots} {n : ℕ} {os rs ws₀ xs₀ : List ℕ} w
       next-later s st′ link′ f g =
           let p = s .p in
           let b = a .at p (s .it) .some r l .reference in
-          let w = s .it .whole .references in
+          let w = s .it .program .references in
           rw l (fall (z .operations + 2 * z .qubits) r link′ (omega arith)
           (λ m i. link-some p n (suc r) m (sym (next-is p (s .it) st′ f) ∙ sym g ∙ i) .0))
 
       -- "refused" ends the node's turn
-      pub along-odd : step ≡ NonHermitianAxis → Left z ws₀ xs₀ ws′ xs′
-          × ((p : Program) → RootsAt p z placed n os rs ws₀ xs₀ → Turned p z (suc n) n (total p) (within p n (total p)) NonHermitianAxis ws′ xs′)
+      pub along-odd : step ≡ NonHermitianAxis → RestKept z ws₀ xs₀ ws′ xs′
+          × ((p : Program) → RootsAt p z placed n os rs ws₀ xs₀
+          → Turned p z (suc n) n (total p) (within p n (total p)) NonHermitianAxis ws′ xs′)
       along-odd f = (
-        left-then (a .left) k,
+        rest-then (a .rest) k,
         λ p h.
             let o = rw f at (t p (root-at p phase h e)) in
             let same = refused-within p n (suc r) (total p) (o .0) (a .at p h .some r l .reference) in
@@ -177,10 +180,11 @@ module _ {z : Shape} {placed : Slots} {n : ℕ} {os rs ws₀ xs₀ : List ℕ} w
       )
 
       -- and so does a sum above the limit
-      pub along-limit : step ≡ ExpansionLimit → Left z ws₀ xs₀ ws′ xs′
-          × ((p : Program) → RootsAt p z placed n os rs ws₀ xs₀ → Turned p z (suc n) n (total p) (within p n (total p)) ExpansionLimit ws′ xs′)
+      pub along-limit : step ≡ ExpansionLimit → RestKept z ws₀ xs₀ ws′ xs′
+          × ((p : Program) → RootsAt p z placed n os rs ws₀ xs₀
+          → Turned p z (suc n) n (total p) (within p n (total p)) ExpansionLimit ws′ xs′)
       along-limit f = (
-        left-then (a .left) k,
+        rest-then (a .rest) k,
         λ p h.
             let o = rw f at (t p (root-at p phase h e)) in
             omega (arith, o, peak-within p n (suc r) (total p) (a .at p h .some r l .reference)),
@@ -188,6 +192,6 @@ module _ {z : Shape} {placed : Slots} {n : ℕ} {os rs ws₀ xs₀ : List ℕ} w
 
   -- the last link
   pub along-end : {ws xs : List ℕ} {st : Slots} {link : ℕ} → Along z placed n os rs ws₀ xs₀ ws xs st link → link ≡ 0
-      → Left z ws₀ xs₀ ws xs
+      → RestKept z ws₀ xs₀ ws xs
       × ((p : Program) → RootsAt p z placed n os rs ws₀ xs₀ → Turned p z (suc n) n (total p) (within p n (total p)) (Next st) ws xs)
-  along-end a e = (a .left, λ p h. a .at p h .end e)
+  along-end a e = (a .rest, λ p h. a .at p h .end e)

@@ -16,13 +16,13 @@ use Rattle.packing_states.specs.References.{noReference, referenceAt, total, is
 use Rattle.packing_states.specs.ReferenceLaws.{total-sum, operation-kept, row-at, row-kept}
 use Rattle.packing_states.specs.States.{valueOf}
 use Rattle.packing_states.specs.Linked.{Linked}
-use Rattle.packing_states.specs.InMemory.{Whole}
+use Rattle.packing_states.specs.InMemory.{OfShape}
 use Rattle.packing.specs.Holding.{SignedAt}
 use Rattle.packing.specs.Packed.{signAt, signsIn, rowSign, signsOf}
 
 -- ---- reference by reference
 
-module _ {p : Program} {z : Shape} {xs : List ℕ} (w : Whole p z) (linked : Linked p z xs)
+module _ {p : Program} {z : Shape} {xs : List ℕ} (w : OfShape p z) (linked : Linked p z xs)
     (signed : (j : ℕ) → j < total p → isRootAt p j ≡ true → SignedAt p (z .u) (packed p .store .axes) xs j) where
   abbrev signOf : PauliRef → SignedAxis
   signOf = signedAxis (packed p .store .axes) (valuesOf p)

@@ -1,12 +1,12 @@
 -- What an answer of `take_slot` means for the model, whose free slots are those in memory. Assumes nothing.
-use mathlib.Core.Path.{_≡_, refl, ap}
+use mathlib.Core.Path.{_≡_, refl, ap, subst}
 use mathlib.Core.Logic.{_⊎_, inl, inr, ⊎-elim}
 use mathlib.Core.List.{List}
 use Prim.Native.Nat.{ℕ, suc, _+_, _-_, _*_, _≤_, _<_}
 use native.Mathlib.Nat.{add-mul}
 use native.Mathlib.Numerals.{add-one}
 use native.Mathlib.Omega.{arith}
-use lib.ListN.{length, getD}
+use lib.ListN.{length}
 use borrow.Author.Tests.{ltb-true, ltb-false, lt-ltb, le-ltb}
 use Rattle.store.specs.Row.{row}
 use Rattle.model.specs.Words.{Value, tested}
@@ -15,37 +15,39 @@ use Rattle.theory.specs.Cases.{on-if, if-true, if-false}
 use Rattle.layout.specs.declared.Shape.{Shape}
 use Rattle.layout.specs.Rows.{nodeSlot, freeRow}
 use Rattle.packing.specs.declared.Slots.{Slots}
-use Rattle.packing.specs.declared.Taken.{Taken}
-use Rattle.packing.specs.declared.Taken.the-variants.{Slot, ExpansionLimit}
+use Rattle.packing.specs.declared.Step.{Step}
+use Rattle.packing.specs.declared.Step.the-variants.{Next, NonHermitianAxis, ExpansionLimit}
 use Rattle.packing.specs.Holding.{SlotsHold}
-use Rattle.packing.specs.Values.{slotSum, taken}
+use Rattle.packing.specs.Values.{slotSum, freeTaken, newTaken, taken}
 use Rattle.packing.specs.Keeping.{Takes, takes-free, takes-new}
 
 -- ---- answers
 
 -- the slot freed last
-abbrev Freed : Shape → List ℕ → Slots → ℕ → Slots → Type 0
-Freed z xs st s st′ =
-    (0 < st .free) × ((getD (row xs (z .u) freeRow) (st .free - 1) 0 ≡ s)
-    × (record { axes = st .axes; slots = st .slots; free = st .free - 1 } ≡ st′))
+abbrev Freed : Shape → List ℕ → Slots → Slots → Type 0
+Freed z xs st st′ = (0 < st .free) × (freeTaken z xs st ≡ st′)
 
 -- a new one within the limit
-abbrev New : Shape → Slots → ℕ → Slots → Type 0
-New z st s st′ =
-    (st .free ≡ 0) × ((slotSum z st ≤ z .limit) × ((st .slots ≡ s) × (record { axes = st .axes; slots = st .slots + 1; free = 0 } ≡ st′)))
+abbrev New : Shape → Slots → Slots → Type 0
+New z st st′ = (st .free ≡ 0) × ((slotSum z st ≤ z .limit) × (newTaken st ≡ st′))
 
 -- what the answer means; without a slot none is free, and a new one exceeds the limit
-abbrev TakenAs : Shape → List ℕ → Slots → Taken → Type 0
-TakenAs z xs st (Slot s st′) = Freed z xs st s st′ ⊎ New z st s st′
+abbrev TakenAs : Shape → List ℕ → Slots → Step → Type 0
+TakenAs z xs st (Next st′) = Freed z xs st st′ ⊎ New z st st′
+TakenAs z xs st NonHermitianAxis = ⊥
 TakenAs z xs st ExpansionLimit = (st .free ≡ 0) × (z .limit < slotSum z st)
 
 taken-is : (z : Shape) (xs : List ℕ) (st : Slots) → TakenAs z xs st (taken z xs st)
 unfolding taken
 taken-is z xs st =
-    on-if (TakenAs z xs st) _ _ _ (λ e. inl (ltb-true 0 (st .free) e, (refl, refl)))
+    on-if (TakenAs z xs st) _ _ _ (λ e. inl (ltb-true 0 (st .free) e, refl))
     (λ e. let none = ltb-false 0 (st .free) e in
     on-if (TakenAs z xs st) _ _ _ (λ f. (omega arith, ltb-true (z .limit) (slotSum z st) f))
-    (λ f. inr (omega arith, (ltb-false (z .limit) (slotSum z st) f, (refl, refl)))))
+    (λ f. inr (omega arith, (ltb-false (z .limit) (slotSum z st) f, refl))))
+
+-- 9 is no answer of it
+pub taken-even : (z : Shape) (xs : List ℕ) (st : Slots) → taken z xs st ≡ NonHermitianAxis → ⊥
+taken-even z xs st e = rw e at (taken-is z xs st)
 
 -- ---- the model
 
@@ -62,9 +64,9 @@ model-new l k h = if-false _ _ (le-ltb (k .live) (k .slots) h)
 
 -- ---- both
 
--- k is before, q after: slot s is taken, and st is left
-pub record Took (z : Shape) (n axes slots free : ℕ) (slotRow stack : List ℕ) (k q : Pack) (s : ℕ) (st : Slots) : Type 0 where
-  pub takes : Takes n slots free (k .uses) slotRow stack s (st .slots) (st .free)
+-- k is before, q after, st in memory then
+pub record Took (z : Shape) (n axes slots free : ℕ) (slotRow stack : List ℕ) (k q : Pack) (st : Slots) : Type 0 where
+  pub takes : Takes n slots free (k .uses) slotRow stack (st .taken) (st .slots) (st .free)
   pub room : st .slots * (2 * z .l) + st .axes * (2 * z .l) ≤ z .limit
   pub same-axes : st .axes ≡ axes
   pub slots-are : q .slots ≡ st .slots
@@ -90,13 +92,13 @@ module _ (z : Shape) (n : ℕ) (value : ℕ → Value) (xs ws phaseRow : List �
       omega (arith, f .1, same-sum)
 
   module _
-      (held : SlotsHold (z .l) (z .limit) n (st .slots) (st .free) value (k .uses) (row xs (z .u) nodeSlot) phaseRow (row xs (z .u) freeRow) ws)
+      (held : SlotsHold (z .l) (z .limit) n (st .slots) (st .free) value (k .uses) (row xs (z .u) nodeSlot) phaseRow
+      (row xs (z .u) freeRow) ws)
       (room : st .slots * (2 * z .l) + st .axes * (2 * z .l) ≤ z .limit) (fits : k .store .peak ≤ z .limit) where
-    abbrev Result : ℕ → Slots → Type 0
-    Result s st′ = Took z n (st .axes) (st .slots) (st .free) (row xs (z .u) nodeSlot) (row xs (z .u) freeRow) k (takeSlot (z .l) k) s st′
+    abbrev Result : Slots → Type 0
+    Result st′ = Took z n (st .axes) (st .slots) (st .free) (row xs (z .u) nodeSlot) (row xs (z .u) freeRow) k (takeSlot (z .l) k) st′
 
-    took-free : 0 < st .free
-        → Result (getD (row xs (z .u) freeRow) (st .free - 1) 0) (record { axes = st .axes; slots = st .slots; free = st .free - 1 })
+    took-free : 0 < st .free → Result (freeTaken z xs st)
     took-free h = rw (model-free (z .l) k (omega arith)) (record {
       takes = takes-free held (st .free - 1) (omega arith);
       room = room;
@@ -110,7 +112,7 @@ module _ (z : Shape) (n : ℕ) (value : ℕ → Value) (xs ws phaseRow : List �
       uses = refl;
     })
 
-    took-new : st .free ≡ 0 → slotSum z st ≤ z .limit → Result (st .slots) (record { axes = st .axes; slots = st .slots + 1; free = 0 })
+    took-new : st .free ≡ 0 → slotSum z st ≤ z .limit → Result (newTaken st)
     unfolding tested
     took-new h f =
         rw (model-new (z .l) k (omega arith)) (record {
@@ -127,7 +129,7 @@ module _ (z : Shape) (n : ℕ) (value : ℕ → Value) (xs ws phaseRow : List �
         })
 
     -- a slot is taken
-    pub took-slot : {s : ℕ} {st′ : Slots} → taken z xs st ≡ Slot s st′ → Result s st′
+    pub took-slot : {st′ : Slots} → taken z xs st ≡ Next st′ → Result st′
     took-slot e =
-        ⊎-elim (λ a. rw (← a .1 .0, ← a .1 .1) (took-free (a .0))) (λ a. rw (← a .1 .1 .0, ← a .1 .1 .1) (took-new (a .0) (a .1 .0)))
+        ⊎-elim (λ a. subst Result (a .1) (took-free (a .0))) (λ a. subst Result (a .1 .1) (took-new (a .0) (a .1 .0)))
         (rw e at (taken-is z xs st))

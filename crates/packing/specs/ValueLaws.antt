@@ -30,9 +30,9 @@ use Rattle.records.specs.declared.NodeRecord.{NodeRecord}
 use Rattle.records.specs.Records.{said-identity, said-letter, said-product}
 use Rattle.packing.specs.declared.Slots.{Slots}
 use Rattle.packing.specs.declared.ValueHeld.{ValueHeld}
-use Rattle.packing.specs.declared.Taken.the-variants.{Slot, ExpansionLimit}
+use Rattle.packing.specs.declared.Step.the-variants.{Next, ExpansionLimit}
 use Rattle.packing.specs.Values.{slotOf, phaseOf, HeldPre, heldAt, heldValue, EvaluatePre, valueOfRecord, Evaluated, usesOf}
-use Rattle.packing.specs.Values.{ReleasePre, Released, ChildrenPre, ChildrenReleased, taken, KeepPre, Kept}
+use Rattle.packing.specs.Values.{ReleasePre, Released, ChildrenPre, ChildrenReleased, newTaken, taken, KeepPre, Kept}
 
 -- ---- what is held of a node
 
@@ -64,12 +64,13 @@ module _ (z : Shape) (x : NodeRecord) (ws xs : List ℕ) where
   unfolding valueOfRecord nodeValue
   value-identity e = ap (nodeValue (z .l) (heldValue z ws xs)) (said-identity x e)
 
-  value-letter : x .kind ≡ 1 → valueOfRecord z ws xs x ≡ asValue (single (z .l) (x .a) (x .p))
+  value-letter : x .kind ≡ 1 → valueOfRecord z ws xs x ≡ asValue (single (z .l) (x .left) (x .«left_phase»))
   unfolding valueOfRecord nodeValue
   value-letter e = ap (nodeValue (z .l) (heldValue z ws xs)) (said-letter x e)
 
   value-product : (x .kind ≡ 0 → ⊥) → (x .kind ≡ 1 → ⊥)
-      → valueOfRecord z ws xs x ≡ multiply (z .l) (scaled (x .p) (heldValue z ws xs (x .a))) (scaled (x .q) (heldValue z ws xs (x .b)))
+      → valueOfRecord z ws xs x
+      ≡ multiply (z .l) (scaled (x .«left_phase») (heldValue z ws xs (x .left))) (scaled (x .«right_phase») (heldValue z ws xs (x .right)))
   unfolding valueOfRecord nodeValue
   value-product f g = ap (nodeValue (z .l) (heldValue z ws xs)) (said-product x f g)
 
@@ -89,10 +90,12 @@ module _ (z : Shape) (x : NodeRecord) (ws xs : List ℕ) where
       evaluated (asValue (identityWord (z .l))) (value-identity k)
       (zeros-lent ws o (2 * z .l) w (omega arith) e ∙ ap (λ (i : ℕ). put ws i (identityWord (z .l))) s) refl
 
-  pub evaluated-letter : (ws′ : List ℕ) (o : ℕ) → o ≡ scratchPlace (z .limit) → x .kind ≡ 1 → ws′ ≡ put ws o (single (z .l) (x .a) (x .p))
+  pub evaluated-letter : (ws′ : List ℕ) (o : ℕ) → o ≡ scratchPlace (z .limit) → x .kind ≡ 1
+      → ws′ ≡ put ws o (single (z .l) (x .left) (x .«left_phase»))
       → Evaluated z x ws xs ws′ 0
   evaluated-letter ws′ o s k e =
-      evaluated (asValue (single (z .l) (x .a) (x .p))) (value-letter k) (e ∙ ap (λ (i : ℕ). put ws i (single (z .l) (x .a) (x .p))) s) refl
+      evaluated (asValue (single (z .l) (x .left) (x .«left_phase»))) (value-letter k)
+      (e ∙ ap (λ (i : ℕ). put ws i (single (z .l) (x .left) (x .«left_phase»))) s) refl
 
 -- the phases of a product, remainder by remainder
 turns-sum : (e a p b q : ℕ) → (e + a + p % 4 + b + q % 4) % 4 ≡ ((a + p) % 4 + (b + q) % 4 + e) % 4
@@ -101,38 +104,42 @@ turns-sum e a p b q =
 
 module _ {z : Shape} {x : NodeRecord} {ws xs : List ℕ} (a b : ValueHeld) (o : ℕ) where
   -- the words of both children, and the scratch word, for `product_in`
-  pub stored-pre : EvaluatePre z x ws xs → 2 ≤ x .kind → a ≡ heldAt z xs (x .a) → b ≡ heldAt z xs (x .b) → o ≡ scratchPlace (z .limit)
+  pub stored-pre : EvaluatePre z x ws xs → 2 ≤ x .kind → a ≡ heldAt z xs (x .left) → b ≡ heldAt z xs (x .right)
+      → o ≡ scratchPlace (z .limit)
       → StoredPre (z .l) ws (a .at) (b .at) o
   stored-pre pre k e f g =
-      let p : a .at + 2 * z .l ≤ z .limit = held-ends z xs (x .a) (pre .first k) e in
-      let q : b .at + 2 * z .l ≤ z .limit = held-ends z xs (x .b) (pre .second k) f in
+      let p : a .at + 2 * z .l ≤ z .limit = held-ends z xs (x .left) (pre .first k) e in
+      let q : b .at + 2 * z .l ≤ z .limit = held-ends z xs (x .right) (pre .second k) f in
       let s : z .limit + 2 * z .l ≤ length ws = pre .scratch in
       rw g (record { p-in = omega arith; q-in = omega arith; o-in = s; p-clear = inr (inr p); q-clear = inr (inr q) })
 
   -- all that is summed is small
-  pub phases-small : {ws′ : List ℕ} {e : ℕ} → EvaluatePre z x ws xs → 2 ≤ x .kind → a ≡ heldAt z xs (x .a) → b ≡ heldAt z xs (x .b)
+  pub phases-small : {ws′ : List ℕ} {e : ℕ} → EvaluatePre z x ws xs → 2 ≤ x .kind → a ≡ heldAt z xs (x .left) → b ≡ heldAt z xs (x .right)
       → StoredProduct (z .l) ws (a .at) (b .at) o ws′ e → (e < 4) × (a .phase < 4) × (b .phase < 4)
   phases-small pre k g h s = (
     omega (arith, s .turns, phase-lt (z .l) (part ws (a .at) (2 * z .l)) (part ws (b .at) (2 * z .l))),
-    omega (arith, held-phase z xs (x .a) g, pre .first-phase k),
-    omega (arith, held-phase z xs (x .b) h, pre .second-phase k),
+    omega (arith, held-phase z xs (x .left) g, pre .first-phase k),
+    omega (arith, held-phase z xs (x .right) h, pre .second-phase k),
   )
 
-  pub evaluated-product : {ws′ : List ℕ} {e : ℕ} → (x .kind ≡ 0 → ⊥) → (x .kind ≡ 1 → ⊥) → a ≡ heldAt z xs (x .a)
-      → b ≡ heldAt z xs (x .b) → o ≡ scratchPlace (z .limit) → StoredProduct (z .l) ws (a .at) (b .at) o ws′ e
-      → Evaluated z x ws xs ws′ ((e + a .phase + x .p % 4 + b .phase + x .q % 4) % 4)
+  pub evaluated-product : {ws′ : List ℕ} {e : ℕ} → (x .kind ≡ 0 → ⊥) → (x .kind ≡ 1 → ⊥) → a ≡ heldAt z xs (x .left)
+      → b ≡ heldAt z xs (x .right) → o ≡ scratchPlace (z .limit) → StoredProduct (z .l) ws (a .at) (b .at) o ws′ e
+      → Evaluated z x ws xs ws′ ((e + a .phase + x .«left_phase» % 4 + b .phase + x .«right_phase» % 4) % 4)
   unfolding multiply scaled heldValue
   evaluated-product f g p q c s =
-      let u = held-place z xs (x .a) p in
-      let v = held-place z xs (x .b) q in
-      evaluated z x ws xs (multiply (z .l) (scaled (x .p) (heldValue z ws xs (x .a))) (scaled (x .q) (heldValue z ws xs (x .b))))
+      let u = held-place z xs (x .left) p in
+      let v = held-place z xs (x .right) q in
+      evaluated z x ws xs (multiply (z .l) (scaled (x .«left_phase») (heldValue z ws xs (x .left)))
+      (scaled (x .«right_phase») (heldValue z ws xs (x .right))))
       (value-product z x ws xs f g)
       (s .store ∙ rw (c, u, v) refl)
-      (rw (s .turns, held-phase z xs (x .a) p, held-phase z xs (x .b) q, u, v) (turns-sum _ _ (x .p) _ (x .q)))
+      (rw (s .turns, held-phase z xs (x .left) p, held-phase z xs (x .right) q, u, v)
+      (turns-sum _ _ (x .«left_phase») _ (x .«right_phase»)))
 
 -- ---- giving up a use
 
-module _ {s t : List ℕ} {u free n : ℕ} (k : ℕ) (pre : ReleasePre s u free n) (is : k ≡ usesOf s u n) (w : Written s u usesRow n (k - 1) t) where
+module _ {s t : List ℕ} {u free n : ℕ} (k : ℕ) (pre : ReleasePre s u free n) (is : k ≡ usesOf s u n)
+    (w : Written s u usesRow n (k - 1) t) where
   only-uses : Only (usesRow ∷ []) u s t
   only-uses = only-written (pre .long) (omega arith) (pre .node) w
 
@@ -183,7 +190,7 @@ module _ {s : List ℕ} {u free : ℕ} {x : NodeRecord} where
     second = λ k. absurd (omega arith);
   }
 
-  pub first-pre : ChildrenPre s u free x → 2 ≤ x .kind → ReleasePre s u free (x .a)
+  pub first-pre : ChildrenPre s u free x → 2 ≤ x .kind → ReleasePre s u free (x .left)
   first-pre pre k = record {
     long = pre .long;
     node = pre .first k;
@@ -191,9 +198,10 @@ module _ {s : List ℕ} {u free : ℕ} {x : NodeRecord} where
     used = pre .first-used k;
   }
 
-  pub second-pre : (r : ℕ) {t : List ℕ} → ChildrenPre s u free x → 2 ≤ x .kind → Released s u free (x .a) r t → ReleasePre t u r (x .b)
+  pub second-pre : (r : ℕ) {t : List ℕ} → ChildrenPre s u free x → 2 ≤ x .kind → Released s u free (x .left) r t
+      → ReleasePre t u r (x .right)
   second-pre r {t} pre k one =
-      let most : (if eqb (usesOf s u (x .a)) 1 then 1 else 0) ≤ 1 = by-if (λ (i : ℕ). i ≤ 1) _ _ _ (omega arith) (omega arith) in
+      let most : (if eqb (usesOf s u (x .left)) 1 then 1 else 0) ≤ 1 = by-if (λ (i : ℕ). i ≤ 1) _ _ _ (omega arith) (omega arith) in
       record {
         long = omega (arith, pre .long, one .only .long);
         node = pre .second k;
@@ -201,7 +209,7 @@ module _ {s : List ℕ} {u free : ℕ} {x : NodeRecord} where
         used = rw (one .uses) (pre .second-used k);
       }
 
-  pub children-both : (m r : ℕ) {v t : List ℕ} → 2 ≤ x .kind → Released s u free (x .a) m v → Released v u m (x .b) r t
+  pub children-both : (m r : ℕ) {v t : List ℕ} → 2 ≤ x .kind → Released s u free (x .left) m v → Released v u m (x .right) r t
       → ChildrenReleased s u free x r t
   children-both m r {v} h a b = record {
     only = only-then (a .only) (b .only);
@@ -220,10 +228,11 @@ sum-is l s a = omega (arith, add-mul (s + 1) a (2 * l), add-mul s 1 (2 * l), one
 
 module _ (z : Shape) (xs : List ℕ) (st : Slots) where
   pub taken-free : (s : ℕ) → 0 < st .free → s ≡ getD (row xs (z .u) freeRow) (st .free - 1) 0
-      → Slot s (record { axes = st .axes; slots = st .slots; free = st .free - 1 }) ≡ taken z xs st
+      → Next (record { axes = st .axes; slots = st .slots; free = st .free - 1; taken = s }) ≡ taken z xs st
   unfolding taken
   taken-free s h e =
-      ap (λ (i : ℕ). Slot i (record { axes = st .axes; slots = st .slots; free = st .free - 1 })) e ∙ sym (if-true _ _ (lt-ltb 0 (st .free) h))
+      ap (λ (i : ℕ). Next (record { axes = st .axes; slots = st .slots; free = st .free - 1; taken = i })) e
+      ∙ sym (if-true _ _ (lt-ltb 0 (st .free) h))
 
   pub taken-limit : st .free ≤ 0 → z .limit < st .slots * (2 * z .l) + 2 * z .l + st .axes * (2 * z .l) → ExpansionLimit ≡ taken z xs st
   unfolding taken
@@ -231,7 +240,7 @@ module _ (z : Shape) (xs : List ℕ) (st : Slots) where
       sym (if-false _ _ (le-ltb 0 (st .free) h) ∙ if-true _ _ (lt-ltb (z .limit) _ (rw (sum-is (z .l) (st .slots) (st .axes)) k)))
 
   pub taken-new : st .free ≤ 0 → st .slots * (2 * z .l) + 2 * z .l + st .axes * (2 * z .l) ≤ z .limit
-      → Slot (st .slots) (record { axes = st .axes; slots = st .slots + 1; free = 0 }) ≡ taken z xs st
+      → Next (newTaken st) ≡ taken z xs st
   unfolding taken
   taken-new h k =
       sym (if-false _ _ (le-ltb 0 (st .free) h) ∙ if-false _ _ (le-ltb (z .limit) _ (rw (sum-is (z .l) (st .slots) (st .axes)) k)))

@@ -18,8 +18,8 @@ use Rattle.records.specs.declared.NodeRecord.{NodeRecord}
 use Rattle.records.specs.Records.{nodeSaid}
 use Rattle.packing.specs.declared.Slots.{Slots}
 use Rattle.packing.specs.declared.ValueHeld.{ValueHeld}
-use Rattle.packing.specs.declared.Taken.{Taken}
-use Rattle.packing.specs.declared.Taken.the-variants.{Slot, ExpansionLimit}
+use Rattle.packing.specs.declared.Step.{Step}
+use Rattle.packing.specs.declared.Step.the-variants.{Next, ExpansionLimit}
 
 -- ---- what is held of a node
 
@@ -53,11 +53,11 @@ heldValue z ws xs n = record {
 -- a product's two children are held, with phases 0 to 3; a letter's qubit has its bit
 pub record EvaluatePre (z : Shape) (x : NodeRecord) (ws xs : List ℕ) : Type 0 where
   pub scratch : z .limit + 2 * z .l ≤ length ws
-  pub qubit : x .kind ≡ 1 → x .a < 64 * z .l
-  pub first : 2 ≤ x .kind → HeldPre z xs (x .a)
-  pub second : 2 ≤ x .kind → HeldPre z xs (x .b)
-  pub first-phase : 2 ≤ x .kind → phaseOf xs (z .u) (x .a) < 4
-  pub second-phase : 2 ≤ x .kind → phaseOf xs (z .u) (x .b) < 4
+  pub qubit : x .kind ≡ 1 → x .left < 64 * z .l
+  pub first : 2 ≤ x .kind → HeldPre z xs (x .left)
+  pub second : 2 ≤ x .kind → HeldPre z xs (x .right)
+  pub first-phase : 2 ≤ x .kind → phaseOf xs (z .u) (x .left) < 4
+  pub second-phase : 2 ≤ x .kind → phaseOf xs (z .u) (x .right) < 4
 
 -- the node's value, from those that memory has for its children
 unfoldable pub valueOfRecord : Shape → List ℕ → List ℕ → NodeRecord → Value
@@ -91,10 +91,10 @@ pub record Released (s : List ℕ) (u free n r : ℕ) (t : List ℕ) : Type 0 wh
 pub record ChildrenPre (s : List ℕ) (u free : ℕ) (x : NodeRecord) : Type 0 where
   pub long : rowCount * u ≤ length s
   pub room : 2 ≤ x .kind → free + 1 < u
-  pub first : 2 ≤ x .kind → x .a < u
-  pub second : 2 ≤ x .kind → x .b < u
-  pub first-used : 2 ≤ x .kind → 0 < usesOf s u (x .a)
-  pub second-used : 2 ≤ x .kind → 0 < getD (set (row s u usesRow) (x .a) (usesOf s u (x .a) - 1)) (x .b) 0
+  pub first : 2 ≤ x .kind → x .left < u
+  pub second : 2 ≤ x .kind → x .right < u
+  pub first-used : 2 ≤ x .kind → 0 < usesOf s u (x .left)
+  pub second-used : 2 ≤ x .kind → 0 < getD (set (row s u usesRow) (x .left) (usesOf s u (x .left) - 1)) (x .right) 0
 
 -- nothing for a leaf; for a product its first child is released, then its second: `between` slots are free in between, in `store`
 pub record ChildrenReleased (s : List ℕ) (u free : ℕ) (x : NodeRecord) (r : ℕ) (t : List ℕ) : Type 0 where
@@ -102,8 +102,8 @@ pub record ChildrenReleased (s : List ℕ) (u free : ℕ) (x : NodeRecord) (r : 
   pub leaf : x .kind < 2 → (r ≡ free) × (t ≡ s)
   pub between : ℕ
   pub store : List ℕ
-  pub first : 2 ≤ x .kind → Released s u free (x .a) between store
-  pub second : 2 ≤ x .kind → Released store u between (x .b) r t
+  pub first : 2 ≤ x .kind → Released s u free (x .left) between store
+  pub second : 2 ≤ x .kind → Released store u between (x .right) r t
 
 -- ---- taking a slot
 
@@ -120,13 +120,25 @@ pub record TakePre (z : Shape) (xs : List ℕ) (st : Slots) : Type 0 where
 abbrev pub slotSum : Shape → Slots → ℕ
 slotSum z st = (st .slots + 1 + st .axes) * (2 * z .l)
 
+-- the slot freed last is taken
+abbrev pub freeTaken : Shape → List ℕ → Slots → Slots
+freeTaken z xs st = record {
+  axes = st .axes;
+  slots = st .slots;
+  free = st .free - 1;
+  taken = getD (row xs (z .u) freeRow) (st .free - 1) 0;
+}
+
+-- a new one is
+abbrev pub newTaken : Slots → Slots
+newTaken st = record { axes = st .axes; slots = st .slots + 1; free = 0; taken = st .slots }
+
 -- "a slot is freed after its last use and reused, last freed first"; for a new one the sum is tested
-unfoldable pub taken : Shape → List ℕ → Slots → Taken
+unfoldable pub taken : Shape → List ℕ → Slots → Step
 taken z xs st =
-    if ltb 0 (st .free) then Slot (getD (row xs (z .u) freeRow) (st .free - 1) 0)
-    (record { axes = st .axes; slots = st .slots; free = st .free - 1 })
+    if ltb 0 (st .free) then Next (freeTaken z xs st)
     else if ltb (z .limit) (slotSum z st) then ExpansionLimit
-    else Slot (st .slots) (record { axes = st .axes; slots = st .slots + 1; free = 0 })
+    else Next (newTaken st)
 
 -- ---- keeping a value
 

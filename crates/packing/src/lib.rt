@@ -3,11 +3,12 @@ ghost use mathlib.Core.Path.{_≡_};
 ghost use Prim.Native.Nat.{suc};
 ghost use Rattle.model.specs.Program.{Program};
 ghost use Rattle.packing_states.specs.References.{total};
-ghost use Rattle.packing_states.specs.States.{before, within};
+ghost use Rattle.packing_states.specs.States.{before, slotted, within};
 ghost use Rattle.packing_states.specs.SomeProgram.{SomeProgram};
-ghost use Rattle.packing.specs.Holding.{PlaceAt, RootAt, RootsAt, NodeAt, PlacedAs, Turned, Left};
+ghost use Rattle.packing.specs.Holding.{PlaceAt, RootAt, RootsAt, NodeAt, Turned};
+ghost use Rattle.packing.specs.RestKept.{RestKept};
 ghost use Rattle.packing.specs.Phases.{PhasePre, phaseIn};
-ghost use Rattle.packing.specs.Packed.{PackPre, PackedAs, packingAnswer};
+ghost use Rattle.packing.specs.Packed.{PackPre, PackedAs};
 ghost use Rattle.records.specs.Given.{programIn};
 
 mod values;
@@ -19,14 +20,15 @@ use layout::ROOT_AXIS;
 use layout::ROOT_SIGN;
 use layout::Shape;
 use layout::USES;
-use model::Answer;
+use packing_answer::Packed;
 use records::NodeRecord;
 
-// Axes stored, slots allocated, slots on the free stack.
+// Axes stored, slots allocated, slots on the free stack, and the slot taken last.
 struct Slots {
     axes: usize,
     slots: usize,
     free: usize,
+    taken: usize,
 }
 
 // Where a node's word is, and its phase.
@@ -35,28 +37,9 @@ struct ValueHeld {
     phase: u32,
 }
 
-// The slot that a value gets, and the slots then.
-enum Taken {
-    Slot(usize, Slots),
-    ExpansionLimit,
-}
-
-// The slots once a node has its own, or none is within the limit.
-enum Placed {
-    Slots(Slots),
-    ExpansionLimit,
-}
-
-// How a turn ends.
+// How a step ends: the slots then, or a refusal.
 enum Step {
     Next(Slots),
-    NonHermitianAxis,
-    ExpansionLimit,
-}
-
-// How packing ends: with so many axes, or refused.
-pub enum Packed {
-    Axes(usize),
     NonHermitianAxis,
     ExpansionLimit,
 }
@@ -69,11 +52,11 @@ fn place_node(
     st: Slots,
     n: usize,
     x: NodeRecord,
-) -> Placed
+) -> Step
     requires { ⌜ SomeProgram (λ (p : Program). PlaceAt p shape st n x (now words) (now numbers)) ⌝ }
-    ensures { λ r. ⌜ Left shape (now (words .entry)) (now (numbers .entry)) (now (words .exit)) (now (numbers .exit))
+    ensures { λ r. ⌜ RestKept shape (now (words .entry)) (now (numbers .entry)) (now (words .exit)) (now (numbers .exit))
         × ((p : Program) → PlaceAt p shape st n x (now (words .entry)) (now (numbers .entry))
-        → PlacedAs p shape n r (now (words .exit)) (now (numbers .exit))) ⌝ }
+        → Turned p shape (suc n) n 0 (slotted p n) r (now (words .exit)) (now (numbers .exit))) ⌝ }
 {
     let phase = values::evaluate(words, &numbers[..], shape, x);
     let free = values::release_children(numbers, shape.u, st.free, x);
@@ -81,14 +64,16 @@ fn place_node(
         axes: st.axes,
         slots: st.slots,
         free,
+        taken: st.taken,
     };
-    let taken = values::take_slot(&numbers[..], shape, freed);
-    match taken {
-        Taken::Slot(s, after) => {
-            values::keep(words, numbers, shape, n, s, phase);
-            Placed::Slots(after)
+    let step = values::take_slot(&numbers[..], shape, freed);
+    match step {
+        Step::Next(after) => {
+            values::keep(words, numbers, shape, n, after.taken, phase);
+            Step::Next(after)
         }
-        Taken::ExpansionLimit => Placed::ExpansionLimit,
+        Step::NonHermitianAxis => Step::NonHermitianAxis,
+        Step::ExpansionLimit => Step::ExpansionLimit,
     }
 }
 
@@ -114,7 +99,7 @@ fn pack_root(
     phase: u32,
 ) -> Step
     requires { ⌜ SomeProgram (λ (p : Program). RootAt p shape st n root phase (now words) (now numbers)) ⌝ }
-    ensures { λ r. ⌜ Left shape (now (words .entry)) (now (numbers .entry)) (now (words .exit)) (now (numbers .exit))
+    ensures { λ r. ⌜ RestKept shape (now (words .entry)) (now (numbers .entry)) (now (words .exit)) (now (numbers .exit))
         × ((p : Program) → RootAt p shape st n root phase (now (words .entry)) (now (numbers .entry))
         → Turned p shape (suc n) n (suc root) (within p n (suc root)) r (now (words .exit)) (now (numbers .exit))) ⌝ }
 {
@@ -124,7 +109,8 @@ fn pack_root(
         return Step::NonHermitianAxis;
     }
     let counted = st.slots * (2 * shape.l);
-    let i = axes::intern(words, v.at, st.axes, counted, shape.limit, shape.l);
+    let sizes = axes::sizes_of(shape, st.axes);
+    let i = axes::intern(words, numbers, sizes, counted, v.at);
     let Interned::Id(id) = i else {
         return Step::ExpansionLimit;
     };
@@ -135,6 +121,7 @@ fn pack_root(
         axes: axes::count_with(st.axes, id),
         slots: st.slots,
         free,
+        taken: st.taken,
     })
 }
 
@@ -149,8 +136,9 @@ fn pack_roots(
     n: usize,
 ) -> Step
     requires { ⌜ SomeProgram (λ (p : Program). RootsAt p shape placed n (now operations) (now rows) (now words) (now numbers)) ⌝ }
-    ensures { λ r. ⌜ Left shape (now (words .entry)) (now (numbers .entry)) (now (words .exit)) (now (numbers .exit))
-        × ((p : Program) → RootsAt p shape placed n (now (operations .entry)) (now (rows .entry)) (now (words .entry)) (now (numbers .entry))
+    ensures { λ r. ⌜ RestKept shape (now (words .entry)) (now (numbers .entry)) (now (words .exit)) (now (numbers .exit))
+        × ((p : Program)
+        → RootsAt p shape placed n (now (operations .entry)) (now (rows .entry)) (now (words .entry)) (now (numbers .entry))
         → Turned p shape (suc n) n (total p) (within p n (total p)) r (now (words .exit)) (now (numbers .exit))) ⌝ }
 {
     let mut st = placed;
@@ -181,7 +169,7 @@ fn pack_node(
     n: usize,
 ) -> Step
     requires { ⌜ NodeAt shape st n (now nodes) (now operations) (now rows) (now words) (now numbers) ⌝ }
-    ensures { λ r. ⌜ Left shape (now (words .entry)) (now (numbers .entry)) (now (words .exit)) (now (numbers .exit))
+    ensures { λ r. ⌜ RestKept shape (now (words .entry)) (now (numbers .entry)) (now (words .exit)) (now (numbers .exit))
         × Turned (programIn shape (now (nodes .entry)) (now (operations .entry)) (now (rows .entry))) shape (suc n) (suc n) 0
         (before (programIn shape (now (nodes .entry)) (now (operations .entry)) (now (rows .entry))) (suc n))
         r (now (words .exit)) (now (numbers .exit)) ⌝ }
@@ -190,11 +178,12 @@ fn pack_node(
         return Step::Next(st);
     }
     let x = records::node_at(nodes, n);
-    let placed = place_node(words, numbers, shape, st, n, x);
-    let Placed::Slots(s) = placed else {
-        return Step::ExpansionLimit;
-    };
-    pack_roots(operations, rows, words, numbers, shape, s, n)
+    let step = place_node(words, numbers, shape, st, n, x);
+    match step {
+        Step::Next(placed) => pack_roots(operations, rows, words, numbers, shape, placed, n),
+        Step::NonHermitianAxis => Step::NonHermitianAxis,
+        Step::ExpansionLimit => Step::ExpansionLimit,
+    }
 }
 
 // Packs the program: every root's axis and sign, and the axes' words, or a refusal by 9 or 10.
@@ -216,6 +205,7 @@ pub fn pack(
         axes: 0,
         slots: 0,
         free: 0,
+        taken: 0,
     };
     for n in 0..shape.nodes {
         let step = pack_node(nodes, operations, rows, words, numbers, shape, st, n);
@@ -226,15 +216,4 @@ pub fn pack(
         }
     }
     Packed::Axes(st.axes)
-}
-
-// The answer that packing's end is.
-pub fn answer(p: Packed) -> Answer
-    ensures { λ r. ⌜ r ≡ packingAnswer p ⌝ }
-{
-    match p {
-        Packed::Axes(_) => Answer::Accepted,
-        Packed::NonHermitianAxis => Answer::NonHermitianAxis,
-        Packed::ExpansionLimit => Answer::ExpansionLimit,
-    }
 }

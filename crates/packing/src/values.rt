@@ -3,7 +3,7 @@ ghost use mathlib.Core.Path.{_≡_};
 ghost use Rattle.packing.specs.Values.{HeldPre, heldAt, EvaluatePre, Evaluated, ReleasePre, Released, ChildrenPre, ChildrenReleased};
 ghost use Rattle.packing.specs.Values.{TakePre, taken, KeepPre, Kept};
 use super::Slots;
-use super::Taken;
+use super::Step;
 use super::ValueHeld;
 use angle::Phase;
 use layout::FREE;
@@ -30,11 +30,11 @@ fn evaluate_product(words: &mut [u64], numbers: &[u32], shape: Shape, x: NodeRec
     requires { ⌜ EvaluatePre shape x (now words) (now numbers) × ((x .kind ≡ 0 → ⊥) × (x .kind ≡ 1 → ⊥)) ⌝ }
     ensures { λ r. ⌜ Evaluated shape x (now (words .entry)) (now (numbers .entry)) (now (words .exit)) (r .0) ⌝ }
 {
-    let a = held(numbers, shape, x.a as usize);
-    let b = held(numbers, shape, x.b as usize);
+    let a = held(numbers, shape, x.left as usize);
+    let b = held(numbers, shape, x.right as usize);
     let at = layout::scratch_at(shape.limit);
     let e = product::product_in(words, a.at, b.at, at, shape.l);
-    Phase(((e.0 as u32 + a.phase + x.p % 4 + b.phase + x.q % 4) % 4) as u8)
+    Phase(((e.0 as u32 + a.phase + x.left_phase % 4 + b.phase + x.right_phase % 4) % 4) as u8)
 }
 
 // A node's word, as the scratch word, and its phase.
@@ -49,7 +49,7 @@ pub fn evaluate(words: &mut [u64], numbers: &[u32], shape: Shape, x: NodeRecord)
         return Phase(0);
     }
     if x.kind == 1 {
-        letter::put_letter(words, at, shape.l, x.a as usize, x.p);
+        letter::put_letter(words, at, shape.l, x.left as usize, x.left_phase);
         return Phase(0);
     }
     evaluate_product(words, numbers, shape, x)
@@ -78,39 +78,35 @@ pub fn release_children(numbers: &mut [u32], u: usize, free: usize, x: NodeRecor
     if x.kind < 2 {
         return free;
     }
-    let one = release(numbers, u, free, x.a as usize);
-    release(numbers, u, one, x.b as usize)
+    let one = release(numbers, u, free, x.left as usize);
+    release(numbers, u, one, x.right as usize)
 }
 
 // The slot freed last, or a new one within the limit.
-pub fn take_slot(numbers: &[u32], shape: Shape, st: Slots) -> Taken
+pub fn take_slot(numbers: &[u32], shape: Shape, st: Slots) -> Step
     requires { ⌜ TakePre shape (now numbers) st ⌝ }
     ensures { λ r. ⌜ r ≡ taken shape (now (numbers .entry)) st ⌝ }
 {
     if 0 < st.free {
         let free = st.free - 1;
-        let s = store::read(numbers, shape.u, FREE, free) as usize;
-        return Taken::Slot(
-            s,
-            Slots {
-                axes: st.axes,
-                slots: st.slots,
-                free,
-            },
-        );
+        let taken = store::read(numbers, shape.u, FREE, free) as usize;
+        return Step::Next(Slots {
+            axes: st.axes,
+            slots: st.slots,
+            free,
+            taken,
+        });
     }
     let n = 2 * shape.l;
     if shape.limit < st.slots * n + n + st.axes * n {
-        return Taken::ExpansionLimit;
+        return Step::ExpansionLimit;
     }
-    Taken::Slot(
-        st.slots,
-        Slots {
-            axes: st.axes,
-            slots: st.slots + 1,
-            free: 0,
-        },
-    )
+    Step::Next(Slots {
+        axes: st.axes,
+        slots: st.slots + 1,
+        free: 0,
+        taken: st.slots,
+    })
 }
 
 // Copies the scratch word into slot s, which is node n's from now on.

@@ -14,8 +14,9 @@ use Rattle.theory.specs.Checked.{answered}
 use Rattle.layout.specs.declared.Shape.{Shape}
 use Rattle.layout.specs.Shape.{shapeOf}
 use Rattle.records.specs.Given.{programIn}
-use Rattle.packing.specs.declared.Packed.{Packed}
-use Rattle.packing.specs.Packed.{axesAfter, PackPre, packedAnswer, packingAnswer, PackedAs}
+use Rattle.packing_answer.specs.declared.Packed.{Packed}
+use Rattle.packing_answer.specs.Answer.{axesAfter, packedAnswer, packingAnswer}
+use Rattle.packing.specs.Packed.{PackPre, PackedAs}
 use Rattle.packing.specs.Checked.{checked-sizes, checked-pack}
 
 -- the counts that a call hands in
@@ -40,7 +41,8 @@ pub record PackedCall (limit : ℕ) (j : Job) (s : Lent) (axes r : ℕ) (ws xs :
   pub kept : (checkedNumber limit j s ≡ 0 → ⊥) → (ws ≡ s .words) × ((xs ≡ s .numbers) × (axes′ ≡ axes))
   pub answer : checkedNumber limit j s ≡ 0 → r ≡ packedNumber (packingOf limit j)
   pub count : checkedNumber limit j s ≡ 0 → axes′ ≡ axesAfter axes (packingOf limit j)
-  pub memory : checkedNumber limit j s ≡ 0 → PackedAs (shapeOf (j .counts) limit) (programOf j) (packingOf limit j) (s .words) (s .numbers) ws xs
+  pub memory : checkedNumber limit j s ≡ 0
+      → PackedAs (shapeOf (j .counts) limit) (programOf j) (packingOf limit j) (s .words) (s .numbers) ws xs
 
 -- the answer's number, as the code works it out
 pub check-number : (limit : ℕ) (j : Job) (s : Lent) {o : Options} {a : Answer} {r : ℕ} → o ≡ defaultsAt limit → a ≡ checking o j s

@@ -3,9 +3,9 @@
 ghost use mathlib.Core.Path.{_≡_};
 ghost use Rattle.checking.specs.Call.{jobOf, lentOf};
 ghost use Rattle.packing_exports.specs.Calls.{countsOf, checkedNumber, packedNumber, PackedCall};
-ghost use Rattle.packing.specs.Packed.{axesAfter};
+ghost use Rattle.packing_answer.specs.Answer.{axesAfter};
 use model::Counts;
-use packing::Packed;
+use packing_answer::Packed;
 
 // The number of Checking's answer, with Rust's default options at this word limit.
 #[no_mangle]
@@ -97,7 +97,7 @@ fn counts(qubits: usize, node_count: usize, operation_count: usize) -> Counts
 fn packed_number(packed: Packed, axes: &mut usize) -> u32
     ensures { λ r. ⌜ (r ≡ packedNumber packed) × (now (axes .exit) ≡ axesAfter (now (axes .entry)) packed) ⌝ }
 {
-    let number = model::number_of(packing::answer(packed));
+    let number = model::number_of(packing_answer::answer(packed));
     match packed {
         Packed::Axes(n) => {
             *axes = n;

@@ -4,13 +4,13 @@ ghost use Prim.Native.Nat.{ℕ, _+_, _*_, _≤_};
 ghost use lib.ListN.{length};
 ghost use Rattle.layout.specs.Rows.{rowCount};
 ghost use Rattle.layout.specs.Words.{axisPlace};
-ghost use Rattle.packing.specs.declared.Packed.the-variants.{Axes};
+ghost use Rattle.packing_answer.specs.declared.Packed.the-variants.{Axes};
 use layout::NO_AXIS;
 use layout::ROOT_AXIS;
 use layout::ROOT_SIGN;
 use layout::Shape;
 use model::Answer;
-use packing::Packed;
+use packing_answer::Packed;
 
 // A line of two numbers.
 fn pair(a: u64, b: u64) {
@@ -89,7 +89,7 @@ pub fn packed(p: Packed, words: &[u64], numbers: &[u32], shape: Shape)
     requires { ⌜ ((n : ℕ) → p ≡ Axes n → axisPlace (shape .l) n ≤ length (now words)) ⌝ }
 {
     let Packed::Axes(count) = p else {
-        refused(packing::answer(p));
+        refused(packing_answer::answer(p));
         return;
     };
     accepted(words, numbers, shape, count);

@@ -62,12 +62,13 @@ reference-node p f j h =
     let n = length (p .nodes) in
     let ops = map operationRoot (p .operations) in
     every-at (RowIn n) (ops ++ p .rows) noReference j
-    (every-append (RowIn n) ops (p .rows) (every-map (NodeIn n) (RowIn n) operationRoot (λ x k. k) (p .operations) (f .operations)) (f .rows)) h
+    (every-append (RowIn n) ops (p .rows) (every-map (NodeIn n) (RowIn n) operationRoot (λ x k. k) (p .operations) (f .operations))
+    (f .rows)) h
 
 -- ---- what is known of a program without its records
 
 -- it is fine, and has as many qubits, nodes, operations and references as the shape says
-pub record Whole (p : Program) (z : Shape) : Type 0 where
+pub record OfShape (p : Program) (z : Shape) : Type 0 where
   pub fine : Fine p
   pub qubits : p .qubits ≡ z .qubits
   pub nodes : length (p .nodes) ≡ z .nodes
@@ -75,9 +76,9 @@ pub record Whole (p : Program) (z : Shape) : Type 0 where
   pub references : total p ≡ z .operations + 2 * z .qubits
 
 -- so is the program in the slices
-pub given-whole : {z : Shape} {ns os rs : List ℕ} → Given z ns os rs → Whole (programIn z ns os rs) z
+pub given-shape : {z : Shape} {ns os rs : List ℕ} → Given z ns os rs → OfShape (programIn z ns os rs) z
 unfolding programIn programOf
-given-whole {z} {ns} {os} {rs} g = record {
+given-shape {z} {ns} {os} {rs} g = record {
   fine = g .fine;
   qubits = refl;
   nodes = ap length (nodes-in z ns os rs) ∙ nodes-count (z .nodes) ns;

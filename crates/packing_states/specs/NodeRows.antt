@@ -21,7 +21,7 @@ pub record NodeInRows (ns : List ℕ) (u n : ℕ) (xs : List ℕ) : Type 0 where
   pub long : rowCount * u ≤ length xs
   pub record-long : n * 5 + 5 ≤ length ns
   pub node : n < u
-  pub children : 2 ≤ nodeRecord ns n .kind → (nodeRecord ns n .a < u) × (nodeRecord ns n .b < u)
+  pub children : 2 ≤ nodeRecord ns n .kind → (nodeRecord ns n .left < u) × (nodeRecord ns n .right < u)
 
 -- so have count nodes; children stand before their products
 pub record NodesInRows (ns : List ℕ) (u count : ℕ) (xs : List ℕ) : Type 0 where
@@ -35,7 +35,7 @@ module _ {ns : List ℕ} {u count : ℕ} {xs : List ℕ} (h : NodesInRows ns u c
   children-here = rw (node-here count ns n b) at (children-before (nodesIn count ns) (h .ordered) n (omega (arith, nodes-count count ns)))
 
   -- a product's
-  pub children-under : 2 ≤ nodeRecord ns n .kind → (nodeRecord ns n .a < n) × (nodeRecord ns n .b < n)
+  pub children-under : 2 ≤ nodeRecord ns n .kind → (nodeRecord ns n .left < n) × (nodeRecord ns n .right < n)
   children-under k = rw (product-of (nodeRecord ns n) k) at children-here
 
   -- each of them, in a store as long

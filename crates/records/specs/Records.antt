@@ -19,10 +19,10 @@ use Rattle.records.specs.declared.RowRecord.{RowRecord}
 unfoldable pub nodeRecord : List ℕ → ℕ → NodeRecord
 nodeRecord s n = record {
   kind = getD s (n * 5) 0;
-  a = getD s (n * 5 + 1) 0;
-  p = getD s (n * 5 + 2) 0;
-  b = getD s (n * 5 + 3) 0;
-  q = getD s (n * 5 + 4) 0;
+  left = getD s (n * 5 + 1) 0;
+  «left_phase» = getD s (n * 5 + 2) 0;
+  right = getD s (n * 5 + 3) 0;
+  «right_phase» = getD s (n * 5 + 4) 0;
 }
 
 unfoldable pub operationRecord : List ℕ → ℕ → OperationRecord
@@ -47,8 +47,8 @@ rowRecord s i = record {
 
 unfoldable pub nodeSaidOfKind : ℕ → NodeRecord → Node
 nodeSaidOfKind zero r = identity
-nodeSaidOfKind (suc zero) r = letter (r .a) (r .p)
-nodeSaidOfKind (suc (suc k)) r = product (r .a) (r .p) (r .b) (r .q)
+nodeSaidOfKind (suc zero) r = letter (r .left) (r .«left_phase»)
+nodeSaidOfKind (suc (suc k)) r = product (r .left) (r .«left_phase») (r .right) (r .«right_phase»)
 
 unfoldable pub nodeSaid : NodeRecord → Node
 nodeSaid r = nodeSaidOfKind (r .kind) r
@@ -73,42 +73,43 @@ pub said-identity : (r : NodeRecord) → r .kind ≡ 0 → nodeSaid r ≡ identi
 unfolding nodeSaid nodeSaidOfKind
 said-identity r e = ap (λ (k : ℕ). nodeSaidOfKind k r) e
 
-pub said-letter : (r : NodeRecord) → r .kind ≡ 1 → nodeSaid r ≡ letter (r .a) (r .p)
+pub said-letter : (r : NodeRecord) → r .kind ≡ 1 → nodeSaid r ≡ letter (r .left) (r .«left_phase»)
 unfolding nodeSaid nodeSaidOfKind
 said-letter r e = ap (λ (k : ℕ). nodeSaidOfKind k r) e
 
-said-of-kind : (P : Node → Type 0) (k : ℕ) (r : NodeRecord) → P identity → P (letter (r .a) (r .p))
-    → (2 ≤ k → P (product (r .a) (r .p) (r .b) (r .q))) → P (nodeSaidOfKind k r)
+said-of-kind : (P : Node → Type 0) (k : ℕ) (r : NodeRecord) → P identity → P (letter (r .left) (r .«left_phase»))
+    → (2 ≤ k → P (product (r .left) (r .«left_phase») (r .right) (r .«right_phase»))) → P (nodeSaidOfKind k r)
 unfolding nodeSaidOfKind
 said-of-kind P zero r i l p = i
 said-of-kind P (suc zero) r i l p = l
 said-of-kind P (suc (suc k)) r i l p = p (omega arith)
 
 -- kinds 0, 1, and 2 on: what holds of each holds of the node
-pub said-by : (P : Node → Type 0) (r : NodeRecord) → P identity → P (letter (r .a) (r .p))
-    → (2 ≤ r .kind → P (product (r .a) (r .p) (r .b) (r .q))) → P (nodeSaid r)
+pub said-by : (P : Node → Type 0) (r : NodeRecord) → P identity → P (letter (r .left) (r .«left_phase»))
+    → (2 ≤ r .kind → P (product (r .left) (r .«left_phase») (r .right) (r .«right_phase»))) → P (nodeSaid r)
 unfolding nodeSaid
 said-by P r i l p = said-of-kind P (r .kind) r i l p
 
 -- of a node that is no product: what f makes of the identity and of a letter
 pub leaf-of : {A : Type 0} (f : Node → A) (x : A) (r : NodeRecord) → r .kind < 2 → f identity ≡ x → ((q c : ℕ) → f (letter q c) ≡ x)
     → f (nodeSaid r) ≡ x
-leaf-of f x r h i l = said-by (λ node. f node ≡ x) r i (l (r .a) (r .p)) (λ k. absurd (omega arith))
+leaf-of f x r h i l = said-by (λ node. f node ≡ x) r i (l (r .left) (r .«left_phase»)) (λ k. absurd (omega arith))
 
 -- the kind of a node that is neither the identity nor a letter
 pub product-kind : (k : ℕ) → (k ≡ 0 → ⊥) × (k ≡ 1 → ⊥) → 2 ≤ k
 product-kind k h = omega (arith, h .0, h .1)
 
-pub product-of : (r : NodeRecord) → 2 ≤ r .kind → nodeSaid r ≡ product (r .a) (r .p) (r .b) (r .q)
+pub product-of : (r : NodeRecord) → 2 ≤ r .kind → nodeSaid r ≡ product (r .left) (r .«left_phase») (r .right) (r .«right_phase»)
 unfolding nodeSaid nodeSaidOfKind
 product-of r h = go (r .kind) h
   where
-    go : (k : ℕ) → 2 ≤ k → nodeSaidOfKind k r ≡ product (r .a) (r .p) (r .b) (r .q)
+    go : (k : ℕ) → 2 ≤ k → nodeSaidOfKind k r ≡ product (r .left) (r .«left_phase») (r .right) (r .«right_phase»)
     go zero h = absurd (omega arith)
     go (suc zero) h = absurd (omega arith)
     go (suc (suc k)) h = refl
 
-pub said-product : (r : NodeRecord) → (r .kind ≡ 0 → ⊥) → (r .kind ≡ 1 → ⊥) → nodeSaid r ≡ product (r .a) (r .p) (r .b) (r .q)
+pub said-product : (r : NodeRecord) → (r .kind ≡ 0 → ⊥) → (r .kind ≡ 1 → ⊥)
+    → nodeSaid r ≡ product (r .left) (r .«left_phase») (r .right) (r .«right_phase»)
 said-product r f g = product-of r (product-kind (r .kind) (f, g))
 
 -- ---- record i of the counted ones is the model's i

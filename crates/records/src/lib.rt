@@ -4,13 +4,13 @@ ghost use Prim.Native.Nat.{_+_, _*_, _≤_};
 ghost use lib.ListN.{length};
 ghost use Rattle.records.specs.Records.{nodeRecord, operationRecord, rowRecord};
 
-// A node: kind 0 identity; 1 qubit a, letter p; 2 node a, phase p, node b, phase q.
+// A node: kind 0 identity; 1 a letter on a qubit, these in the left factor's two fields; 2 a product of nodes with phases.
 pub struct NodeRecord {
     pub kind: u32,
-    pub a: u32,
-    pub p: u32,
-    pub b: u32,
-    pub q: u32,
+    pub left: u32,
+    pub left_phase: u32,
+    pub right: u32,
+    pub right_phase: u32,
 }
 
 // An operation: kind 1 rotate, 2 measure, 3 conditional.
@@ -38,10 +38,10 @@ pub fn node_at(nodes: &[u32], n: usize) -> NodeRecord
     let at = n * 5;
     NodeRecord {
         kind: nodes[at],
-        a: nodes[at + 1],
-        p: nodes[at + 2],
-        b: nodes[at + 3],
-        q: nodes[at + 4],
+        left: nodes[at + 1],
+        left_phase: nodes[at + 2],
+        right: nodes[at + 3],
+        right_phase: nodes[at + 4],
     }
 }
 

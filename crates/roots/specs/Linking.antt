@@ -33,7 +33,7 @@ sizes-kept : {p : Program} {z : Shape} {s t : List ℕ} → length t ≡ length 
 sizes-kept {p} {z} {s} {t} e a = record {
   sized = a .sized;
   long = omega (arith, a .long);
-  whole = a .whole;
+  program = a .program;
 }
 
 rows-kept : {p : Program} {z : Shape} {rs s t : List ℕ} → Only linkRows (z .u) s t → RowsIn p z rs s → RowsIn p z rs t
@@ -50,7 +50,7 @@ front-pre : (p : Program) (z : Shape) (j n : ℕ) (x : List ℕ) → Sizes p z x
     → LinksFrom p z (suc j) x → FrontPre x (z .u) j n
 front-pre p z j n x a b e f =
     let d = a .sized in
-    let w = a .whole in
+    let w = a .program in
     let h : n < z .nodes = rw (e, w .nodes) at (reference-node p (w .fine) j b) in
     record {
       long = a .long;
@@ -73,7 +73,7 @@ module _ (z : Shape) (rs s : List ℕ) where
   rows-start = record {
     most = omega arith;
     only = only-none linkRows (z .u) s;
-    linked = λ p a. rw (a .sizes .whole .references) at (a .start);
+    linked = λ p a. rw (a .sizes .program .references) at (a .start);
   }
 
   -- the same place
@@ -88,7 +88,7 @@ module _ (z : Shape) (rs s : List ℕ) where
       record {
         record-long = omega (arith, a .records .long, i .most);
         front = front-pre p z (z .operations + (r - 1)) _ x (sizes-kept (i .only .long) (a .sizes))
-            (omega (arith, a .sizes .whole .references, i .most)) (a .records .node (r - 1) (omega (arith, i .most)))
+            (omega (arith, a .sizes .program .references, i .most)) (a .records .node (r - 1) (omega (arith, i .most)))
             (rw (place r h) at (i .linked p a));
       }
 
@@ -97,7 +97,7 @@ module _ (z : Shape) (rs s : List ℕ) where
     -- row r is a root if its node is relevant
     row-test : isRootAt p (z .operations + r) ≡ relevant p n
     unfolding isRootAt
-    row-test = rw (le-ltb (z .operations + r) (length (p .operations)) (omega (arith, a .sizes .whole .operations)), d) refl
+    row-test = rw (le-ltb (z .operations + r) (length (p .operations)) (omega (arith, a .sizes .program .operations)), d) refl
 
     row-turn : Only linkRows (z .u) s x → LinksFrom p z (suc (z .operations + r)) x → RowLinked x (z .u) (z .operations + r) n y
         → LinksFrom p z (z .operations + r) y
@@ -107,13 +107,13 @@ module _ (z : Shape) (rs s : List ℕ) where
         long = omega (arith, a .sizes .long, o .long)
 
         b : z .operations + r < total p
-        b = omega (arith, a .sizes .whole .references)
+        b = omega (arith, a .sizes .program .references)
 
         in-row : total p ≤ z .u
-        in-row = omega (arith, a .sizes .whole .references, a .sizes .sized .row)
+        in-row = omega (arith, a .sizes .program .references, a .sizes .sized .row)
 
         node-in : n < z .nodes
-        node-in = rw (d, a .sizes .whole .nodes) at (reference-node p (a .sizes .whole .fine) (z .operations + r) b)
+        node-in = rw (d, a .sizes .program .nodes) at (reference-node p (a .sizes .program .fine) (z .operations + r) b)
 
         kept : RowsIn p z rs x
         kept = rows-kept o (a .records)
@@ -165,22 +165,22 @@ module _ (z : Shape) (os s : List ℕ) where
       let p = some .p in
       record {
         record-long = omega (arith, a .records .long, f .most);
-        front = front-pre p z (i - 1) _ x (sizes-kept (f .only .long) (a .sizes)) (omega (arith, a .sizes .whole .references, f .most))
+        front = front-pre p z (i - 1) _ x (sizes-kept (f .only .long) (a .sizes)) (omega (arith, a .sizes .program .references, f .most))
             (a .records .node (i - 1) (omega (arith, f .most))) (rw (above i h) at (f .linked p a));
       }
 
   -- every operation is a root
   operation-test : (p : Program) (i : ℕ) → OperationsPre p z os s → i < z .operations → isRootAt p i ≡ true
   unfolding isRootAt
-  operation-test p i a h = rw (lt-ltb i (length (p .operations)) (omega (arith, a .sizes .whole .operations))) refl
+  operation-test p i a h = rw (lt-ltb i (length (p .operations)) (omega (arith, a .sizes .program .operations))) refl
 
   operation-turn : (p : Program) (i : ℕ) (x y : List ℕ) → OperationsPre p z os s → i < z .operations → length x ≡ length s
       → LinksFrom p z (suc i) x → InFront x (z .u) i (operationRecord os i .node) y → LinksFrom p z i y
   operation-turn p i x y a h o f w =
-      let b : i < total p = omega (arith, a .sizes .whole .references) in
+      let b : i < total p = omega (arith, a .sizes .program .references) in
       let d = a .records .node i h in
-      link-root p z i x y (omega (arith, a .sizes .long)) b (omega (arith, a .sizes .whole .references, a .sizes .sized .row)) f
-      (operation-test p i a h) _ d (rw (d, a .sizes .whole .nodes) at (reference-node p (a .sizes .whole .fine) i b))
+      link-root p z i x y (omega (arith, a .sizes .long)) b (omega (arith, a .sizes .program .references, a .sizes .sized .row)) f
+      (operation-test p i a h) _ d (rw (d, a .sizes .program .nodes) at (reference-node p (a .sizes .program .fine) i b))
       (omega (arith, a .sizes .sized .row)) w
 
   pub operations-turn : {i : ℕ} {x y : List ℕ} → 0 < i → OperationsAt i x → InFront x (z .u) (i - 1) (operationRecord os (i - 1) .node) y
@@ -199,7 +199,9 @@ module _ (z : Shape) (os s : List ℕ) where
 all-linked : (p : Program) (z : Shape) (t : List ℕ) → Sizes p z t → LinksFrom p z 0 t → Links p z t
 all-linked p z t a f = record {
   linked = f .linked;
-  uses = ext-getD 0 (entries t (z .u) usesRow (z .nodes)) (rootCounts (roots p) (z .nodes)) (long ∙ sym (rootCounts-length (roots p) (z .nodes)))
+  uses =
+      ext-getD 0 (entries t (z .u) usesRow (z .nodes)) (rootCounts (roots p) (z .nodes))
+      (long ∙ sym (rootCounts-length (roots p) (z .nodes)))
       (λ n h. one n (omega (arith, long)));
 }
   where

@@ -17,7 +17,7 @@ use Rattle.packing_states.specs.ReferenceLaws.{rootsFrom}
 use Rattle.packing_states.specs.Counts.{rootCounts}
 use Rattle.packing_states.specs.Linked.{LinkedFrom, Linked}
 use Rattle.packing_states.specs.ReferenceRows.{ReferenceRows, referenceRows}
-use Rattle.packing_states.specs.InMemory.{Whole}
+use Rattle.packing_states.specs.InMemory.{OfShape}
 use Rattle.packing_states.specs.NodeRows.{TellsRelevant}
 
 -- ---- one reference
@@ -76,7 +76,7 @@ pub record LinksFrom (p : Program) (z : Shape) (j : ℕ) (t : List ℕ) : Type 0
 pub record Sizes (p : Program) (z : Shape) (s : List ℕ) : Type 0 where
   pub sized : Sized z
   pub long : rowCount * z .u ≤ length s
-  pub whole : Whole p z
+  pub program : OfShape p z
 
 -- its operations are these records
 pub record OperationsIn (p : Program) (z : Shape) (os : List ℕ) : Type 0 where

@@ -17,7 +17,7 @@ use Rattle.packing_states.specs.References.{total}
 use Rattle.packing_states.specs.ReferenceLaws.{roots-from-le, roots-from-all}
 use Rattle.packing_states.specs.Counts.{rootCounts, rootCounts-at}
 use Rattle.packing_states.specs.Linked.{Linked, linked-same}
-use Rattle.packing_states.specs.InMemory.{operation-reference, row-reference, Whole, given-whole}
+use Rattle.packing_states.specs.InMemory.{operation-reference, row-reference, OfShape, given-shape}
 use Rattle.packing_states.specs.NodeRows.{given-rows}
 use Rattle.packing_states.specs.SomeProgram.{SomeProgram}
 use Rattle.roots.specs.Links.{linkRows, LinkPre, Links, RootsLinked}
@@ -39,12 +39,12 @@ module _ (z : Shape) (ns os rs s : List ℕ) (pre : PreparePre z ns os rs s) whe
   abbrev p : Program
   p = programIn z ns os rs
 
-  whole : Whole p z
-  whole = given-whole (pre .given)
+  of-shape : OfShape p z
+  of-shape = given-shape (pre .given)
 
   links-pre : LinkPre p z os rs s
   links-pre = record {
-    sizes = record { sized = pre .sized; long = pre .numbers-long; whole = whole };
+    sizes = record { sized = pre .sized; long = pre .numbers-long; program = of-shape };
     operations = record {
       long = pre .given .operations-long;
       node = λ i h. ap (λ (r : PauliRef). r .node) (operation-reference z ns os rs i h);
@@ -69,7 +69,7 @@ module _ (z : Shape) (ns os rs s : List ℕ) (pre : PreparePre z ns os rs s) whe
       few = pre .sized .nodes;
       uses = λ m h.
           let d = pre .sized in
-          rw (links .uses) (omega (arith, counts-small p (z .nodes) m h, whole .references, d .operations, d .qubits));
+          rw (links .uses) (omega (arith, counts-small p (z .nodes) m h, of-shape .references, d .operations, d .qubits));
     }
 
     -- the model counts for as many nodes as there are
@@ -78,7 +78,7 @@ module _ (z : Shape) (ns os rs s : List ℕ) (pre : PreparePre z ns os rs s) whe
     unfolding useCounts
     counted c =
         let own = rootCounts (roots p) (z .nodes) in
-        rw (whole .nodes)
+        rw (of-shape .nodes)
         (c .uses ∙ ap (countUses (nodesIn (z .nodes) ns) (z .nodes)) (links .uses)
         ∙ ap (λ (nodes : List Node). countUses nodes (z .nodes) own) (sym (nodes-in z ns os rs)))
 

@@ -31,7 +31,7 @@ pub record Added (s : List ℕ) (u n : ℕ) (t : List ℕ) : Type 0 where
 pub record UsePre (ns s : List ℕ) (u n : ℕ) : Type 0 where
   pub node : NodeInRows ns u n s
   pub uses : 2 ≤ nodeRecord ns n .kind
-      → (getD (row s u usesRow) (nodeRecord ns n .a) 0 < 4294967294) × (getD (row s u usesRow) (nodeRecord ns n .b) 0 < 4294967294)
+      → (getD (row s u usesRow) (nodeRecord ns n .left) 0 < 4294967294) × (getD (row s u usesRow) (nodeRecord ns n .right) 0 < 4294967294)
 
 -- node n's turn in the model's count
 pub record ChildrenUsed (ns s : List ℕ) (u n : ℕ) (t : List ℕ) : Type 0 where

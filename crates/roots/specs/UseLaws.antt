@@ -44,16 +44,21 @@ leaf-used ns s u n h =
 pub unused : (ns s : List ℕ) (u n : ℕ) → getD (row s u usesRow) n 0 ≡ 0 → ChildrenUsed ns s u n s
 unused ns s u n e = record { only = only-none _ u s; uses = sym (if-true _ _ (eq-eqb (getD (row s u usesRow) n 0) 0 e)) }
 
-pub first-add : (ns s : List ℕ) (u n : ℕ) → UsePre ns s u n → 2 ≤ nodeRecord ns n .kind → AddPre s u (nodeRecord ns n .a)
+pub first-add : (ns s : List ℕ) (u n : ℕ) → UsePre ns s u n → 2 ≤ nodeRecord ns n .kind → AddPre s u (nodeRecord ns n .left)
 first-add ns s u n pre h = record { long = pre .node .long; node = pre .node .children h .0; uses = omega (arith, pre .uses h .0) }
 
-module _ (ns s s₁ : List ℕ) (u n : ℕ) (h : 2 ≤ nodeRecord ns n .kind) (w : Added s u (nodeRecord ns n .a) s₁) where
-  pub second-add : UsePre ns s u n → AddPre s₁ u (nodeRecord ns n .b)
+module _ (ns s s₁ : List ℕ) (u n : ℕ) (h : 2 ≤ nodeRecord ns n .kind) (w : Added s u (nodeRecord ns n .left) s₁) where
+  pub second-add : UsePre ns s u n → AddPre s₁ u (nodeRecord ns n .right)
   second-add pre =
-      let a = nodeRecord ns n .a in
-      let b = nodeRecord ns n .b in
+      let a = nodeRecord ns n .left in
+      let b = nodeRecord ns n .right in
       let long : b < length (row s u usesRow) =
-      omega (arith, pre .node .children h .1, row-length s u rowCount usesRow (pre .node .long) (let z : usesRow < rowCount = omega arith in z)) in
+      omega (
+        arith,
+        pre .node .children h .1,
+        row-length s u rowCount usesRow (pre .node .long)
+            (let z : usesRow < rowCount = omega arith in z),
+      ) in
       record {
         long = omega (arith, pre .node .long, w .only .long);
         node = pre .node .children h .1;
@@ -62,11 +67,11 @@ module _ (ns s s₁ : List ℕ) (u n : ℕ) (h : 2 ≤ nodeRecord ns n .kind) (w
             (omega (arith, pre .uses h .1)));
       }
 
-  pub both-used : {t : List ℕ} → (getD (row s u usesRow) n 0 ≡ 0 → ⊥) → Added s₁ u (nodeRecord ns n .b) t → ChildrenUsed ns s u n t
+  pub both-used : {t : List ℕ} → (getD (row s u usesRow) n 0 ≡ 0 → ⊥) → Added s₁ u (nodeRecord ns n .right) t → ChildrenUsed ns s u n t
   unfolding countChildren
   both-used {t} ne v = record {
     only = only-then (w .only) (v .only);
-    uses = v .uses ∙ ap (oneUseMore (nodeRecord ns n .b)) (w .uses)
+    uses = v .uses ∙ ap (oneUseMore (nodeRecord ns n .right)) (w .uses)
         ∙ sym (if-false _ _ (ne-eqb (getD (row s u usesRow) n 0) 0 ne)
         ∙ ap (λ (x : Node). countChildren x (row s u usesRow)) (product-of (nodeRecord ns n) h));
   }

@@ -116,8 +116,8 @@ fn use_children(nodes: &[u32], numbers: &mut [u32], u: usize, n: usize)
     if store::read(&numbers[..], u, USES, n) == 0 {
         return;
     }
-    add_use(numbers, u, x.a as usize);
-    add_use(numbers, u, x.b as usize);
+    add_use(numbers, u, x.left as usize);
+    add_use(numbers, u, x.right as usize);
 }
 
 // One use for each edge out of a used product; users stand after what they use.

@@ -1,6 +1,6 @@
 -- The five calls in turn; what they leave together is shown in RelevanceLaws. Assumes nothing.
 use mathlib.Core.Path.{_∙_}
-use Rattle.mentions.specs.RelevanceLaws.{nodes-pre, operations-pre, both-long, relevance-told}
+use Rattle.mentions.specs.RelevanceLaws.{nodes-pre, operations-pre, both-long, relevance-is}
 use borrow.Author.Needs.{needs}
 use Rattle.mentions.proofs.relevance.Statement.{statement}
 use Rattle.mentions.proofs.relevance.Tie as tie
@@ -46,7 +46,7 @@ returns c =
     let o = d .before .before .before .before in
     let b = o .before .before .before .before in
     let a = b .before .before .before .before in
-    relevance-told (a .before .before .before .before .before .pre) (a .clear-row .ensures) (b .clear-row2 .ensures)
+    relevance-is (a .before .before .before .before .before .pre) (a .clear-row .ensures) (b .clear-row2 .ensures)
     (o .mark-operations .ensures) (d .mark-down .ensures) (r .relevant-nodes .ensures)
 
 pub relevance-spec : {M : Type 1} → statement M

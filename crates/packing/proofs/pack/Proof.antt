@@ -2,8 +2,7 @@
 use mathlib.Core.Path.{_∙_}
 use Prim.Native.Nat.{_-_, _<_}
 use Rattle.layout.specs.Only.{Only}
-use Rattle.packing.specs.Holding.{Left}
-use Rattle.packing.specs.LeftLaws.{left-then}
+use Rattle.packing.specs.RestKept.{RestKept, rest-then}
 use Rattle.packing.specs.Packing.{AtNode, first-node, node-turn, next-node, preparedRows, prepared-rows, granted-prepared}
 use Rattle.packing.specs.Packing.{pack-axes, pack-odd, pack-limit}
 use native.Mathlib.Omega.{arith}
@@ -43,14 +42,20 @@ abbrev first : tie.At-loop Inv-loop μ-loop → tie.Start Inv-loop μ-loop
 first c = start (c .before .before .before .before .before .before .before)
 
 -- what is written before the loop
+prepared-at : (c : tie.After-prepare Inv-loop μ-loop) → let a = start (c .before .before .before .before) .args in
+    Only preparedRows (a .shape .u) (a .numbers .now) (c .prepare .last .1 .1 .1 .0)
+prepared-at c = prepared-rows (c .before .before .before .before .relevance .ensures .only) (c .prepare .ensures .only)
+
+-- from the loop
 prepared : (c : tie.At-loop Inv-loop μ-loop) → let a = first c .args in
     Only preparedRows (a .shape .u) (a .numbers .now) (c .before .before .before .prepare .last .1 .1 .1 .0)
-prepared c =
-    let e = c .before .before .before in
-    prepared-rows (e .before .before .before .before .relevance .ensures .only) (e .prepare .ensures .only)
+prepared c = prepared-at (c .before .before .before)
 
 loop-holds : tie.Need-loop-holds Inv-loop μ-loop
-loop-holds c = let p = c .before .before .prepare .ensures in first-node (p .linked) (p .uses)
+loop-holds c =
+    let e = c .before .before in
+    let p = e .prepare .ensures in
+    first-node (granted-prepared (start (e .before .before .before .before) .pre) (prepared-at e)) (p .linked) (p .uses)
 
 -- a node is left
 below : (c : tie.In-loop Inv-loop μ-loop) → c .before .loop .n < first (c .before) .args .shape .nodes
@@ -69,20 +74,20 @@ enum-told : tie.Need-enum-told Inv-loop μ-loop
 enum-told c = search needs
 
 -- what the loop and the node's turn leave
-left-by : (c : tie.After-pack-node Inv-loop μ-loop)
+rest-by : (c : tie.After-pack-node Inv-loop μ-loop)
     → let i = c .before .before .before .before in
     let a = first i .args in
-    Left (a .shape) (a .words .now) (i .before .before .before .prepare .last .1 .1 .1 .0)
+    RestKept (a .shape) (a .words .now) (i .before .before .before .prepare .last .1 .1 .1 .0)
     (c .pack-node .last .1 .1 .1 .0) (c .pack-node .last .1 .1 .1 .1 .0)
-left-by c = left-then (c .before .before .before .before .loop .inv .left) (c .pack-node .ensures .0)
+rest-by c = rest-then (c .before .before .before .before .loop .inv .rest) (c .pack-node .ensures .0)
 
 same-length : tie.Need-same-length Inv-loop μ-loop
-same-length c = left-by (c .before .before .before .before .before .before) .words .long
+same-length c = rest-by (c .before .before .before .before .before .before) .words .long
 
 same-length-2 : tie.Need-same-length-2 Inv-loop μ-loop
 same-length-2 c =
     let s = c .before .before .before .before .before .before in
-    left-by s .numbers .long ∙ prepared (s .before .before .before .before) .long
+    rest-by s .numbers .long ∙ prepared (s .before .before .before .before) .long
 
 returns : tie.Need-returns Inv-loop μ-loop
 returns c =
@@ -95,12 +100,12 @@ enum-told-2 : tie.Need-enum-told-2 Inv-loop μ-loop
 enum-told-2 c = search needs
 
 same-length-3 : tie.Need-same-length-3 Inv-loop μ-loop
-same-length-3 c = left-by (c .before .before .before .before .before .before) .words .long
+same-length-3 c = rest-by (c .before .before .before .before .before .before) .words .long
 
 same-length-4 : tie.Need-same-length-4 Inv-loop μ-loop
 same-length-4 c =
     let s = c .before .before .before .before .before .before in
-    left-by s .numbers .long ∙ prepared (s .before .before .before .before) .long
+    rest-by s .numbers .long ∙ prepared (s .before .before .before .before) .long
 
 returns-2 : tie.Need-returns-2 Inv-loop μ-loop
 returns-2 c =
@@ -124,10 +129,10 @@ loop-again c =
     next-node (i .before .loop .inv) (below i) (s .pack-node .ensures .0) (rw (c .before .step .given .1) at (s .pack-node .ensures .1))
 
 same-length-5 : tie.Need-same-length-5 Inv-loop μ-loop
-same-length-5 c = c .before .loop .inv .left .words .long
+same-length-5 c = c .before .loop .inv .rest .words .long
 
 same-length-6 : tie.Need-same-length-6 Inv-loop μ-loop
-same-length-6 c = c .before .loop .inv .left .numbers .long ∙ prepared (c .before) .long
+same-length-6 c = c .before .loop .inv .rest .numbers .long ∙ prepared (c .before) .long
 
 returns-3 : tie.Need-returns-3 Inv-loop μ-loop
 returns-3 c =

@@ -1,9 +1,8 @@
 -- The node is not used, or it is placed and its roots are packed. Assumes nothing.
 use mathlib.Core.Path.{refl}
+use Rattle.packing.specs.RestKept.{rest-then}
+use Rattle.packing.specs.NodeTurn.{uses-there, node-there, turn-unused, place-there, turn-odd, turn-limit, roots-there, turn-roots}
 use borrow.Author.Needs.{needs}
-use Rattle.packing.specs.Holding.{Left}
-use Rattle.packing.specs.LeftLaws.{left-then}
-use Rattle.packing.specs.NodeTurn.{uses-there, node-there, turn-unused, place-there, turn-limit, roots-there, turn-roots}
 use Rattle.packing.proofs.pack_node.Statement.{statement}
 use Rattle.packing.proofs.pack_node.Tie as tie
 
@@ -21,60 +20,88 @@ node-at-requires c κs = node-there (c .before .before .before .before .before .
 
 place-node-requires : tie.Need-place-node-requires
 place-node-requires c κs =
-    let e = c .before .before .before in
-    place-there (e .before .before .before .before .before .before .before .before .pre) (e .before .read .ensures) (e .if1 .left)
-    (c .before .before .node-at .ensures)
+    let node-at = c .before .before in
+    let test = node-at .before in
+    let read = test .before in
+    let start = read .before .before .before .before .before .before .before in
+    place-there (start .pre) (read .read .ensures) (test .if1 .left) (node-at .node-at .ensures)
 
-enum-known-placed : tie.Need-enum-known-placed
-enum-known-placed c = search needs
+enum-known-step : tie.Need-enum-known-step
+enum-known-step c = search needs
+
+pack-roots-requires : tie.Need-pack-roots-requires
+pack-roots-requires c κs =
+    let step = c .before .before .before in
+    let place-node = step .before .before .before .before .before .before in
+    let node-at = place-node .before .before .before in
+    let test = node-at .before in
+    let read = test .before in
+    let start = read .before .before .before .before .before .before .before in
+    roots-there (start .pre) (read .read .ensures) (test .if1 .left) (node-at .node-at .ensures) (place-node .place-node .ensures .0)
+    (place-node .place-node .ensures .1) (step .step .given .1)
 
 enum-told : tie.Need-enum-told
 enum-told c = search needs
 
+enum-told-2 : tie.Need-enum-told-2
+enum-told-2 c = search needs
+
 same-length-2 : tie.Need-same-length-2
-same-length-2 c = c .before .before .before .before .before .before .place-node .ensures .0 .words .long
+same-length-2 c =
+    let pack-roots = c .before .before .before .before in
+    let place-node = pack-roots .before .before .before .before .before .before .before .before .before .before in
+    rest-then (place-node .place-node .ensures .0) (pack-roots .pack-roots .ensures .0) .words .long
 
 same-length-3 : tie.Need-same-length-3
-same-length-3 c = c .before .before .before .before .before .before .place-node .ensures .0 .numbers .long
+same-length-3 c =
+    let pack-roots = c .before .before .before .before in
+    let place-node = pack-roots .before .before .before .before .before .before .before .before .before .before in
+    rest-then (place-node .place-node .ensures .0) (pack-roots .pack-roots .ensures .0) .numbers .long
 
 returns-2 : tie.Need-returns-2
 returns-2 c =
-    let s = c .before .before .before .before .before .before in
-    let e = s .before .before .before .before in
-    turn-limit (e .before .before .before .before .before .before .before .before .pre) (e .before .read .ensures) (e .if1 .left)
-    (s .before .before .before .node-at .ensures) (s .place-node .ensures .0) (s .place-node .ensures .1) (c .enum-told .given .1)
-
-pack-roots-requires : tie.Need-pack-roots-requires
-pack-roots-requires c κs =
-    let s = c .before .before .before .before .before .before .before .before .before in
-    let e = s .before .before .before .before in
-    roots-there (e .before .before .before .before .before .before .before .before .pre) (e .before .read .ensures) (e .if1 .left)
-    (s .before .before .before .node-at .ensures) (s .place-node .ensures .0) (s .place-node .ensures .1)
-    (c .before .before .before .placed .given .1)
-
--- what both turns leave
-left-by : (c : tie.After-pack-roots)
-    → let s = c .before .before .before .before .before .before .before .before .before .before in
-    let a = s .before .before .before .before .before .before .before .before .before .before .before .before .args in
-    Left (a .shape) (a .words .now) (a .numbers .now) (c .pack-roots .last .1 .1 .0) (c .pack-roots .last .1 .1 .1 .0)
-left-by c =
-    let s = c .before .before .before .before .before .before .before .before .before .before in
-    left-then (s .place-node .ensures .0) (c .pack-roots .ensures .0)
+    let pack-roots = c .before .before .before .before in
+    let step = pack-roots .before .before .before .before in
+    let place-node = step .before .before .before .before .before .before in
+    let node-at = place-node .before .before .before in
+    let test = node-at .before in
+    let read = test .before in
+    let start = read .before .before .before .before .before .before .before in
+    turn-roots (start .pre) (read .read .ensures) (test .if1 .left) (node-at .node-at .ensures) (place-node .place-node .ensures .0)
+    (place-node .place-node .ensures .1) (step .step .given .1) (pack-roots .pack-roots .result) (pack-roots .pack-roots .ensures .0)
+    (pack-roots .pack-roots .ensures .1)
 
 same-length-4 : tie.Need-same-length-4
-same-length-4 c = left-by (c .before .before .before .before) .words .long
+same-length-4 c = c .before .before .before .before .before .before .place-node .ensures .0 .words .long
 
 same-length-5 : tie.Need-same-length-5
-same-length-5 c = left-by (c .before .before .before .before) .numbers .long
+same-length-5 c = c .before .before .before .before .before .before .place-node .ensures .0 .numbers .long
 
 returns-3 : tie.Need-returns-3
 returns-3 c =
-    let r = c .before .before .before .before in
-    let s = r .before .before .before .before .before .before .before .before .before .before in
-    let e = s .before .before .before .before in
-    turn-roots (e .before .before .before .before .before .before .before .before .pre) (e .before .read .ensures) (e .if1 .left)
-    (s .before .before .before .node-at .ensures) (s .place-node .ensures .0) (s .place-node .ensures .1)
-    (r .before .before .before .before .placed .given .1) (r .pack-roots .result) (r .pack-roots .ensures .0) (r .pack-roots .ensures .1)
+    let place-node = c .before .before .before .before .before .before in
+    let node-at = place-node .before .before .before in
+    let test = node-at .before in
+    let read = test .before in
+    let start = read .before .before .before .before .before .before .before in
+    turn-odd (start .pre) (read .read .ensures) (test .if1 .left) (node-at .node-at .ensures) (place-node .place-node .ensures .0)
+    (place-node .place-node .ensures .1) (c .enum-told .given .1)
+
+same-length-6 : tie.Need-same-length-6
+same-length-6 c = c .before .before .before .before .before .before .place-node .ensures .0 .words .long
+
+same-length-7 : tie.Need-same-length-7
+same-length-7 c = c .before .before .before .before .before .before .place-node .ensures .0 .numbers .long
+
+returns-4 : tie.Need-returns-4
+returns-4 c =
+    let place-node = c .before .before .before .before .before .before in
+    let node-at = place-node .before .before .before in
+    let test = node-at .before in
+    let read = test .before in
+    let start = read .before .before .before .before .before .before .before in
+    turn-limit (start .pre) (read .read .ensures) (test .if1 .left) (node-at .node-at .ensures) (place-node .place-node .ensures .0)
+    (place-node .place-node .ensures .1) (c .enum-told2 .given .1)
 
 pub pack-node-spec : {M : Type 1} → statement M
 pack-node-spec =
@@ -85,12 +112,16 @@ pack-node-spec =
     returns
     node-at-requires
     place-node-requires
-    enum-known-placed
+    enum-known-step
+    pack-roots-requires
     enum-told
+    enum-told-2
     same-length-2
     same-length-3
     returns-2
-    pack-roots-requires
     same-length-4
     same-length-5
-    returns-3)
+    returns-3
+    same-length-6
+    same-length-7
+    returns-4)

@@ -1,8 +1,7 @@
 -- The loop is along the node's links. Assumes nothing.
 use mathlib.Core.Path.{_≡_}
 use Prim.Native.Nat.{suc, _+_, _-_, _*_}
-use Rattle.packing.specs.Holding.{Left}
-use Rattle.packing.specs.LeftLaws.{left-then}
+use Rattle.packing.specs.RestKept.{RestKept, rest-then}
 use Rattle.packing.specs.RootsLoop.{Along, referencesLeft, first-there, along-first, phase-there, root-there, next-there}
 use Rattle.packing.specs.RootsLoop.{along-next, next-later, along-odd, along-limit, along-end}
 use native.Mathlib.Omega.{arith}
@@ -49,16 +48,16 @@ enum-told : tie.Need-enum-told Inv-loop μ-loop
 enum-told c = search needs
 
 -- what the loop and the root's turn leave
-left-by : (c : tie.After-pack-root Inv-loop μ-loop)
+rest-by : (c : tie.After-pack-root Inv-loop μ-loop)
     → let a = c .before .before .before .before .before .before .before .before .before .before .before .before .args in
-    Left (a .shape) (a .words .now) (a .numbers .now) (c .pack-root .last .0) (c .pack-root .last .1 .0)
-left-by c = left-then (c .before .before .before .before .before .loop .inv .left) (c .pack-root .ensures .0)
+    RestKept (a .shape) (a .words .now) (a .numbers .now) (c .pack-root .last .0) (c .pack-root .last .1 .0)
+rest-by c = rest-then (c .before .before .before .before .before .loop .inv .rest) (c .pack-root .ensures .0)
 
 same-length : tie.Need-same-length Inv-loop μ-loop
-same-length c = left-by (c .before .before .before .before .before .before) .words .long
+same-length c = rest-by (c .before .before .before .before .before .before) .words .long
 
 same-length-2 : tie.Need-same-length-2 Inv-loop μ-loop
-same-length-2 c = left-by (c .before .before .before .before .before .before) .numbers .long
+same-length-2 c = rest-by (c .before .before .before .before .before .before) .numbers .long
 
 returns : tie.Need-returns Inv-loop μ-loop
 returns c =
@@ -71,10 +70,10 @@ enum-told-2 : tie.Need-enum-told-2 Inv-loop μ-loop
 enum-told-2 c = search needs
 
 same-length-3 : tie.Need-same-length-3 Inv-loop μ-loop
-same-length-3 c = left-by (c .before .before .before .before .before .before) .words .long
+same-length-3 c = rest-by (c .before .before .before .before .before .before) .words .long
 
 same-length-4 : tie.Need-same-length-4 Inv-loop μ-loop
-same-length-4 c = left-by (c .before .before .before .before .before .before) .numbers .long
+same-length-4 c = rest-by (c .before .before .before .before .before .before) .numbers .long
 
 returns-2 : tie.Need-returns-2 Inv-loop μ-loop
 returns-2 c =
@@ -109,10 +108,10 @@ loop-again c =
     (s .pack-root .ensures .1) _ _ (c .before .before .before .step .given .1) (c .read2 .ensures)
 
 same-length-5 : tie.Need-same-length-5 Inv-loop μ-loop
-same-length-5 c = c .before .loop .inv .left .words .long
+same-length-5 c = c .before .loop .inv .rest .words .long
 
 same-length-6 : tie.Need-same-length-6 Inv-loop μ-loop
-same-length-6 c = c .before .loop .inv .left .numbers .long
+same-length-6 c = c .before .loop .inv .rest .numbers .long
 
 returns-3 : tie.Need-returns-3 Inv-loop μ-loop
 returns-3 c = along-end (c .before .loop .inv) (omega arith)

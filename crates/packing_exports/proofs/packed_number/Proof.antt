@@ -2,7 +2,7 @@
 use mathlib.Core.Path.{refl, ap, _∙_}
 use borrow.Author.Needs.{needs}
 use Rattle.model.specs.Interface.{numberOf}
-use Rattle.packing.specs.Packed.{axesAfter}
+use Rattle.packing_answer.specs.Answer.{axesAfter}
 use Rattle.packing_exports.proofs.packed_number.Statement.{statement}
 use Rattle.packing_exports.proofs.packed_number.Tie as tie
 

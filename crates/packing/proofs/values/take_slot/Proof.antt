@@ -10,8 +10,8 @@ sub-free c = search needs
 read-requires : tie.Need-read-requires
 read-requires c κs = search needs
 
-cast-s : tie.Need-cast-s
-cast-s c = search needs
+cast-taken : tie.Need-cast-taken
+cast-taken c = search needs
 
 returns : tie.Need-returns
 returns c = taken-free _ _ _ _ (c .before .before .if1 .taken) (c .read .ensures)
@@ -46,7 +46,7 @@ take-slot-spec =
     (tie.spec
     sub-free
     read-requires
-    cast-s
+    cast-taken
     returns
     mul-n
     mul-if2

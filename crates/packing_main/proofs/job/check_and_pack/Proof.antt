@@ -40,7 +40,7 @@ packed-requires c κs =
     let g = pack-requires (d .before) (d .pack .lifetimes) .granted in
     let n = g .numbers-long in
     let r = g .sized .row in
-    (omega arith, λ m e. omega (arith, d .pack .ensures .room m e, d .pack .ensures .words .long, g .words-long))
+    (omega arith, λ m e. omega (arith, d .pack .ensures .axes m e .within, d .pack .ensures .words .long, g .words-long))
 
 same-length-3 : tie.Need-same-length-3
 same-length-3 c = search needs

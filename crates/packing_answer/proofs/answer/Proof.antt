@@ -1,7 +1,7 @@
 -- Answer by answer. Assumes nothing.
 use borrow.Author.Needs.{needs}
-use Rattle.packing.proofs.answer.Statement.{statement}
-use Rattle.packing.proofs.answer.Tie as tie
+use Rattle.packing_answer.proofs.answer.Statement.{statement}
+use Rattle.packing_answer.proofs.answer.Tie as tie
 
 enum-told : tie.Need-enum-told
 enum-told c = search needs
