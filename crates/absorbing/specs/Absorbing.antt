@@ -7,6 +7,7 @@ use lib.ListN.{getD, length-map}
 use Rattle.bits.specs.Bit.{bit}
 use Rattle.model.specs.Words.{wordOf, support}
 use Rattle.model.specs.Clifford.{Touched, absorbImage, touchAll, absorbImages, absorbWord}
+use Rattle.model.specs.Lists.{allOf, anyOf, member}
 use Rattle.layout.specs.declared.Shape.{Shape}
 use Rattle.layout.specs.Rows.{fSlot}
 use Rattle.layout.specs.Only.{only-of}
@@ -16,13 +17,11 @@ use Rattle.axes.specs.View.{wordAt, axis-word}
 use Rattle.axes.specs.Held.{held-rows, held-words}
 use Rattle.words_wellformed.specs.HeldImages.{IsQuarters}
 use Rattle.clifford_states.specs.Slots.{slot-absorbed, image-absorbed}
-use Rattle.model.specs.Lists.{allOf, anyOf, member}
 use Rattle.clifford_states.specs.SetBits.{touchAll-axes}
-use Rattle.absorbing.specs.AxisQubits.{AxisAt}
-use Rattle.absorbing.specs.Turning.{TurnsPre, ImagesTurned}
-use Rattle.clifford.specs.Holds.{Holds, SomeTouched, fRows, LeftF, TouchedAs, as-slots, as-limit, left-then, granted-left}
+use Rattle.clifford.specs.Holds.{Holds, SomeTouched, fRows, LeftF, TouchedAs, as-slots, as-limit, left-then, granted-left, AxisAt}
 use Rattle.clifford.specs.declared.Touching.{Touching}
 use Rattle.clifford.specs.declared.Touching.the-variants.{Slots, ExpansionLimit}
+use Rattle.absorbing.specs.Turning.{TurnsPre, ImagesTurned}
 
 -- angle k, which is 2, 4 or 6, about axis id
 pub record AbsorbAt (z : Shape) (n m id k : ℕ) (ws xs : List ℕ) (t : Touched) : Type 0 where
@@ -38,7 +37,7 @@ AxisLeft z n m id ws xs r ws′ xs′ =
 
 -- ---- the images change
 
-module _ {z : Shape} {n m b k : ℕ} {ws xs ws′ xs′ : List ℕ} {t : Touched} (g : Granted z ws xs) (h : Holds z n m ws xs t)
+module _ {z : Shape} {n m b k : ℕ} {ws xs ws′ xs′ : List ℕ} {t : Touched} (h : Holds z n m ws xs t)
     (turned : ImagesTurned z (3 * m) b k ws xs ws′ xs′) where
   room3 : axisPlace (z .l) n ≤ z .limit - 3 * m * (2 * z .l)
   room3 = omega (arith, h .room)
@@ -107,7 +106,7 @@ module _ {z : Shape} {n m id k : ℕ} {ws xs ws₁ xs₁ : List ℕ} {r : Touchi
       pub absorb-holds : {ws₂ xs₂ : List ℕ} → ImagesTurned z (3 * m₁) a k ws₁ xs₁ ws₂ xs₂
           → TouchedAs z n (Slots m₁) ws₂ xs₂ (absorbWord (z .l) t (wordOf (t .store .axes) id) k)
       unfolding absorbWord
-      absorb-holds turned = as-slots (rw same-axis at (turned-holds now-granted now-holds turned))
+      absorb-holds turned = as-slots (rw same-axis at (turned-holds now-holds turned))
 
     pub absorb-turns : SomeTouched (λ (t : Touched). AbsorbAt z n m id k ws xs t) → TurnsPre z (3 * m₁) a k ws₁ xs₁
     absorb-turns s = turns-there (s .it)
@@ -117,4 +116,4 @@ module _ {z : Shape} {n m id k : ℕ} {ws xs ws₁ xs₁ : List ℕ} {r : Touchi
 
     pub absorb-left : SomeTouched (λ (t : Touched). AbsorbAt z n m id k ws xs t) → {ws₂ xs₂ : List ℕ}
         → ImagesTurned z (3 * m₁) a k ws₁ xs₁ ws₂ xs₂ → LeftF z ws xs ws₂ xs₂
-    absorb-left s turned = left-then (touched .0) (turned-left (now-granted (s .it)) (now-holds (s .it)) turned)
+    absorb-left s turned = left-then (touched .0) (turned-left (now-holds (s .it)) turned)

@@ -4,22 +4,22 @@ use mathlib.Core.List.{List, _∷_, _++_}
 use Prim.Native.Nat.{ℕ, _+_, _*_, _≤_, _<_, suc, _-_, _^_}
 use native.Mathlib.Omega.{arith}
 use lib.ListN.{length, getD}
-use Rattle.model.specs.Words.{wordOf, setBits, support}
-use Rattle.model.specs.Clifford.{Touched, touch, touchAll}
-use Rattle.layout.specs.declared.Shape.{Shape}
-use Rattle.layout.specs.Words.{axisPlace}
-use Rattle.words_wellformed.specs.Inside.{Inside, inside-support}
-use Rattle.pauli.specs.Word.{xWord, zWord}
 use lib.Bits.{bitOr, bitAnd}
 use lib.Count.{trailingZeros}
 use Rattle.bits.specs.LowestBit.{clear-lt}
+use Rattle.pauli.specs.Word.{xWord, zWord}
+use Rattle.model.specs.Words.{wordOf, setBits, support}
+use Rattle.model.specs.Clifford.{Touched, touch, touchAll}
 use Rattle.theory.specs.Every.{Every}
 use Rattle.theory.specs.Peak.{touchAll-rises}
+use Rattle.theory.specs.Ids.{id-in}
+use Rattle.layout.specs.declared.Shape.{Shape}
+use Rattle.layout.specs.Words.{axisPlace}
+use Rattle.words_wellformed.specs.Inside.{inside-support}
 use Rattle.clifford_states.specs.SetBits.{setBits-none, setBits-lowest, qubitsAt, qubitsFrom, support-from, qubits-end, qubits-next}
 use Rattle.clifford_states.specs.SetBits.{touchAll-append, touchAll-axes, support-number}
-use Rattle.theory.specs.Ids.{id-in}
 use Rattle.clifford.specs.Holds.{Holds, SomeTouched, LeftF, TouchedAs, as-slots, as-limit, HeldAt, left-none, left-then, granted-left}
-use Rattle.clifford.specs.Holds.{axis-in, axis-number}
+use Rattle.clifford.specs.Holds.{axis-in, axis-number, AxisAt}
 use Rattle.clifford.specs.Touching.{TouchAt}
 use Rattle.clifford.specs.declared.Touching.{Touching}
 use Rattle.clifford.specs.declared.Touching.the-variants.{Slots, ExpansionLimit}
@@ -42,12 +42,12 @@ pub record BitsNow (z : Shape) (n j w : ℕ) (ws xs : List ℕ) (m rest : ℕ) (
   pub at : HeldAt z n m ws xs now
   pub qubits : Every (λ q. q < z .qubits) (setBits 64 (64 * j) rest)
 
-pub record Bits (z : Shape) (n m₀ j w : ℕ) (ws₀ xs₀ ws xs : List ℕ) (m rest : ℕ) : Type 0 where
+pub record BitsLoop (z : Shape) (n m₀ j w : ℕ) (ws₀ xs₀ ws xs : List ℕ) (m rest : ℕ) : Type 0 where
   pub small : rest < 2 ^ 64
   pub left : LeftF z ws₀ xs₀ ws xs
   pub at : (t : Touched) → BitsAt z n m₀ j w ws₀ xs₀ t → BitsNow z n j w ws xs m rest t
 
-pub bits-first : {z : Shape} {n m j w : ℕ} {ws xs : List ℕ} → w < 2 ^ 64 → Bits z n m j w ws xs ws xs m w
+pub bits-first : {z : Shape} {n m j w : ℕ} {ws xs : List ℕ} → w < 2 ^ 64 → BitsLoop z n m j w ws xs ws xs m w
 bits-first b = record { small = b; left = left-none _ _ _; at = λ t h. record { now = t; whole = refl; at = h .at; qubits = h .qubits } }
 
 -- what a turn's call leaves, where it touches qubit q
@@ -55,7 +55,7 @@ abbrev pub TouchLeft : Shape → ℕ → ℕ → ℕ → List ℕ → List ℕ �
 TouchLeft z n m q ws xs r ws′ xs′ =
     LeftF z ws xs ws′ xs′ × ((t : Touched) → TouchAt z n m q ws xs t → TouchedAs z n r ws′ xs′ (touch (z .l) t q))
 
-module _ {z : Shape} {n m₀ j w : ℕ} {ws₀ xs₀ ws xs : List ℕ} {m rest q : ℕ} (b : Bits z n m₀ j w ws₀ xs₀ ws xs m rest)
+module _ {z : Shape} {n m₀ j w : ℕ} {ws₀ xs₀ ws xs : List ℕ} {m rest q : ℕ} (b : BitsLoop z n m₀ j w ws₀ xs₀ ws xs m rest)
     (some : rest ≡ 0 → ⊥) (place : q ≡ 64 * j + trailingZeros 64 rest) where
   -- the lowest bit first
   lowest : setBits 64 (64 * j) rest ≡ q ∷ setBits 64 (64 * j) (bitAnd rest (rest - 1))
@@ -63,7 +63,8 @@ module _ {z : Shape} {n m₀ j w : ℕ} {ws₀ xs₀ ws xs : List ℕ} {m rest q
       setBits-lowest 64 (64 * j) rest (omega arith) (b .small)
       ∙ ap (λ (x : ℕ). x ∷ setBits 64 (64 * j) (bitAnd rest (rest - 1))) (sym place)
 
-  split : {t : Touched} → BitsNow z n j w ws xs m rest t → (q < z .qubits) × Every (λ i. i < z .qubits) (setBits 64 (64 * j) (bitAnd rest (rest - 1)))
+  split : {t : Touched} → BitsNow z n j w ws xs m rest t
+      → (q < z .qubits) × Every (λ i. i < z .qubits) (setBits 64 (64 * j) (bitAnd rest (rest - 1)))
   split k = subst (Every (λ i. i < z .qubits)) lowest (k .qubits)
 
   pub bits-turn : SomeTouched (λ (t : Touched). BitsAt z n m₀ j w ws₀ xs₀ t) → SomeTouched (λ (t : Touched). TouchAt z n m q ws xs t)
@@ -82,7 +83,7 @@ module _ {z : Shape} {n m₀ j w : ℕ} {ws₀ xs₀ ws xs : List ℕ} {m rest q
     said : {t : Touched} (k : BitsNow z n j w ws xs m rest t) → TouchedAs z n r ws′ xs′ (touch (z .l) (k .now) q)
     said k = call .1 (k .now) (record { at = k .at; qubit = split k .0 })
 
-    pub bits-next : (m′ : ℕ) → r ≡ Slots m′ → Bits z n m₀ j w ws₀ xs₀ ws′ xs′ m′ (bitAnd rest (rest - 1))
+    pub bits-next : (m′ : ℕ) → r ≡ Slots m′ → BitsLoop z n m₀ j w ws₀ xs₀ ws′ xs′ m′ (bitAnd rest (rest - 1))
     bits-next m′ e = record {
       small = omega (arith, clear-lt rest (let p : 0 < rest = omega arith in p), b .small);
       left = bits-left;
@@ -108,7 +109,7 @@ module _ {z : Shape} {n m₀ j w : ℕ} {ws₀ xs₀ ws xs : List ℕ} {m rest q
         ))
 
 -- all are touched
-pub bits-end : {z : Shape} {n m₀ j w : ℕ} {ws₀ xs₀ ws xs : List ℕ} {m rest : ℕ} → Bits z n m₀ j w ws₀ xs₀ ws xs m rest → rest ≡ 0
+pub bits-end : {z : Shape} {n m₀ j w : ℕ} {ws₀ xs₀ ws xs : List ℕ} {m rest : ℕ} → BitsLoop z n m₀ j w ws₀ xs₀ ws xs m rest → rest ≡ 0
     → (t : Touched) → BitsAt z n m₀ j w ws₀ xs₀ t → TouchedAs z n (Slots m) ws xs (touchAll (z .l) t (setBits 64 (64 * j) w))
 unfolding touchAll
 bits-end {z} {n} {j = j} {ws = ws} {xs} {m} b e t h =
@@ -117,11 +118,6 @@ bits-end {z} {n} {j = j} {ws = ws} {xs} {m} b e t h =
     ∙ ap (touchAll (z .l) (k .now)) (setBits-none 64 (64 * j)))) (k .at .holds))
 
 -- ---- the qubits of an axis
-
-pub record AxisAt (z : Shape) (n m id : ℕ) (ws xs : List ℕ) (t : Touched) : Type 0 where
-  pub at : HeldAt z n m ws xs t
-  pub id-in : id < n
-  pub inside : Inside (z .l) (z .qubits) (wordOf (t .store .axes) id)
 
 pub axis-small : {z : Shape} {n m id : ℕ} {ws xs : List ℕ} {t : Touched} → AxisAt z n m id ws xs t → axisPlace (z .l) id + 2 * z .l < 2 ^ 64
 axis-small h = omega (arith, axis-in (h .at .holds) (h .id-in), h .at .granted .sized .limit)
@@ -134,19 +130,19 @@ pub record AxisNow (z : Shape) (n id : ℕ) (ws xs : List ℕ) (m j : ℕ) (t : 
   pub axes : now .store .axes ≡ t .store .axes
   pub at : HeldAt z n m ws xs now
 
-pub record Numbers (z : Shape) (n m₀ id : ℕ) (ws₀ xs₀ ws xs : List ℕ) (m j : ℕ) : Type 0 where
+pub record NumbersLoop (z : Shape) (n m₀ id : ℕ) (ws₀ xs₀ ws xs : List ℕ) (m j : ℕ) : Type 0 where
   pub index : j ≤ z .l
   pub left : LeftF z ws₀ xs₀ ws xs
   pub at : (t : Touched) → AxisAt z n m₀ id ws₀ xs₀ t → AxisNow z n id ws xs m j t
 
 -- the axis's word is there at every turn
-pub numbers-word : {z : Shape} {n m₀ id : ℕ} {ws₀ xs₀ ws xs : List ℕ} {m j a : ℕ} → Numbers z n m₀ id ws₀ xs₀ ws xs m j
+pub numbers-word : {z : Shape} {n m₀ id : ℕ} {ws₀ xs₀ ws xs : List ℕ} {m j a : ℕ} → NumbersLoop z n m₀ id ws₀ xs₀ ws xs m j
     → SomeTouched (λ (t : Touched). AxisAt z n m₀ id ws₀ xs₀ t) → a ≡ axisPlace (z .l) id → a + 2 * z .l ≤ length ws
 numbers-word b s e =
     let k = b .at (s .t) (s .it) in
     omega (arith, axis-in (k .at .holds) (s .it .id-in), k .at .granted .words-long)
 
-pub numbers-first : {z : Shape} {n m id : ℕ} {ws xs : List ℕ} → Numbers z n m id ws xs ws xs m 0
+pub numbers-first : {z : Shape} {n m id : ℕ} {ws xs : List ℕ} → NumbersLoop z n m id ws xs ws xs m 0
 numbers-first {z} {id = id} = record {
   index = omega arith;
   left = left-none _ _ _;
@@ -164,7 +160,7 @@ abbrev pub BitsLeft : Shape → ℕ → ℕ → ℕ → ℕ → List ℕ → Lis
 BitsLeft z n m j w ws xs r ws′ xs′ =
     LeftF z ws xs ws′ xs′ × ((t : Touched) → BitsAt z n m j w ws xs t → TouchedAs z n r ws′ xs′ (touchAll (z .l) t (setBits 64 (64 * j) w)))
 
-module _ {z : Shape} {n m₀ id : ℕ} {ws₀ xs₀ ws xs : List ℕ} {m j a w : ℕ} (b : Numbers z n m₀ id ws₀ xs₀ ws xs m j) (more : j < z .l)
+module _ {z : Shape} {n m₀ id : ℕ} {ws₀ xs₀ ws xs : List ℕ} {m j a w : ℕ} (b : NumbersLoop z n m₀ id ws₀ xs₀ ws xs m j) (more : j < z .l)
     (place : a ≡ axisPlace (z .l) id) (read : w ≡ bitOr (getD ws (a + j) 0) (getD ws (a + (z .l + j)) 0)) where
   module _ {t : Touched} (h : AxisAt z n m₀ id ws₀ xs₀ t) where
     word : List ℕ
@@ -203,7 +199,7 @@ module _ {z : Shape} {n m₀ id : ℕ} {ws₀ xs₀ ws xs : List ℕ} {m j a w :
     pub numbers-left : LeftF z ws₀ xs₀ ws′ xs′
     numbers-left = left-then (b .left) (call .0)
 
-    pub numbers-next : (m′ : ℕ) → r ≡ Slots m′ → Numbers z n m₀ id ws₀ xs₀ ws′ xs′ m′ (j + 1)
+    pub numbers-next : (m′ : ℕ) → r ≡ Slots m′ → NumbersLoop z n m₀ id ws₀ xs₀ ws′ xs′ m′ (j + 1)
     numbers-next m′ e = record {
       index = omega arith;
       left = numbers-left;
@@ -233,7 +229,7 @@ module _ {z : Shape} {n m₀ id : ℕ} {ws₀ xs₀ ws xs : List ℕ} {m j a w :
               (qubitsFrom (z .l) (wordOf (t .store .axes) id) (suc j) (z .l - suc j)),
         ))
 
-pub numbers-end : {z : Shape} {n m₀ id : ℕ} {ws₀ xs₀ ws xs : List ℕ} {m j : ℕ} → Numbers z n m₀ id ws₀ xs₀ ws xs m j → z .l ≤ j
+pub numbers-end : {z : Shape} {n m₀ id : ℕ} {ws₀ xs₀ ws xs : List ℕ} {m j : ℕ} → NumbersLoop z n m₀ id ws₀ xs₀ ws xs m j → z .l ≤ j
     → (t : Touched) → AxisAt z n m₀ id ws₀ xs₀ t
     → TouchedAs z n (Slots m) ws xs (touchAll (z .l) t (support (z .l) (wordOf (t .store .axes) id)))
 unfolding touchAll

@@ -1,36 +1,38 @@
 -- Images change as angle k about a word is absorbed: as the model's `absorbImage` has it. Assumes nothing.
 use mathlib.Core.Path.{_≡_, subst, refl, sym, ap, ap₂, _∙_}
 use mathlib.Core.List.{List, [], _∷_}
-use Prim.Native.Nat.{ℕ, _+_, _*_, _/_, _%_, _≤_, _<_, _-_}
-use native.Mathlib.Omega.{arith}
-use lib.ListN.{length, getD}
-use Rattle.store.specs.Part.{put, part-length}
-use Rattle.store.specs.Row.{row, Written}
-use Rattle.model.specs.Words.{Value, asValue, scaled, multiply}
-use Rattle.model.specs.Clifford.{absorbImage}
-use Rattle.layout.specs.declared.Shape.{Shape}
-use Rattle.layout.specs.Rows.{fPhase, rowCount}
-use Rattle.layout.specs.Only.{Only, only-none, only-then}
-use Rattle.layout.specs.Words.{slotPlace, slot-ends, slots-le, slot-in, OnlyWords, words-none, words-then, words-in, words-part, slot-behind}
-use Rattle.layout.specs.Shape.{longestRow}
-use Rattle.axes.specs.View.{wordAt}
-use Rattle.words_wellformed.specs.HeldImages.{IsQuarters}
 use mathlib.Core.Logic.{inl, inr, _≢_}
 use mathlib.Core.Bool.{Bool, true, false, not}
+use Prim.Native.Nat.{ℕ, _+_, _*_, _/_, _%_, _≤_, _<_, _-_}
+use native.Mathlib.Omega.{arith}
 use native.Mathlib.Decide.{ℕ-discrete}
+use lib.ListN.{length, getD}
 use borrow.Author.Tests.{eq-eqb, ne-eqb}
+use Rattle.store.specs.Part.{put, part-length}
+use Rattle.store.specs.Row.{row, Written}
 use Rattle.pauli.specs.Word.{anticommutes, xorWords, phase}
 use Rattle.pauli.specs.Letter.{other}
 use Rattle.pauli.specs.ProductLaws.{xorWords-length, phase-lt}
-use Rattle.theory.specs.Cases.{if-true, if-false}
 use Rattle.product.specs.Product.{StoredPre, StoredProduct}
+use Rattle.model.specs.Words.{Value, asValue, scaled, multiply}
+use Rattle.model.specs.Clifford.{absorbImage}
+use Rattle.theory.specs.Cases.{if-true, if-false}
+use Rattle.layout.specs.declared.Shape.{Shape}
+use Rattle.layout.specs.Rows.{fPhase, rowCount}
+use Rattle.layout.specs.Only.{Only, only-none, only-then}
+use Rattle.layout.specs.Words.{slotPlace, slot-ends, slots-le, slot-in, OnlyWords, words-none, words-then, words-in, words-part}
+use Rattle.layout.specs.Words.{slot-behind}
+use Rattle.layout.specs.Shape.{longestRow}
+use Rattle.axes.specs.View.{wordAt}
+use Rattle.words_wellformed.specs.HeldImages.{IsQuarters}
 use Rattle.words_wellformed.specs.Conjugation.{value-eq}
 use Rattle.clifford.specs.Holds.{imageIn}
 use Rattle.clifford.specs.Images.{ImageThere, ImageSet, image-other, image-put, image-phase, image-stays}
 
 pub phase-added : {s t : List ℕ} {u i : ℕ} (e : ℕ) {old : ℕ} → old ≡ getD (row s u fPhase) i 0 → Written s u fPhase i ((old % 4 + e) % 4) t
     → Written s u fPhase i ((getD (row s u fPhase) i 0 + e) % 4) t
-phase-added {s} {t} {u} {i} e {old} f w = subst (λ (v : ℕ). Written s u fPhase i v t) (let g : (old % 4 + e) % 4 ≡ (getD (row s u fPhase) i 0 + e) % 4 = omega arith in g) w
+phase-added {s} {t} {u} {i} e {old} f w =
+    subst (λ (v : ℕ). Written s u fPhase i v t) (let g : (old % 4 + e) % 4 ≡ (getD (row s u fPhase) i 0 + e) % 4 = omega arith in g) w
 
 -- ---- an image changes as angle k about the word at b is absorbed
 
@@ -84,21 +86,21 @@ module _ {z : Shape} {i b k : ℕ} {ws xs : List ℕ} (pre : TurnPre z i b k ws 
   -- whether it changes: said of the words that were read
   module _ {r : Bool} {p q : List ℕ} {at : ℕ} (place : at ≡ slotPlace (z .limit) (z .l) i)
       (said : r ≡ anticommutes (z .l) p q) (b-read : p ≡ wordAt (z .l) ws b) (i-read : q ≡ wordAt (z .l) ws at) where
-    told : r ≡ anticommutes (z .l) (wordAt (z .l) ws b) (imageIn z ws xs i .word)
+    as-read : r ≡ anticommutes (z .l) (wordAt (z .l) ws b) (imageIn z ws xs i .word)
     unfolding imageIn
-    told = said ∙ ap₂ (anticommutes (z .l)) b-read (i-read ∙ ap (wordAt (z .l) ws) place)
+    as-read = said ∙ ap₂ (anticommutes (z .l)) b-read (i-read ∙ ap (wordAt (z .l) ws) place)
 
     -- it commutes
     pub turned-not : r ≡ false → ImageTurned z i b k ws xs ws xs
     unfolding absorbImage
-    turned-not e = rw (if-true {A = Value} _ _ (ap not (sym told ∙ e))) (image-stays z i ws xs)
+    turned-not e = rw (if-true {A = Value} _ _ (ap not (sym as-read ∙ e))) (image-stays z i ws xs)
 
     -- "k = 4 gives -P"
     pub turned-half : {xs′ : List ℕ} → r ≡ true → k ≡ 4 → Written xs (z .u) fPhase i ((getD (row xs (z .u) fPhase) i 0 + 2) % 4) xs′
         → ImageTurned z i b k ws xs ws xs′
     unfolding absorbImage
     turned-half e f w =
-        rw (if-false {A = Value} _ _ (ap not (sym told ∙ e)), if-true {A = Value} _ _ (eq-eqb k 4 f))
+        rw (if-false {A = Value} _ _ (ap not (sym as-read ∙ e)), if-true {A = Value} _ _ (eq-eqb k 4 f))
         (unfold scaled imageIn in (image-phase (pre .there) _ w))
 
     -- "k = 2 gives iBP, k = -2 gives -iBP"
@@ -106,10 +108,11 @@ module _ {z : Shape} {i b k : ℕ} {ws xs : List ℕ} (pre : TurnPre z i b k ws 
         → Written xs (z .u) fPhase i ((getD (row xs (z .u) fPhase) i 0 + (e + k / 2)) % 4) xs′ → ImageTurned z i b k ws xs ws′ xs′
     unfolding absorbImage
     turned-quarter {ws′} {xs′} {e} t f s w =
-        rw (if-false {A = Value} _ _ (ap not (sym told ∙ t)), if-false {A = Value} _ _ (ne-eqb k 4 f))
+        rw (if-false {A = Value} _ _ (ap not (sym as-read ∙ t)), if-false {A = Value} _ _ (ne-eqb k 4 f))
         (subst (λ (v : Value). ImageSet z i v ws xs ws′ xs′) (sym value) (image-put (pre .there) _ _ (pre .words-long) long laid w))
       where
-        laid : ws′ ≡ put ws (slotPlace (z .limit) (z .l) i) (xorWords (wordAt (z .l) ws b) (wordAt (z .l) ws (slotPlace (z .limit) (z .l) i)))
+        laid : ws′ ≡ put ws (slotPlace (z .limit) (z .l) i)
+            (xorWords (wordAt (z .l) ws b) (wordAt (z .l) ws (slotPlace (z .limit) (z .l) i)))
         laid = rw place at (s .store)
 
         its-phase : e ≡ phase (z .l) (wordAt (z .l) ws b) (wordAt (z .l) ws (slotPlace (z .limit) (z .l) i))

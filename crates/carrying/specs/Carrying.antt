@@ -7,6 +7,8 @@ use lib.ListN.{length, getD}
 use Rattle.bits.specs.Bit.{bit}
 use Rattle.model.specs.Words.{Value, wordOf, asValue, Store, idOf, intern}
 use Rattle.model.specs.Clifford.{Touched, imageWords, wordImage}
+use Rattle.model.specs.Lists.{anyOf, member}
+use Rattle.theory.specs.Ids.{id-stored, id-in}
 use Rattle.layout.specs.declared.Shape.{Shape}
 use Rattle.layout.specs.Rows.{fSlot, fPhase, axesRows}
 use Rattle.layout.specs.Only.{Only, only-none}
@@ -15,21 +17,20 @@ use Rattle.layout.specs.Words.{kept-part, slot-counted}
 use Rattle.layout.specs.Shape.{longestRow}
 use Rattle.axes.specs.View.{wordAt}
 use Rattle.axes.specs.Held.{sizesOf, held-count, held-stored}
-use Rattle.model.specs.Lists.{anyOf, member}
-use Rattle.words_wellformed.specs.Conjugation.{value-eq}
-use Rattle.theory.specs.Ids.{id-stored, id-in}
 use Rattle.axes.specs.declared.Interned.{Interned}
 use Rattle.axes.specs.declared.Interned.the-variants.{Id}
 use Rattle.axes.specs.declared.Sizes.{Sizes}
 use Rattle.axes.specs.Intern.{InternPre, Stores, intern-old, countWith}
 use Rattle.axes.specs.Stored.{HasId, NoRoom, InternedAs, interned-is}
+use Rattle.words_wellformed.specs.Conjugation.{value-eq}
+use Rattle.words_wellformed.specs.StoredWords.{StoredWords}
+use Rattle.clifford.specs.Holds.{imageIn, maskPlace, Holds, AxisAt, holds-behind, axis-in}
 use Rattle.carrying.specs.Fixed.{NoneMarked, fixed-image}
 use Rattle.carrying.specs.Letters.{axisWord, CarryAt, WordCarried}
 use Rattle.carrying.specs.Scratch.{scratchValue}
 use Rattle.carrying.specs.declared.Carried.{Carried}
 use Rattle.carrying.specs.declared.Carried.the-variants.{To, ExpansionLimit}
 use Rattle.carrying.specs.declared.CarriedAxis.{CarriedAxis}
-use Rattle.clifford.specs.Holds.{imageIn, maskPlace, Holds, WellHeld, HeldAt, holds-behind, axis-in}
 
 -- the image of axis a, and the store once it is in
 unfoldable pub imageOfAxis : ℕ → Touched → ℕ → Value
@@ -38,10 +39,10 @@ imageOfAxis l t a = wordImage l (t .held) (wordOf (t .store .axes) a)
 unfoldable pub carriedStore : ℕ → Touched → ℕ → Store
 carriedStore l t a = intern l (imageWords l (t .held)) (t .store) (imageOfAxis l t a .word)
 
+-- id is an axis, and every axis is a word that is stored once
 pub record CarryPre (z : Shape) (n m id : ℕ) (ws xs : List ℕ) (t : Touched) : Type 0 where
-  pub at : HeldAt z n m ws xs t
-  pub id-in : id < n
-  pub well : WellHeld z t
+  pub axis : AxisAt z n m id ws xs t
+  pub stored : StoredWords (z .l) (t .store .axes)
 
 -- what carrying leaves of both stores: where an axis is stored, rows that are kept for axes may change
 pub record LeftCarried (z : Shape) (ws xs ws′ xs′ : List ℕ) : Type 0 where
@@ -64,7 +65,8 @@ pub record CarriedAs (z : Shape) (m id : ℕ) (t : Touched) (r : Carried) (ws xs
   pub to : (c : CarriedAxis) → r ≡ To c → CarriedTo z m id t ws xs c
   pub refused : r ≡ ExpansionLimit → z .limit < carriedStore (z .l) t id .peak
 
-pub as-to : {z : Shape} {m id : ℕ} {t : Touched} {ws xs : List ℕ} {c : CarriedAxis} → CarriedTo z m id t ws xs c → CarriedAs z m id t (To c) ws xs
+pub as-to : {z : Shape} {m id : ℕ} {t : Touched} {ws xs : List ℕ} {c : CarriedAxis} → CarriedTo z m id t ws xs c
+    → CarriedAs z m id t (To c) ws xs
 as-to {z} {m} {id} {t} {ws} {xs} {c} h = record {
   to = λ d e. let f : c ≡ d = cc in subst (CarriedTo z m id t ws xs) f h;
   refused = λ e. let f : _≡_ {A = ℕ} 0 1 = cc in absurd (omega arith);
@@ -79,21 +81,21 @@ as-refused h = record {
 
 module _ {z : Shape} {n m id : ℕ} {ws xs : List ℕ} {t : Touched} (h : CarryPre z n m id ws xs t) where
   axes-count : length (t .store .axes) ≡ n
-  axes-count = held-count (h .at .holds .axes)
+  axes-count = held-count (h .axis .at .holds .axes)
 
   id-count : id < length (t .store .axes)
-  id-count = omega (arith, axes-count, h .id-in)
+  id-count = omega (arith, axes-count, h .axis .id-in)
 
   pub carry-at : CarryAt z id ws xs t
-  carry-at = record { held = record { n = n; m = m; at = h .at; id-in = h .id-in }; inside = h .well .axes-inside .words id id-count }
+  carry-at = record { held = record { n = n; m = m; at = h .axis .at; id-in = h .axis .id-in }; inside = h .axis .inside }
 
   pub carry-words : (axisPlace (z .l) id + 2 * z .l ≤ z .limit) × (z .limit + 16 * z .l ≤ length ws)
-  carry-words = (axis-in (h .at .holds) (h .id-in), h .at .granted .words-long)
+  carry-words = (axis-in (h .axis .at .holds) (h .axis .id-in), h .axis .at .granted .words-long)
 
   pub carry-numbers : (n < longestRow) × (m * (6 * z .l) ≤ 1048576) × (z .limit ≤ 1048576) × (z .l ≤ 64)
   carry-numbers =
-      let r = h .at .holds .room in
-      let s = h .at .granted .sized in
+      let r = h .axis .at .holds .room in
+      let s = h .axis .at .granted .sized in
       (omega (arith, s .words-row n (omega arith), s .u-small), omega (arith, s .limit), s .limit, s .few)
 
   -- F leaves it: it has its id, and nothing is stored
@@ -102,29 +104,30 @@ module _ {z : Shape} {n m id : ℕ} {ws xs : List ℕ} {t : Touched} (h : CarryP
   unfolding imageOfAxis carriedStore
   fixed-to {a} place mask marked =
       as-to (record {
-        id-is = sym (ap₂ (λ (st : Store) (v : Value). idOf (st .axes) (v .word)) same image ∙ h .well .stored .distinct id id-count);
-        id-in = h .id-in;
+        id-is = sym (ap₂ (λ (st : Store) (v : Value). idOf (st .axes) (v .word)) same image ∙ h .stored .distinct id id-count);
+        id-in = h .axis .id-in;
         turns-are = sym (ap (λ (v : Value). v .turns) image);
         small = omega arith;
-        holds = subst (λ (st : Store). Holds z n m ws xs (record { store = st; held = t .held })) (sym same) (h .at .holds);
+        holds = subst (λ (st : Store). Holds z n m ws xs (record { store = st; held = t .held })) (sym same) (h .axis .at .holds);
       })
     where
       image : wordImage (z .l) (t .held) (axisWord id t) ≡ asValue (axisWord id t)
-      image = fixed-image carry-at (h .well .stored .words id id-count) place (subst (λ (x : ℕ). NoneMarked (z .l) ws a x (z .l)) mask marked)
+      image =
+          fixed-image carry-at (h .stored .words id id-count) place (subst (λ (x : ℕ). NoneMarked (z .l) ws a x (z .l)) mask marked)
 
       same : intern (z .l) (imageWords (z .l) (t .held)) (t .store) (wordImage (z .l) (t .held) (axisWord id t) .word) ≡ t .store
       same =
           ap (λ (v : Value). intern (z .l) (imageWords (z .l) (t .held)) (t .store) (v .word)) image
           ∙ intern-old (z .l) (imageWords (z .l) (t .held)) (t .store) (axisWord id t)
-          (omega (arith, h .well .stored .distinct id id-count, id-count))
+          (omega (arith, h .stored .distinct id id-count, id-count))
 
   -- it is worked out behind the limit
   module _ {ws₁ : List ℕ} {e : ℕ} (word : WordCarried z id ws t ws₁ e) where
     now-holds : Holds z n m ws₁ xs t
-    now-holds = holds-behind (word .words) (h .at .holds)
+    now-holds = holds-behind (word .words) (h .axis .at .holds)
 
     long₁ : z .limit + 16 * z .l ≤ length ws₁
-    long₁ = omega (arith, h .at .granted .words-long, word .words .long)
+    long₁ = omega (arith, h .axis .at .granted .words-long, word .words .long)
 
     the-word : wordAt (z .l) ws₁ (z .limit) ≡ imageOfAxis (z .l) t id .word
     unfolding imageOfAxis scratchValue
@@ -140,7 +143,7 @@ module _ {z : Shape} {n m id : ℕ} {ws xs : List ℕ} {t : Touched} (h : CarryP
 
     others-are : imageWords (z .l) (t .held) ≡ m * (6 * z .l)
     unfolding imageWords
-    others-are = ap (λ (x : ℕ). x * (6 * z .l)) (h .at .holds .count)
+    others-are = ap (λ (x : ℕ). x * (6 * z .l)) (h .axis .at .holds .count)
 
     store-is : carriedStore (z .l) t id ≡ intern (z .l) (m * (6 * z .l)) (t .store) (wordAt (z .l) ws₁ (z .limit))
     unfolding carriedStore
@@ -158,7 +161,8 @@ module _ {z : Shape} {n m id : ℕ} {ws xs : List ℕ} {t : Touched} (h : CarryP
       module _ (f : r ≡ Rattle.axes.specs.declared.Interned.the-variants.ExpansionLimit) where
         no-room : NoRoom (sizesOf z n) (m * (6 * z .l)) ws₁ xs (t .store) (wordAt (z .l) ws₁ (z .limit)) ws₂ xs₂
         no-room =
-            subst (λ (x : Interned). InternedAs (sizesOf z n) (m * (6 * z .l)) ws₁ xs (t .store) (wordAt (z .l) ws₁ (z .limit)) x ws₂ xs₂) f meant
+            subst (λ (x : Interned). InternedAs (sizesOf z n) (m * (6 * z .l)) ws₁ xs (t .store)
+            (wordAt (z .l) ws₁ (z .limit)) x ws₂ xs₂) f meant
 
         pub limit-left : LeftCarried z ws xs ws₂ xs₂
         limit-left = record { words = rw (no-room .kept) (words-kept (word .words)); numbers = no-room .numbers }
@@ -169,7 +173,8 @@ module _ {z : Shape} {n m id : ℕ} {ws xs : List ℕ} {t : Touched} (h : CarryP
       module _ {new : ℕ} (f : r ≡ Id new) where
         has : HasId (sizesOf z n) (m * (6 * z .l)) ws₁ xs (t .store) (wordAt (z .l) ws₁ (z .limit)) new ws₂ xs₂
         has =
-            subst (λ (x : Interned). InternedAs (sizesOf z n) (m * (6 * z .l)) ws₁ xs (t .store) (wordAt (z .l) ws₁ (z .limit)) x ws₂ xs₂) f meant
+            subst (λ (x : Interned). InternedAs (sizesOf z n) (m * (6 * z .l)) ws₁ xs (t .store)
+            (wordAt (z .l) ws₁ (z .limit)) x ws₂ xs₂) f meant
 
         kept₂ : KeptFrom (z .limit - m * (6 * z .l)) ws₁ ws₂
         kept₂ = has .kept
@@ -183,7 +188,8 @@ module _ {z : Shape} {n m id : ℕ} {ws xs : List ℕ} {t : Touched} (h : CarryP
             let room : 3 * m * (2 * z .l) ≤ z .limit = omega (arith, now-holds .room) in
             value-eq (ap (λ (s : List ℕ). getD s i 0) (has .numbers .rows fPhase (omega arith) refl))
             (kept-part kept₂ (slotPlace (z .limit) (z .l) i) (2 * z .l)
-            (omega (arith, slot-counted (z .limit) (z .l) (3 * m) room i b)) (omega (arith, slot-in (z .limit) (z .l) (3 * m) room i b, long₁)))
+            (omega (arith, slot-counted (z .limit) (z .l) (3 * m) room i b))
+            (omega (arith, slot-in (z .limit) (z .l) (3 * m) room i b, long₁)))
 
         next-holds : Holds z (countWith n new) m ws₂ xs₂ (record {
           store = intern (z .l) (m * (6 * z .l)) (t .store) (wordAt (z .l) ws₁ (z .limit));
@@ -193,9 +199,9 @@ module _ {z : Shape} {n m id : ℕ} {ws xs : List ℕ} {t : Touched} (h : CarryP
         next-holds = record {
           axes = has .held;
           peak-in = has .fits;
-          count = h .at .holds .count;
+          count = h .axis .at .holds .count;
           room = has .room (now-holds .room);
-          slots = λ q b. ap (λ (s : List ℕ). getD s q 0) (has .numbers .rows fSlot (omega arith) refl) ∙ h .at .holds .slots q b;
+          slots = λ q b. ap (λ (s : List ℕ). getD s q 0) (has .numbers .rows fSlot (omega arith) refl) ∙ h .axis .at .holds .slots q b;
           images = λ i b. image-same i b ∙ now-holds .images i b;
           mask = λ q b g. ap (λ (x : ℕ). bit x (q % 64)) (kept₂ .kept _ (omega arith)) ∙ now-holds .mask q b g;
         }
@@ -203,9 +209,11 @@ module _ {z : Shape} {n m id : ℕ} {ws xs : List ℕ} {t : Touched} (h : CarryP
         new-in : new < countWith n new
         new-in =
             let k = id-in (z .l) (m * (6 * z .l)) (t .store) (wordAt (z .l) ws₁ (z .limit)) in
-            omega (arith, k, id-stored (z .l) (m * (6 * z .l)) (t .store) (wordAt (z .l) ws₁ (z .limit)), has .id-is, held-count (has .held))
+            let old = id-stored (z .l) (m * (6 * z .l)) (t .store) (wordAt (z .l) ws₁ (z .limit)) in
+            omega (arith, k, old, has .id-is, held-count (has .held))
 
-        pub carry-to : {count : ℕ} → count ≡ countWith n new → CarriedAs z m id t (To (record { id = new; turns = e; axes = count })) ws₂ xs₂
+        pub carry-to : {count : ℕ} → count ≡ countWith n new
+            → CarriedAs z m id t (To (record { id = new; turns = e; axes = count })) ws₂ xs₂
         unfolding imageOfAxis
         carry-to g =
             as-to (rw g (record {
@@ -215,5 +223,7 @@ module _ {z : Shape} {n m id : ℕ} {ws xs : List ℕ} {t : Touched} (h : CarryP
               id-in = new-in;
               turns-are = unfold scratchValue in (ap (λ (v : Value). v .turns) (word .value));
               small = word .small;
-              holds = subst (λ (st : Store). Holds z (countWith n new) m ws₂ xs₂ (record { store = st; held = t .held })) (sym store-is) next-holds;
+              holds =
+                  subst (λ (st : Store). Holds z (countWith n new) m ws₂ xs₂ (record { store = st; held = t .held }))
+                  (sym store-is) next-holds;
             }))

@@ -3,24 +3,24 @@ use mathlib.Core.Path.{_≡_, refl, sym, ap, _∙_}
 use mathlib.Core.List.{List, [], _∷_}
 use Prim.Native.Nat.{ℕ, _+_, _*_, _/_, _%_, _≤_, _<_}
 use native.Mathlib.Omega.{arith}
-use lib.ListN.{getD}
-use Rattle.bits.specs.Bit.{bit, bit-and, zero-bit}
-use Rattle.model.specs.Words.{Value, asValue, multiply, support}
-use Rattle.model.specs.Clifford.{Images, Touched, letterImage, multiplyImages, wordImage}
-use Rattle.layout.specs.declared.Shape.{Shape}
-use Rattle.layout.specs.Words.{axisPlace}
-use Rattle.clifford_states.specs.Slots.{slotOf, letter-free}
-use Rattle.words_wellformed.specs.Inside.{inside-acts}
 use native.Mathlib.Decide.{ℕ-discrete}
+use lib.ListN.{getD}
+use lib.Bits.{bitOr, bitAnd}
+use Rattle.bits.specs.Bit.{bit, bit-and, zero-bit}
 use Rattle.pauli.specs.Word.{xWord, zWord, IsWord, identity}
 use Rattle.pauli.specs.Letter.{letterAt, acts}
 use Rattle.pauli.specs.LetterLaws.{acts-bit}
-use lib.Bits.{bitOr, bitAnd}
+use Rattle.model.specs.Words.{Value, asValue, multiply, support}
+use Rattle.model.specs.Clifford.{Images, Touched, letterImage, multiplyImages, wordImage}
 use Rattle.theory.specs.Every.{Every}
+use Rattle.layout.specs.declared.Shape.{Shape}
+use Rattle.layout.specs.Words.{axisPlace}
+use Rattle.words_wellformed.specs.Inside.{inside-acts}
 use Rattle.words_wellformed.specs.Carrying.{wordImage-none}
 use Rattle.words_wellformed.specs.SupportQubits.{support-all}
-use Rattle.carrying.specs.Letters.{axisWord, CarryAt}
+use Rattle.clifford_states.specs.Slots.{slotOf, letter-free}
 use Rattle.clifford.specs.Holds.{maskPlace, maskNumber, axis-number}
+use Rattle.carrying.specs.Letters.{axisWord, CarryAt}
 
 -- the first n numbers of the word at a place have no bit where the mask has one
 pub record NoneMarked (l : ℕ) (ws : List ℕ) (at mask n : ℕ) : Type 0 where
@@ -29,7 +29,8 @@ pub record NoneMarked (l : ℕ) (ws : List ℕ) (at mask n : ℕ) : Type 0 where
 pub none-first : (l : ℕ) (ws : List ℕ) (at mask : ℕ) → NoneMarked l ws at mask 0
 none-first l ws at mask = record { none = λ j h. absurd (omega arith) }
 
-pub none-next : {l : ℕ} {ws : List ℕ} {at mask n : ℕ} (w : ℕ) → NoneMarked l ws at mask n → w ≡ bitOr (getD ws (at + n) 0) (getD ws (at + (l + n)) 0)
+pub none-next : {l : ℕ} {ws : List ℕ} {at mask n : ℕ} (w : ℕ) → NoneMarked l ws at mask n
+    → w ≡ bitOr (getD ws (at + n) 0) (getD ws (at + (l + n)) 0)
     → bitAnd w (getD ws (mask + n) 0) ≡ 0 → NoneMarked l ws at mask (n + 1)
 none-next {l} {ws} {at} {mask} {n} w k e f = record { none = λ j h. go j h (ℕ-discrete j n) }
   where
@@ -55,7 +56,8 @@ shared-bit x y t e f g = omega (arith, sym (bit-and x y t) ∙ ap (λ (n : ℕ).
 
 -- F leaves the axis
 pub fixed-image : {z : Shape} {id a : ℕ} {ws xs : List ℕ} {t : Touched} → CarryAt z id ws xs t → IsWord (z .l) (axisWord id t)
-    → a ≡ axisPlace (z .l) id → NoneMarked (z .l) ws a (maskPlace z) (z .l) → wordImage (z .l) (t .held) (axisWord id t) ≡ asValue (axisWord id t)
+    → a ≡ axisPlace (z .l) id → NoneMarked (z .l) ws a (maskPlace z) (z .l)
+    → wordImage (z .l) (t .held) (axisWord id t) ≡ asValue (axisWord id t)
 unfolding wordImage
 fixed-image {z} {id} {a} {ws} {xs} {t} h word place k =
     multiply-free (z .l) (t .held) (axisWord id t) (asValue (identity (z .l))) (support (z .l) (axisWord id t)) free

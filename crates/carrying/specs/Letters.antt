@@ -4,32 +4,32 @@ use mathlib.Core.List.{List, _∷_, _++_}
 use Prim.Native.Nat.{ℕ, _+_, _*_, _≤_, _<_, suc, _-_, _^_}
 use native.Mathlib.Omega.{arith}
 use lib.ListN.{length, getD, replicate, length-replicate}
-use Rattle.store.specs.Part.{put, part-put-same}
-use Rattle.store.specs.Row.{row}
-use Rattle.model.specs.Words.{Value, wordOf, asValue, setBits, support}
-use Rattle.model.specs.Clifford.{Touched, letterImage, multiplyImages, wordImage}
-use Rattle.layout.specs.declared.Shape.{Shape}
-use Rattle.layout.specs.Rows.{fSlot}
-use Rattle.layout.specs.Words.{axisPlace, scratchPlace, slots-le, OnlyWords, words-none, words-then, words-put}
-use Rattle.layout.specs.Shape.{Granted, longestRow, granted-same}
-use Rattle.axes.specs.View.{wordAt, axesOf, read-long}
-use Rattle.words_wellformed.specs.HeldImages.{IsXYZ, acts-letter}
-use Rattle.clifford_states.specs.Slots.{slotOf, imageAt, letter-free, letter-held}
-use Rattle.words_wellformed.specs.Inside.{Inside, inside-acts}
-use Rattle.pauli.specs.Word.{phase, identity}
-use Rattle.pauli.specs.Letter.{single, letterAt}
-use Rattle.words_wellformed.specs.Conjugation.{value-eq}
 use lib.Bits.{bitOr, bitAnd}
 use lib.Count.{trailingZeros}
 use Rattle.bits.specs.LowestBit.{clear-lt}
+use Rattle.store.specs.Part.{put, part-put-same}
+use Rattle.store.specs.Row.{row}
+use Rattle.pauli.specs.Word.{phase, identity}
+use Rattle.pauli.specs.Letter.{single, letterAt}
+use Rattle.model.specs.Words.{Value, wordOf, asValue, setBits, support}
+use Rattle.model.specs.Clifford.{Touched, letterImage, multiplyImages, wordImage}
 use Rattle.theory.specs.Every.{Every}
+use Rattle.theory.specs.Ids.{id-in}
+use Rattle.layout.specs.declared.Shape.{Shape}
+use Rattle.layout.specs.Rows.{fSlot}
+use Rattle.layout.specs.Words.{axisPlace, scratchPlace, slots-le, OnlyWords, words-none, words-then, words-put}
+use Rattle.layout.specs.Shape.{Granted, granted-same}
+use Rattle.axes.specs.View.{wordAt, axesOf, read-long}
+use Rattle.words_wellformed.specs.HeldImages.{IsXYZ, acts-letter}
+use Rattle.words_wellformed.specs.Inside.{Inside, inside-acts}
+use Rattle.words_wellformed.specs.Conjugation.{value-eq}
+use Rattle.words_wellformed.specs.SupportQubits.{support-all}
+use Rattle.clifford_states.specs.Slots.{slotOf, imageAt, letter-free, letter-held}
 use Rattle.clifford_states.specs.SetBits.{setBits-none, setBits-lowest, qubitsAt, qubitsFrom, support-from, qubits-end, qubits-next}
 use Rattle.clifford_states.specs.SetBits.{support-number, multiplyImages-append}
-use Rattle.theory.specs.Ids.{id-in}
-use Rattle.words_wellformed.specs.SupportQubits.{support-all}
-use Rattle.carrying.specs.Scratch.{scratchValue, TimesPre, ScratchTimes}
 use Rattle.clifford.specs.Holds.{imageIn, maskPlace, SomeTouched, HeldAt, holds-behind, axis-in, axis-number}
 use Rattle.clifford.specs.Images.{ImageThere}
+use Rattle.carrying.specs.Scratch.{scratchValue, TimesPre, ScratchTimes}
 
 -- ---- a letter of an axis
 
@@ -41,7 +41,8 @@ pub record AxisHeld (z : Shape) (id : ℕ) (ws xs : List ℕ) (t : Touched) : Ty
   pub id-in : id < n
 
 -- what lies behind the limit may change
-pub axis-behind : {z : Shape} {id : ℕ} {ws xs ws′ : List ℕ} {t : Touched} → AxisHeld z id ws xs t → OnlyWords (z .limit) (maskPlace z) ws ws′
+pub axis-behind : {z : Shape} {id : ℕ} {ws xs ws′ : List ℕ} {t : Touched} → AxisHeld z id ws xs t
+    → OnlyWords (z .limit) (maskPlace z) ws ws′
     → AxisHeld z id ws′ xs t
 axis-behind h k = record {
   n = h .n;
@@ -76,9 +77,6 @@ module _ {z : Shape} {id q e : ℕ} {ws xs : List ℕ} {t : Touched} (h : Letter
 
   pub letter-qubit : q < 64 * z .l
   letter-qubit = omega (arith, h .qubit, letter-granted .sized .bits)
-
-  pub letter-entry : q < z .u
-  letter-entry = omega (arith, h .qubit, letter-granted .sized .row)
 
   pub letter-times : TimesPre z ws
   letter-times = record {
@@ -133,9 +131,6 @@ module _ {z : Shape} {id q e : ℕ} {ws xs : List ℕ} {t : Touched} (h : Letter
         entry = omega (arith, image-number, letter-granted .sized .words-row (3 * h .held .m) (omega (arith, h .held .at .holds .room)));
       }
 
-      pub letter-number : 3 * (s - 1) + (c - 1) < longestRow
-      letter-number = omega (arith, letter-image-there .entry, letter-granted .sized .u-small)
-
       pub letter-image : letterOfAxis z id q t ≡ imageIn z ws xs (3 * (s - 1) + (c - 1))
       unfolding letterOfAxis
       letter-image =
@@ -175,14 +170,14 @@ pub record LettersNow (z : Shape) (id j w e : ℕ) (ws₀ ws xs : List ℕ) (f r
   pub held : AxisHeld z id ws xs t
   pub qubits : Every (Acted z id t) (setBits 64 (64 * j) rest)
 
-pub record Letters (z : Shape) (id j w e : ℕ) (ws₀ ws xs : List ℕ) (f rest : ℕ) : Type 0 where
+pub record LettersLoop (z : Shape) (id j w e : ℕ) (ws₀ ws xs : List ℕ) (f rest : ℕ) : Type 0 where
   pub small : rest < 2 ^ 64
   pub phase : f < 4
   pub words : OnlyWords (z .limit) (maskPlace z) ws₀ ws
   pub at : (t : Touched) → LettersAt z id j w e ws₀ xs t → LettersNow z id j w e ws₀ ws xs f rest t
 
 pub letters-first : {z : Shape} {id j w e : ℕ} {ws xs : List ℕ} → w < 2 ^ 64 → SomeTouched (λ (t : Touched). LettersAt z id j w e ws xs t)
-    → Letters z id j w e ws ws xs e w
+    → LettersLoop z id j w e ws ws xs e w
 letters-first b s = record {
   small = b;
   phase = s .it .small;
@@ -190,7 +185,7 @@ letters-first b s = record {
   at = λ t h. record { whole = refl; held = h .held; qubits = h .qubits };
 }
 
-module _ {z : Shape} {id j w e : ℕ} {ws₀ ws xs : List ℕ} {f rest q : ℕ} (b : Letters z id j w e ws₀ ws xs f rest)
+module _ {z : Shape} {id j w e : ℕ} {ws₀ ws xs : List ℕ} {f rest q : ℕ} (b : LettersLoop z id j w e ws₀ ws xs f rest)
     (some : rest ≡ 0 → ⊥) (place : q ≡ 64 * j + trailingZeros 64 rest) where
   lowest : setBits 64 (64 * j) rest ≡ q ∷ setBits 64 (64 * j) (bitAnd rest (rest - 1))
   lowest =
@@ -209,7 +204,7 @@ module _ {z : Shape} {id j w e : ℕ} {ws₀ ws xs : List ℕ} {f rest q : ℕ} 
 
   pub letters-next : {ws′ : List ℕ} {r : ℕ} → SomeTouched (λ (t : Touched). LettersAt z id j w e ws₀ xs t)
       → ((t : Touched) → LetterAt z id q f ws xs t → ScratchTimes z f ws (letterOfAxis z id q t) ws′ r)
-      → Letters z id j w e ws₀ ws′ xs r (bitAnd rest (rest - 1))
+      → LettersLoop z id j w e ws₀ ws′ xs r (bitAnd rest (rest - 1))
   unfolding multiplyImages letterOfAxis
   letters-next s call = record {
     small = omega (arith, clear-lt rest (let p : 0 < rest = omega arith in p), b .small);
@@ -221,13 +216,14 @@ module _ {z : Shape} {id j w e : ℕ} {ws₀ ws xs : List ℕ} {f rest q : ℕ} 
         record {
           whole =
               k .whole ∙ ap (multiplyImages (z .l) (t .held) (axisWord id t) (scratchValue z ws f)) lowest
-              ∙ ap (λ (v : Value). multiplyImages (z .l) (t .held) (axisWord id t) v (setBits 64 (64 * j) (bitAnd rest (rest - 1)))) (sym (c .value));
+              ∙ ap (λ (v : Value). multiplyImages (z .l) (t .held) (axisWord id t) v (setBits 64 (64 * j) (bitAnd rest (rest - 1))))
+              (sym (c .value));
           held = axis-behind (k .held) (c .words);
           qubits = split h .1;
         };
   }
 
-pub letters-end : {z : Shape} {id j w e : ℕ} {ws₀ ws xs : List ℕ} {f rest : ℕ} → Letters z id j w e ws₀ ws xs f rest → rest ≡ 0
+pub letters-end : {z : Shape} {id j w e : ℕ} {ws₀ ws xs : List ℕ} {f rest : ℕ} → LettersLoop z id j w e ws₀ ws xs f rest → rest ≡ 0
     → (t : Touched) → LettersAt z id j w e ws₀ xs t → LettersTimes z id e ws₀ t (setBits 64 (64 * j) w) ws f
 unfolding multiplyImages
 letters-end {z} {id} {j} {ws = ws} {f = f} b e t h = record {
@@ -297,7 +293,8 @@ module _ {z : Shape} {id : ℕ} {ws₀ ws xs : List ℕ} {f j a : ℕ} (b : Word
       acted : Every (Acted z id t) (setBits 64 (64 * j) w)
       acted =
           subst (Every (Acted z id t)) (sym these) (support-number (Acted z id t) (z .l) (axisWord id t) j more
-          (support-all (z .l) (axisWord id t) (Acted z id t) (λ q c d. (inside-acts (h .inside) q c d, acts-letter (z .l) (axisWord id t) q d))))
+          (support-all (z .l) (axisWord id t) (Acted z id t)
+          (λ q c d. (inside-acts (h .inside) q c d, acts-letter (z .l) (axisWord id t) q d))))
 
       pub letters-there : LettersAt z id j w f ws xs t
       letters-there = record { held = b .at t h .held; number = more; qubits = acted; small = b .phase }
@@ -324,7 +321,8 @@ module _ {z : Shape} {id : ℕ} {ws₀ ws xs : List ℕ} {f j a : ℕ} (b : Word
                 ∙ qubits-next (z .l) (axisWord id t) j (z .l - (j + 1))
                 ∙ ap₂ (λ (xs : List ℕ) (i : ℕ). xs ++ qubitsFrom (z .l) (axisWord id t) i (z .l - (j + 1))) (sym (these h)) g)
                 ∙ multiplyImages-append (z .l) (t .held) (axisWord id t) (scratchValue z ws f) (setBits 64 (64 * j) w) _
-                ∙ ap (λ (v : Value). multiplyImages (z .l) (t .held) (axisWord id t) v (qubitsFrom (z .l) (axisWord id t) (j + 1) (z .l - (j + 1))))
+                ∙ ap (λ (v : Value). multiplyImages (z .l) (t .held) (axisWord id t) v
+                (qubitsFrom (z .l) (axisWord id t) (j + 1) (z .l - (j + 1))))
                 (sym (c .value));
             held = axis-behind (k .held) (c .words);
           };
@@ -364,7 +362,8 @@ module _ {z : Shape} {id o : ℕ} {ws ws₁ xs : List ℕ} {t : Touched} (h : Ca
   pub zeros-carry : CarryAt z id ws₁ xs t
   zeros-carry = record { held = axis-behind (h .held) zeros-words; inside = h .inside }
 
-  pub zeros-carried : {ws₂ : List ℕ} {r : ℕ} → LettersTimes z id 0 ws₁ t (support (z .l) (axisWord id t)) ws₂ r → WordCarried z id ws t ws₂ r
+  pub zeros-carried : {ws₂ : List ℕ} {r : ℕ} → LettersTimes z id 0 ws₁ t (support (z .l) (axisWord id t)) ws₂ r
+      → WordCarried z id ws t ws₂ r
   unfolding wordImage
   zeros-carried k = record {
     small = k .small;

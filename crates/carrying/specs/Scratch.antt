@@ -1,22 +1,22 @@
 -- The scratch word, behind which letters and images are multiplied: the model's `multiply`. Assumes nothing.
 use mathlib.Core.Path.{_≡_, refl, sym, ap, ap₂, _∙_}
 use mathlib.Core.List.{List}
+use mathlib.Core.Logic.{_⊎_, inl, inr}
 use Prim.Native.Nat.{ℕ, _+_, _*_, _%_, _≤_, _<_}
 use native.Mathlib.Omega.{arith}
 use lib.ListN.{length, getD}
 use Rattle.store.specs.Part.{put, Apart, part-length, part-put-same, part-put-apart, put-length}
 use Rattle.store.specs.Row.{row}
+use Rattle.pauli.specs.Word.{xorWords, phase}
+use Rattle.pauli.specs.Letter.{single}
+use Rattle.pauli.specs.LetterLaws.{single-length}
+use Rattle.pauli.specs.ProductLaws.{xorWords-length}
+use Rattle.product.specs.Product.{StoredPre, StoredProduct}
 use Rattle.model.specs.Words.{Value, asValue, multiply}
 use Rattle.layout.specs.declared.Shape.{Shape}
 use Rattle.layout.specs.Rows.{fPhase}
 use Rattle.layout.specs.Words.{slotPlace, scratchPlace, slot-ends, OnlyWords, words-then, words-put}
 use Rattle.axes.specs.View.{wordAt}
-use mathlib.Core.Logic.{_⊎_, inl, inr}
-use Rattle.pauli.specs.Word.{xorWords, phase}
-use Rattle.pauli.specs.Letter.{single}
-use Rattle.pauli.specs.LetterLaws.{single-length}
-use Rattle.pauli.specs.ProductLaws.{xorWords-length, phase-lt}
-use Rattle.product.specs.Product.{StoredPre, StoredProduct}
 use Rattle.words_wellformed.specs.Conjugation.{value-eq}
 use Rattle.clifford.specs.Holds.{imageIn, maskPlace}
 use Rattle.clifford.specs.Images.{ImageThere}
@@ -57,11 +57,13 @@ module _ {z : Shape} {ws : List ℕ} (pre : TimesPre z ws) {o : ℕ} (scratch : 
       go (inr b) = inl (omega arith)
 
   -- the product
-  pub times-value : (e t : ℕ) {p f r : ℕ} {ws′ : List ℕ} → p + 2 * z .l ≤ length ws → StoredProduct (z .l) ws o p o ws′ f → r ≡ (e + t + f) % 4
+  pub times-value : (e t : ℕ) {p f r : ℕ} {ws′ : List ℕ} → p + 2 * z .l ≤ length ws → StoredProduct (z .l) ws o p o ws′ f
+      → r ≡ (e + t + f) % 4
       → scratchValue z ws′ r ≡ multiply (z .l) (scratchValue z ws e) (record { turns = t; word = wordAt (z .l) ws p })
   unfolding scratchValue multiply
   times-value e t {p} h s g =
-      value-eq (g ∙ ap (λ (x : ℕ). (e + t + x) % 4) (s .turns ∙ ap (λ (x : ℕ). phase (z .l) (wordAt (z .l) ws x) (wordAt (z .l) ws p)) scratch))
+      value-eq (g ∙ ap (λ (x : ℕ). (e + t + x) % 4)
+      (s .turns ∙ ap (λ (x : ℕ). phase (z .l) (wordAt (z .l) ws x) (wordAt (z .l) ws p)) scratch))
       (ap (λ (x : List ℕ). wordAt (z .l) x (scratchPlace (z .limit))) (s .store)
       ∙ ap (λ (x : ℕ). wordAt (z .l) (put ws o (xorWords (wordAt (z .l) ws o) (wordAt (z .l) ws p))) x) (sym scratch)
       ∙ part-put-same ws o (2 * z .l) (xorWords (wordAt (z .l) ws o) (wordAt (z .l) ws p)) scratch-in long
@@ -73,7 +75,8 @@ module _ {z : Shape} {ws : List ℕ} (pre : TimesPre z ws) {o : ℕ} (scratch : 
       long : length (xorWords (wordAt (z .l) ws o) (wordAt (z .l) ws p)) ≡ 2 * z .l
       long = xorWords-length _ _ (o-long ∙ sym (part-length ws p (2 * z .l) h)) ∙ o-long
 
-  pub times-words : {p f : ℕ} {ws′ : List ℕ} → p + 2 * z .l ≤ length ws → StoredProduct (z .l) ws o p o ws′ f → OnlyWords (z .limit) (maskPlace z) ws ws′
+  pub times-words : {p f : ℕ} {ws′ : List ℕ} → p + 2 * z .l ≤ length ws → StoredProduct (z .l) ws o p o ws′ f
+      → OnlyWords (z .limit) (maskPlace z) ws ws′
   times-words {p} h s =
       let o-long = part-length ws o (2 * z .l) scratch-in in
       let long : length (xorWords (wordAt (z .l) ws o) (wordAt (z .l) ws p)) ≡ 2 * z .l
@@ -82,59 +85,53 @@ module _ {z : Shape} {ws : List ℕ} (pre : TimesPre z ws) {o : ℕ} (scratch : 
 
 -- ---- a letter by itself
 
-module _ {z : Shape} {ws : List ℕ} {o q : ℕ} (pre : TimesPre z ws) (inside : q < 64 * z .l) (scratch : o ≡ scratchPlace (z .limit)) where
-  pub own-place : (o + 2 * z .l + 2 * z .l ≤ length ws) × (q < 64 * z .l)
-  own-place = (omega (arith, pre .words-long), inside)
+module _ {z : Shape} {ws : List ℕ} {o q : ℕ} (pre : TimesPre z ws) (inside : q < 64 * z .l) (scratch : o ≡ scratchPlace (z .limit))
+    (c : ℕ) {ws₁ : List ℕ} (laid : ws₁ ≡ put ws (o + 2 * z .l) (single (z .l) q c)) where
+  c-long : length (single (z .l) q c) ≡ 2 * z .l
+  c-long = single-length (z .l) q c inside
 
-  module _ (c : ℕ) {ws₁ : List ℕ} (laid : ws₁ ≡ put ws (o + 2 * z .l) (single (z .l) q c)) where
-    c-long : length (single (z .l) q c) ≡ 2 * z .l
-    c-long = single-length (z .l) q c inside
+  same-long : length ws₁ ≡ length ws
+  same-long = ap length laid ∙ put-length ws (o + 2 * z .l) (single (z .l) q c) (omega (arith, pre .words-long, c-long))
 
-    same-long : length ws₁ ≡ length ws
-    same-long = ap length laid ∙ put-length ws (o + 2 * z .l) (single (z .l) q c) (omega (arith, pre .words-long, c-long))
+  pub own-times : TimesPre z ws₁
+  own-times = record { words-long = omega (arith, pre .words-long, same-long); limit = pre .limit; few = pre .few }
 
-    pub own-times : TimesPre z ws₁
-    own-times = record { words-long = omega (arith, pre .words-long, same-long); limit = pre .limit; few = pre .few }
+  pub own-stored : StoredPre (z .l) ws₁ o (o + 2 * z .l) o
+  own-stored = times-stored own-times scratch (o + 2 * z .l) (omega (arith, own-times .words-long)) (inr (omega arith))
 
-    pub own-stored : StoredPre (z .l) ws₁ o (o + 2 * z .l) o
-    own-stored = times-stored own-times scratch (o + 2 * z .l) (omega (arith, own-times .words-long)) (inr (omega arith))
+  own-word : wordAt (z .l) ws₁ (o + 2 * z .l) ≡ single (z .l) q c
+  own-word =
+      ap (λ (x : List ℕ). wordAt (z .l) x (o + 2 * z .l)) laid
+      ∙ part-put-same ws (o + 2 * z .l) (2 * z .l) (single (z .l) q c) (omega (arith, pre .words-long)) c-long
 
-    own-word : wordAt (z .l) ws₁ (o + 2 * z .l) ≡ single (z .l) q c
-    own-word =
-        ap (λ (x : List ℕ). wordAt (z .l) x (o + 2 * z .l)) laid
-        ∙ part-put-same ws (o + 2 * z .l) (2 * z .l) (single (z .l) q c) (omega (arith, pre .words-long)) c-long
+  own-words : OnlyWords (z .limit) (maskPlace z) ws ws₁
+  own-words =
+      rw laid (words-put (z .limit) (maskPlace z) ws (o + 2 * z .l) (single (z .l) q c) (omega arith) (omega (arith, c-long))
+      (omega (arith, c-long, pre .words-long)))
 
-    own-words : OnlyWords (z .limit) (maskPlace z) ws ws₁
-    own-words =
-        rw laid (words-put (z .limit) (maskPlace z) ws (o + 2 * z .l) (single (z .l) q c) (omega arith) (omega (arith, c-long))
-        (omega (arith, c-long, pre .words-long)))
+  same-scratch : (e : ℕ) → scratchValue z ws₁ e ≡ scratchValue z ws e
+  unfolding scratchValue
+  same-scratch e =
+      value-eq refl (ap (λ (x : List ℕ). wordAt (z .l) x (scratchPlace (z .limit))) laid
+      ∙ part-put-apart ws (o + 2 * z .l) (single (z .l) q c) (scratchPlace (z .limit)) (2 * z .l) (omega (arith, c-long, pre .words-long))
+      (omega (arith, pre .words-long)) (inr (omega arith)))
 
-    same-scratch : (e : ℕ) → scratchValue z ws₁ e ≡ scratchValue z ws e
-    unfolding scratchValue
-    same-scratch e =
-        value-eq refl (ap (λ (x : List ℕ). wordAt (z .l) x (scratchPlace (z .limit))) laid
-        ∙ part-put-apart ws (o + 2 * z .l) (single (z .l) q c) (scratchPlace (z .limit)) (2 * z .l) (omega (arith, c-long, pre .words-long))
-        (omega (arith, pre .words-long)) (inr (omega arith)))
-
-    pub own-multiplied : {ws′ : List ℕ} (e : ℕ) {f : ℕ} → StoredProduct (z .l) ws₁ o (o + 2 * z .l) o ws′ f
-        → ScratchTimes z e ws (asValue (single (z .l) q c)) ws′ ((e + f) % 4)
-    own-multiplied e {f} s =
-        let h : o + 2 * z .l + 2 * z .l ≤ length ws₁ = omega (arith, own-times .words-long) in
-        record {
-          small = omega arith;
-          value =
-              times-value own-times scratch e 0 h s (let g : (e + f) % 4 ≡ (e + 0 + f) % 4 = omega arith in g)
-              ∙ ap₂ (λ (u : Value) (w : List ℕ). multiply (z .l) u (record { turns = 0; word = w })) (same-scratch e) own-word;
-          words = words-then own-words (times-words own-times scratch h s);
-        }
-
-    pub own-small : {ws′ : List ℕ} {f : ℕ} → StoredProduct (z .l) ws₁ o (o + 2 * z .l) o ws′ f → f < 4
-    own-small s = omega (arith, s .turns, phase-lt (z .l) (wordAt (z .l) ws₁ o) (wordAt (z .l) ws₁ (o + 2 * z .l)))
+  pub own-multiplied : {ws′ : List ℕ} (e : ℕ) {f : ℕ} → StoredProduct (z .l) ws₁ o (o + 2 * z .l) o ws′ f
+      → ScratchTimes z e ws (asValue (single (z .l) q c)) ws′ ((e + f) % 4)
+  own-multiplied e {f} s =
+      let h : o + 2 * z .l + 2 * z .l ≤ length ws₁ = omega (arith, own-times .words-long) in
+      record {
+        small = omega arith;
+        value =
+            times-value own-times scratch e 0 h s (let g : (e + f) % 4 ≡ (e + 0 + f) % 4 = omega arith in g)
+            ∙ ap₂ (λ (u : Value) (w : List ℕ). multiply (z .l) u (record { turns = 0; word = w })) (same-scratch e) own-word;
+        words = words-then own-words (times-words own-times scratch h s);
+      }
 
 -- ---- an image
 
-module _ {z : Shape} {i : ℕ} {ws xs : List ℕ} {o a : ℕ} (pre : TimesPre z ws) (there : ImageThere z i xs) (scratch : o ≡ scratchPlace (z .limit))
-    (place : a ≡ slotPlace (z .limit) (z .l) i) where
+module _ {z : Shape} {i : ℕ} {ws xs : List ℕ} {o a : ℕ} (pre : TimesPre z ws) (there : ImageThere z i xs)
+    (scratch : o ≡ scratchPlace (z .limit)) (place : a ≡ slotPlace (z .limit) (z .l) i) where
   image-ends : a + 2 * z .l ≤ z .limit
   image-ends = omega (arith, slot-ends (z .limit) (z .l) i (there .slot))
 
@@ -153,6 +150,3 @@ module _ {z : Shape} {i : ℕ} {ws xs : List ℕ} {o a : ℕ} (pre : TimesPre z 
             ∙ ap₂ (λ (x p : ℕ). multiply (z .l) (scratchValue z ws e) (record { turns = x; word = wordAt (z .l) ws p })) k place;
         words = times-words pre scratch h s;
       }
-
-  pub image-small : {ws′ : List ℕ} {f : ℕ} → StoredProduct (z .l) ws o a o ws′ f → f < 4
-  image-small s = omega (arith, s .turns, phase-lt (z .l) (wordAt (z .l) ws o) (wordAt (z .l) ws a))

@@ -6,16 +6,16 @@ use native.Mathlib.Omega.{arith}
 use lib.ListN.{length, replicate, length-replicate}
 use Rattle.store.specs.Part.{put}
 use Rattle.model.specs.Words.{Store}
+use Rattle.model.specs.Lists.{allOf, anyOf, member}
 use Rattle.layout.specs.declared.Shape.{Shape}
 use Rattle.layout.specs.Rows.{fSlot}
 use Rattle.layout.specs.Only.{Only, only-of}
 use Rattle.layout.specs.Words.{OnlyWords, words-put, words-kept}
 use Rattle.layout.specs.Shape.{Granted}
+use Rattle.layout.specs.Cleared.{cleared-only, cleared-at}
 use Rattle.axes.specs.Held.{sizesOf, HoldsAxes, held-rows, held-words}
 use Rattle.clifford_states.specs.Slots.{slotFrom}
-use Rattle.model.specs.Lists.{allOf, anyOf, member}
 use Rattle.clifford.specs.Holds.{maskPlace, Holds, fRows, LeftF}
-use Rattle.layout.specs.Cleared.{cleared-only, cleared-at}
 
 -- F is the identity: whatever axes there are
 pub record Begun (z : Shape) (ws xs ws′ xs′ : List ℕ) : Type 0 where
@@ -46,4 +46,6 @@ begin-holds {z} {ws} {xs} {ws′} {xs′} {a} g e f k = record {
     long = length-replicate (z .l) 0
 
     behind : OnlyWords (maskPlace z) (maskPlace z + z .l) ws ws′
-    behind = rw (f, e) (words-put _ _ ws (maskPlace z) (replicate (z .l) 0) (omega arith) (omega (arith, long)) (omega (arith, long, g .words-long)))
+    behind =
+        rw (f, e) (words-put _ _ ws (maskPlace z) (replicate (z .l) 0) (omega arith) (omega (arith, long))
+        (omega (arith, long, g .words-long)))

@@ -1,5 +1,5 @@
 -- The numbers from the j-th on are still to be gone through. Assumes nothing.
-use Rattle.absorbing.specs.AxisQubits.{axis-small, Numbers, numbers-word, numbers-first, numbers-turn, numbers-left, numbers-next}
+use Rattle.absorbing.specs.AxisQubits.{axis-small, NumbersLoop, numbers-word, numbers-first, numbers-turn, numbers-left, numbers-next}
 use Rattle.absorbing.specs.AxisQubits.{numbers-limit, numbers-end}
 use Prim.Native.Nat.{_-_}
 use borrow.Author.Needs.{needs}
@@ -8,7 +8,7 @@ use Rattle.absorbing.proofs.touch_all.Statement.{statement}
 use Rattle.absorbing.proofs.touch_all.Tie as tie
 
 abbrev Inv-loop : tie.InvT-loop
-Inv-loop ws₀ xs₀ z n m₀ id at m₁ j₀ end ws xs m j = Numbers z n m₀ id ws₀ xs₀ ws xs m j
+Inv-loop ws₀ xs₀ z n m₀ id at m₁ j₀ end ws xs m j = NumbersLoop z n m₀ id ws₀ xs₀ ws xs m j
 
 abbrev μ-loop : tie.MeasureT-loop
 μ-loop ws₀ xs₀ z n m₀ id at m₁ j₀ end ws xs m j = z .l - j
@@ -36,7 +36,8 @@ touch-bits-requires c κs =
     let at-loop = at-loop-test .before in
     let at-axis-at = at-loop .before in
     let start = at-axis-at .before .before .before in
-    numbers-turn (at-loop .loop .inv) (at-loop-test .loop-test .taken) (at-axis-at .axis-at .ensures) (at-acted-at .acted-at .ensures) (start .pre)
+    numbers-turn (at-loop .loop .inv) (at-loop-test .loop-test .taken) (at-axis-at .axis-at .ensures) (at-acted-at .acted-at .ensures)
+    (start .pre)
 
 enum-known-t : tie.Need-enum-known-t Inv-loop μ-loop
 enum-known-t c = search needs
@@ -51,7 +52,8 @@ same-length c =
     let at-loop-test = at-acted-at .before .before in
     let at-loop = at-loop-test .before in
     let at-axis-at = at-loop .before in
-    numbers-left (at-loop .loop .inv) (at-loop-test .loop-test .taken) (at-axis-at .axis-at .ensures) (at-acted-at .acted-at .ensures) (at-touch-bits .touch-bits .ensures) .words .long
+    numbers-left (at-loop .loop .inv) (at-loop-test .loop-test .taken) (at-axis-at .axis-at .ensures) (at-acted-at .acted-at .ensures)
+    (at-touch-bits .touch-bits .ensures) .words .long
 
 same-length-2 : tie.Need-same-length-2 Inv-loop μ-loop
 same-length-2 c =
@@ -60,7 +62,8 @@ same-length-2 c =
     let at-loop-test = at-acted-at .before .before in
     let at-loop = at-loop-test .before in
     let at-axis-at = at-loop .before in
-    numbers-left (at-loop .loop .inv) (at-loop-test .loop-test .taken) (at-axis-at .axis-at .ensures) (at-acted-at .acted-at .ensures) (at-touch-bits .touch-bits .ensures) .numbers .long
+    numbers-left (at-loop .loop .inv) (at-loop-test .loop-test .taken) (at-axis-at .axis-at .ensures) (at-acted-at .acted-at .ensures)
+    (at-touch-bits .touch-bits .ensures) .numbers .long
 
 returns : tie.Need-returns Inv-loop μ-loop
 returns c =
@@ -69,8 +72,10 @@ returns c =
     let at-loop-test = at-acted-at .before .before in
     let at-loop = at-loop-test .before in
     let at-axis-at = at-loop .before in (
-      numbers-left (at-loop .loop .inv) (at-loop-test .loop-test .taken) (at-axis-at .axis-at .ensures) (at-acted-at .acted-at .ensures) (at-touch-bits .touch-bits .ensures),
-      numbers-limit (at-loop .loop .inv) (at-loop-test .loop-test .taken) (at-axis-at .axis-at .ensures) (at-acted-at .acted-at .ensures) (at-touch-bits .touch-bits .ensures) (c .enum-told .given .1),
+      numbers-left (at-loop .loop .inv) (at-loop-test .loop-test .taken) (at-axis-at .axis-at .ensures) (at-acted-at .acted-at .ensures)
+      (at-touch-bits .touch-bits .ensures),
+      numbers-limit (at-loop .loop .inv) (at-loop-test .loop-test .taken) (at-axis-at .axis-at .ensures) (at-acted-at .acted-at .ensures)
+      (at-touch-bits .touch-bits .ensures) (c .enum-told .given .1),
     )
 
 add-j : tie.Need-add-j Inv-loop μ-loop
@@ -92,7 +97,8 @@ loop-again c =
     let at-loop-test = at-acted-at .before .before in
     let at-loop = at-loop-test .before in
     let at-axis-at = at-loop .before in
-    numbers-next (at-loop .loop .inv) (at-loop-test .loop-test .taken) (at-axis-at .axis-at .ensures) (at-acted-at .acted-at .ensures) (at-touch-bits .touch-bits .ensures) _ (at-t .t .given .1)
+    numbers-next (at-loop .loop .inv) (at-loop-test .loop-test .taken) (at-axis-at .axis-at .ensures) (at-acted-at .acted-at .ensures)
+    (at-touch-bits .touch-bits .ensures) _ (at-t .t .given .1)
 
 same-length-3 : tie.Need-same-length-3 Inv-loop μ-loop
 same-length-3 c =

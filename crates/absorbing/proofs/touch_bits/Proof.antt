@@ -1,6 +1,5 @@
 -- The bits of `rest` are still to be touched. Assumes nothing.
-use Rattle.absorbing.specs.AxisQubits.{Bits, bits-first, bits-turn, bits-left, bits-next, bits-limit, bits-end, number-small}
-use Prim.Native.Nat.{_-_}
+use Rattle.absorbing.specs.AxisQubits.{BitsLoop, bits-first, bits-turn, bits-left, bits-next, bits-limit, bits-end, number-small}
 use lib.Count.{trailing-le}
 use Rattle.bits.specs.LowestBit.{clear-lt}
 use mathlib.Core.Path.{refl}
@@ -10,7 +9,7 @@ use Rattle.absorbing.proofs.touch_bits.Statement.{statement}
 use Rattle.absorbing.proofs.touch_bits.Tie as tie
 
 abbrev Inv-loop : tie.InvT-loop
-Inv-loop ws₀ xs₀ z n m₀ j w m₁ w₁ ws xs m rest = Bits z n m₀ j w ws₀ xs₀ ws xs m rest
+Inv-loop ws₀ xs₀ z n m₀ j w m₁ w₁ ws xs m rest = BitsLoop z n m₀ j w ws₀ xs₀ ws xs m rest
 
 abbrev μ-loop : tie.MeasureT-loop
 μ-loop ws₀ xs₀ z n m₀ j w m₁ w₁ ws xs m rest = rest

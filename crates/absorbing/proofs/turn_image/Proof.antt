@@ -37,7 +37,8 @@ returns c =
     let at-word-at = at-word-at2 .before in
     let at-slot-at = at-word-at .before .before in
     let start = at-slot-at .before .before .before in
-    turned-not (start .pre) (at-slot-at .slot-at .ensures) (at-anticommutes .anticommutes .ensures) (at-word-at .word-at .ensures) (at-word-at2 .word-at2 .ensures) (not-true _ (c .if1 .taken))
+    turned-not (start .pre) (at-slot-at .slot-at .ensures) (at-anticommutes .anticommutes .ensures) (at-word-at .word-at .ensures)
+    (at-word-at2 .word-at2 .ensures) (not-true _ (c .if1 .taken))
 
 add-phase-requires : tie.Need-add-phase-requires
 add-phase-requires c κs = search needs
@@ -58,7 +59,8 @@ returns-2 c =
     let at-word-at = at-word-at2 .before in
     let at-slot-at = at-word-at .before .before in
     let start = at-slot-at .before .before .before in
-    turned-half (start .pre) (at-slot-at .slot-at .ensures) (at-anticommutes .anticommutes .ensures) (at-word-at .word-at .ensures) (at-word-at2 .word-at2 .ensures) (not-false _ (at-if1 .if1 .left)) (at-if2 .if2 .taken) (at-add-phase .add-phase .ensures)
+    turned-half (start .pre) (at-slot-at .slot-at .ensures) (at-anticommutes .anticommutes .ensures) (at-word-at .word-at .ensures)
+    (at-word-at2 .word-at2 .ensures) (not-false _ (at-if1 .if1 .left)) (at-if2 .if2 .taken) (at-add-phase .add-phase .ensures)
 
 product-in-requires : tie.Need-product-in-requires
 product-in-requires c κs =
@@ -95,7 +97,9 @@ returns-3 c =
     let at-word-at = at-word-at2 .before in
     let at-slot-at = at-word-at .before .before in
     let start = at-slot-at .before .before .before in
-    turned-quarter (start .pre) (at-slot-at .slot-at .ensures) (at-anticommutes .anticommutes .ensures) (at-word-at .word-at .ensures) (at-word-at2 .word-at2 .ensures) (not-false _ (at-if1 .if1 .left)) (at-if2 .if2 .left) (at-product-in .product-in .ensures) (at-add-phase2 .add-phase2 .ensures)
+    turned-quarter (start .pre) (at-slot-at .slot-at .ensures) (at-anticommutes .anticommutes .ensures) (at-word-at .word-at .ensures)
+    (at-word-at2 .word-at2 .ensures) (not-false _ (at-if1 .if1 .left)) (at-if2 .if2 .left) (at-product-in .product-in .ensures)
+    (at-add-phase2 .add-phase2 .ensures)
 
 pub turn-image-spec : {M : Type 1} → statement M
 turn-image-spec =

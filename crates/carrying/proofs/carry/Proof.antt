@@ -1,6 +1,6 @@
 -- A word that F leaves has its id; else its image is worked out and stored. Assumes nothing.
-use Rattle.carrying.specs.Carrying.{carry-at, carry-words, carry-numbers, left-fixed, fixed-to, intern-there, limit-left}
-use Rattle.carrying.specs.Carrying.{carry-limit, carry-left, carry-to}
+use Rattle.carrying.specs.Carrying.{carry-at, carry-words, carry-numbers, left-fixed, fixed-to, intern-there, limit-left, carry-limit}
+use Rattle.carrying.specs.Carrying.{carry-left, carry-to}
 use native.Mathlib.Omega.{arith}
 use borrow.Author.Needs.{needs}
 use Rattle.carrying.proofs.carry.Statement.{statement}
@@ -16,9 +16,10 @@ fixes-requires : tie.Need-fixes-requires
 fixes-requires c κs =
     let mask-at = c .before in
     let axis-at = mask-at .before in
-    let start = axis-at .before .before .before in
-    (omega (arith, axis-at .axis-at .ensures, carry-words (start .pre .it)), omega
-    (arith, mask-at .mask-at .ensures, carry-words (start .pre .it)))
+    let start = axis-at .before .before .before in (
+      omega (arith, axis-at .axis-at .ensures, carry-words (start .pre .it)),
+      omega (arith, mask-at .mask-at .ensures, carry-words (start .pre .it)),
+    )
 
 same-length : tie.Need-same-length
 same-length c = search needs
@@ -74,15 +75,19 @@ returns-2 c =
     let sizes-of = intern .before .before .before in
     let scratch-at = sizes-of .before in
     let carry-word = scratch-at .before .before .before .before in
-    let start = carry-word .before .before .before .before .before .before .before .before .before .before in
-    (limit-left (start .pre .it) (carry-word .carry-word .ensures _ (carry-at (start .pre .it))) (scratch-at .scratch-at .ensures)
-    (sizes-of .sizes-of .ensures) (intern .intern .ensures) (c .enum-told .given .1), λ t h. carry-limit h
-    (carry-word .carry-word .ensures t (carry-at h)) (scratch-at .scratch-at .ensures) (sizes-of .sizes-of .ensures)
-    (intern .intern .ensures) (c .enum-told .given .1))
+    let start = carry-word .before .before .before .before .before .before .before .before .before .before in (
+      limit-left (start .pre .it) (carry-word .carry-word .ensures _ (carry-at (start .pre .it))) (scratch-at .scratch-at .ensures)
+          (sizes-of .sizes-of .ensures) (intern .intern .ensures) (c .enum-told .given .1),
+      λ t h. carry-limit h
+          (carry-word .carry-word .ensures t (carry-at h)) (scratch-at .scratch-at .ensures) (sizes-of .sizes-of .ensures)
+          (intern .intern .ensures) (c .enum-told .given .1),
+    )
 
 count-with-requires : tie.Need-count-with-requires
 count-with-requires c κs =
-    let start = c .before .before .before .before .before .before .before .before .before .before .before .before .before .before .before .before .before .before .before .before .before .before .before .before .before in
+    let intern = c .before .before .before .before .before .before .before in
+    let carry-word = intern .before .before .before .before .before .before .before .before in
+    let start = carry-word .before .before .before .before .before .before .before .before .before .before in
     omega (arith, carry-numbers (start .pre .it))
 
 same-length-4 : tie.Need-same-length-4
@@ -98,11 +103,13 @@ returns-3 c =
     let sizes-of = intern .before .before .before in
     let scratch-at = sizes-of .before in
     let carry-word = scratch-at .before .before .before .before in
-    let start = carry-word .before .before .before .before .before .before .before .before .before .before in
-    (carry-left (start .pre .it) (carry-word .carry-word .ensures _ (carry-at (start .pre .it))) (scratch-at .scratch-at .ensures)
-    (sizes-of .sizes-of .ensures) (intern .intern .ensures) (i .i .given .1), λ t h. carry-to h
-    (carry-word .carry-word .ensures t (carry-at h)) (scratch-at .scratch-at .ensures) (sizes-of .sizes-of .ensures)
-    (intern .intern .ensures) (i .i .given .1) (c .count-with .ensures))
+    let start = carry-word .before .before .before .before .before .before .before .before .before .before in (
+      carry-left (start .pre .it) (carry-word .carry-word .ensures _ (carry-at (start .pre .it))) (scratch-at .scratch-at .ensures)
+          (sizes-of .sizes-of .ensures) (intern .intern .ensures) (i .i .given .1),
+      λ t h. carry-to h
+          (carry-word .carry-word .ensures t (carry-at h)) (scratch-at .scratch-at .ensures) (sizes-of .sizes-of .ensures)
+          (intern .intern .ensures) (i .i .given .1) (c .count-with .ensures),
+    )
 
 pub carry-spec : {M : Type 1} → statement M
 carry-spec =

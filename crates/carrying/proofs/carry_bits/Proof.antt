@@ -1,5 +1,5 @@
 -- The letters on the bits of `rest` are still to be multiplied. Assumes nothing.
-use Rattle.carrying.specs.Letters.{Letters, letters-first, letters-turn, letters-next, letters-end, letters-number}
+use Rattle.carrying.specs.Letters.{LettersLoop, letters-first, letters-turn, letters-next, letters-end, letters-number}
 use mathlib.Core.Path.{refl}
 use lib.Count.{trailing-le}
 use Rattle.bits.specs.LowestBit.{clear-lt}
@@ -8,7 +8,7 @@ use Rattle.carrying.proofs.carry_bits.Statement.{statement}
 use Rattle.carrying.proofs.carry_bits.Tie as tie
 
 abbrev Inv-loop : tie.InvT-loop
-Inv-loop ws₀ xs z id j w e f₁ w₁ ws f rest = Letters z id j w e ws₀ ws xs f rest
+Inv-loop ws₀ xs z id j w e f₁ w₁ ws f rest = LettersLoop z id j w e ws₀ ws xs f rest
 
 abbrev μ-loop : tie.MeasureT-loop
 μ-loop ws₀ xs z id j w e f₁ w₁ ws f rest = rest

@@ -1,5 +1,6 @@
 -- The letter is multiplied itself where its qubit is not touched, else its image. Assumes nothing.
-use Rattle.carrying.specs.Letters.{letter-axis, letter-long, letter-qubit, letter-times, own-letter, letter-low, held-letter, letter-image-there}
+use Rattle.carrying.specs.Letters.{letter-axis, letter-long, letter-qubit, letter-times, own-letter, letter-low, held-letter}
+use Rattle.carrying.specs.Letters.{letter-image-there}
 use borrow.Author.Needs.{needs}
 use native.Mathlib.Omega.{arith}
 use Rattle.carrying.proofs.carry_letter.Statement.{statement}
@@ -34,7 +35,8 @@ returns c =
     let at-read = at-if1 .before in
     let at-letter-at = at-read .before in
     let at-axis = at-letter-at .before in
-    λ t h. own-letter h (at-axis .axis .ensures) (at-letter-at .letter-at .ensures) (at-read .read .ensures) (at-if1 .if1 .taken) (at-times-letter .times-letter .ensures)
+    λ t h. own-letter h (at-axis .axis .ensures) (at-letter-at .letter-at .ensures) (at-read .read .ensures) (at-if1 .if1 .taken)
+    (at-times-letter .times-letter .ensures)
 
 sub-i : tie.Need-sub-i
 sub-i c = search needs
@@ -51,7 +53,8 @@ sub-i-2 c =
     let at-letter-at = at-read .before in
     let at-axis = at-letter-at .before in
     let start = at-axis .before .before .before .before in
-    omega (arith, letter-low (start .pre .it) (at-axis .axis .ensures) (at-letter-at .letter-at .ensures) (at-read .read .ensures) (c .if1 .left))
+    omega (arith, letter-low (start .pre .it) (at-axis .axis .ensures) (at-letter-at .letter-at .ensures) (at-read .read .ensures)
+    (c .if1 .left))
 
 add-i : tie.Need-add-i
 add-i c = search needs
@@ -64,7 +67,8 @@ times-image-requires c κs =
     let at-axis = at-letter-at .before in
     let start = at-axis .before .before .before .before in (
       letter-times (start .pre .it),
-      letter-image-there (start .pre .it) (at-axis .axis .ensures) (at-letter-at .letter-at .ensures) (at-read .read .ensures) (at-if1 .if1 .left),
+      letter-image-there (start .pre .it) (at-axis .axis .ensures) (at-letter-at .letter-at .ensures) (at-read .read .ensures)
+      (at-if1 .if1 .left),
       start .pre .it .small,
     )
 
@@ -78,7 +82,8 @@ returns-2 c =
     let at-read = at-if1 .before in
     let at-letter-at = at-read .before in
     let at-axis = at-letter-at .before in
-    λ t h. held-letter h (at-axis .axis .ensures) (at-letter-at .letter-at .ensures) (at-read .read .ensures) (at-if1 .if1 .left) (at-times-image .times-image .ensures)
+    λ t h. held-letter h (at-axis .axis .ensures) (at-letter-at .letter-at .ensures) (at-read .read .ensures) (at-if1 .if1 .left)
+    (at-times-image .times-image .ensures)
 
 pub carry-letter-spec : {M : Type 1} → statement M
 carry-letter-spec =

@@ -34,7 +34,8 @@ carry-bits-requires c κs =
     let at-loop = at-loop-test .before in
     let at-axis-at = at-loop .before in
     let start = at-axis-at .before .before .before in
-    word-turn (at-loop .loop .inv) (at-axis-at .axis-at .ensures) (at-loop-test .loop-test .taken) (at-acted-at .acted-at .ensures) (start .pre)
+    word-turn (at-loop .loop .inv) (at-axis-at .axis-at .ensures) (at-loop-test .loop-test .taken) (at-acted-at .acted-at .ensures)
+    (start .pre)
 
 add-j : tie.Need-add-j Inv-loop μ-loop
 add-j c =
@@ -55,7 +56,8 @@ loop-again c =
     let at-loop = at-loop-test .before in
     let at-axis-at = at-loop .before in
     let start = at-axis-at .before .before .before in
-    word-next (at-loop .loop .inv) (at-axis-at .axis-at .ensures) (at-loop-test .loop-test .taken) (at-acted-at .acted-at .ensures) (start .pre) (at-carry-bits .carry-bits .ensures)
+    word-next (at-loop .loop .inv) (at-axis-at .axis-at .ensures) (at-loop-test .loop-test .taken) (at-acted-at .acted-at .ensures)
+    (start .pre) (at-carry-bits .carry-bits .ensures)
 
 same-length : tie.Need-same-length Inv-loop μ-loop
 same-length c =

@@ -37,7 +37,8 @@ carry-letters-requires c κs =
     let at-scratch-at = at-zero-words .before .before .before in
     let start = at-scratch-at .before .before .before in
     zeros-some (start .pre) (at-scratch-at .scratch-at .ensures)
-    (zeros-lent _ _ _ _ (omega (arith, at-scratch-at .scratch-at .ensures, carry-granted (start .pre .it) .words-long)) (at-zero-words .zero-words .ensures))
+    (zeros-lent _ _ _ _ (omega (arith, at-scratch-at .scratch-at .ensures, carry-granted (start .pre .it) .words-long))
+    (at-zero-words .zero-words .ensures))
 
 same-length : tie.Need-same-length
 same-length c = search needs
@@ -48,8 +49,12 @@ returns c =
     let at-zero-words = at-carry-letters .before .before .before .before in
     let at-scratch-at = at-zero-words .before .before .before in
     let start = at-scratch-at .before .before .before in
-    let zeros = zeros-lent (start .args .words .now) (at-scratch-at .scratch-at .result) (2 * start .args .shape .l) (at-zero-words .zero-words .last .0) (omega (arith, at-scratch-at .scratch-at .ensures, carry-granted (start .pre .it) .words-long)) (at-zero-words .zero-words .ensures) in
-    λ t h. zeros-carried h (at-scratch-at .scratch-at .ensures) zeros (at-carry-letters .carry-letters .ensures t (zeros-carry h (at-scratch-at .scratch-at .ensures) zeros))
+    let zeros
+    = zeros-lent (start .args .words .now) (at-scratch-at .scratch-at .result) (2 * start .args .shape .l)
+    (at-zero-words .zero-words .last .0) (omega (arith, at-scratch-at .scratch-at .ensures, carry-granted (start .pre .it) .words-long))
+    (at-zero-words .zero-words .ensures) in
+    λ t h. zeros-carried h (at-scratch-at .scratch-at .ensures) zeros
+    (at-carry-letters .carry-letters .ensures t (zeros-carry h (at-scratch-at .scratch-at .ensures) zeros))
 
 pub carry-word-spec : {M : Type 1} → statement M
 carry-word-spec =

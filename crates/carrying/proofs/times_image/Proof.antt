@@ -39,7 +39,8 @@ returns c =
     let at-scratch-at = at-slot-at .before in
     let at-read = at-scratch-at .before in
     let start = at-read .before .before .before in
-    image-multiplied (start .pre .0) (start .pre .1) (at-scratch-at .scratch-at .ensures) (at-slot-at .slot-at .ensures) (at-read .read .ensures) (at-product-in .product-in .ensures)
+    image-multiplied (start .pre .0) (start .pre .1) (at-scratch-at .scratch-at .ensures) (at-slot-at .slot-at .ensures)
+    (at-read .read .ensures) (at-product-in .product-in .ensures)
 
 pub times-image-spec : {M : Type 1} → statement M
 times-image-spec =

@@ -38,7 +38,8 @@ returns c =
     let at-put-letter = at-product-in .before .before .before .before in
     let at-scratch-at = at-put-letter .before .before .before in
     let start = at-scratch-at .before .before in
-    own-multiplied (start .pre .0) (start .pre .1) (at-scratch-at .scratch-at .ensures) _ (at-put-letter .put-letter .ensures) _ (at-product-in .product-in .ensures)
+    own-multiplied (start .pre .0) (start .pre .1) (at-scratch-at .scratch-at .ensures) _ (at-put-letter .put-letter .ensures) _
+    (at-product-in .product-in .ensures)
 
 pub times-letter-spec : {M : Type 1} → statement M
 times-letter-spec =
