@@ -39,13 +39,13 @@ AxisLeft z n m id ws xs r ws′ xs′ =
 
 module _ {z : Shape} {n m b k : ℕ} {ws xs ws′ xs′ : List ℕ} {t : Touched} (h : Holds z n m ws xs t)
     (turned : ImagesTurned z (3 * m) b k ws xs ws′ xs′) where
-  room3 : axisPlace (z .l) n ≤ z .limit - 3 * m * (2 * z .l)
-  room3 = omega (arith, h .room)
+  images-behind : axisPlace (z .l) n ≤ z .limit - 3 * m * (2 * z .l)
+  images-behind = omega (arith, h .room)
 
   pub turned-holds : Holds z n m ws′ xs′ (record { store = t .store; held = map (absorbImages (z .l) (wordAt (z .l) ws b) k) (t .held) })
   unfolding member anyOf
   turned-holds = record {
-    axes = held-rows (held-words (h .axes) (turned .words) room3) (turned .numbers) refl;
+    axes = held-rows (held-words (h .axes) (turned .words) images-behind) (turned .numbers) refl;
     peak-in = h .peak-in;
     count = length-map (t .held) (absorbImages (z .l) (wordAt (z .l) ws b) k) ∙ h .count;
     room = h .room;

@@ -68,7 +68,7 @@ module _ {z : Shape} {n m₀ j w : ℕ} {ws₀ xs₀ ws xs : List ℕ} {m rest q
   split k = subst (Every (λ i. i < z .qubits)) lowest (k .qubits)
 
   pub bits-turn : SomeTouched (λ (t : Touched). BitsAt z n m₀ j w ws₀ xs₀ t) → SomeTouched (λ (t : Touched). TouchAt z n m q ws xs t)
-  bits-turn s = let k = b .at (s .t) (s .it) in record { t = k .now; it = record { at = k .at; qubit = split k .0 } }
+  bits-turn s = let k = b .at (s .state) (s .it) in record { state = k .now; it = record { at = k .at; qubit = split k .0 } }
 
   -- the rest, from the state after q
   after : {t : Touched} (k : BitsNow z n j w ws xs m rest t)
@@ -139,7 +139,7 @@ pub record NumbersLoop (z : Shape) (n m₀ id : ℕ) (ws₀ xs₀ ws xs : List �
 pub numbers-word : {z : Shape} {n m₀ id : ℕ} {ws₀ xs₀ ws xs : List ℕ} {m j a : ℕ} → NumbersLoop z n m₀ id ws₀ xs₀ ws xs m j
     → SomeTouched (λ (t : Touched). AxisAt z n m₀ id ws₀ xs₀ t) → a ≡ axisPlace (z .l) id → a + 2 * z .l ≤ length ws
 numbers-word b s e =
-    let k = b .at (s .t) (s .it) in
+    let k = b .at (s .state) (s .it) in
     omega (arith, axis-in (k .at .holds) (s .it .id-in), k .at .granted .words-long)
 
 pub numbers-first : {z : Shape} {n m id : ℕ} {ws xs : List ℕ} → NumbersLoop z n m id ws xs ws xs m 0
@@ -193,7 +193,7 @@ module _ {z : Shape} {n m₀ id : ℕ} {ws₀ xs₀ ws xs : List ℕ} {m j a w :
         ∙ touchAll-append (z .l) (b .at t h .now) (setBits 64 (64 * j) w) _
 
   pub numbers-turn : SomeTouched (λ (t : Touched). AxisAt z n m₀ id ws₀ xs₀ t) → SomeTouched (λ (t : Touched). BitsAt z n m j w ws xs t)
-  numbers-turn s = record { t = b .at (s .t) (s .it) .now; it = bits-there (s .it) }
+  numbers-turn s = record { state = b .at (s .state) (s .it) .now; it = bits-there (s .it) }
 
   module _ {r : Touching} {ws′ xs′ : List ℕ} (call : BitsLeft z n m j w ws xs r ws′ xs′) where
     pub numbers-left : LeftF z ws₀ xs₀ ws′ xs′

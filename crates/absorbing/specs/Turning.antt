@@ -11,7 +11,6 @@ use borrow.Author.Tests.{eq-eqb, ne-eqb}
 use Rattle.store.specs.Part.{put, part-length}
 use Rattle.store.specs.Row.{row, Written}
 use Rattle.pauli.specs.Word.{anticommutes, xorWords, phase}
-use Rattle.pauli.specs.Letter.{other}
 use Rattle.pauli.specs.ProductLaws.{xorWords-length, phase-lt}
 use Rattle.product.specs.Product.{StoredPre, StoredProduct}
 use Rattle.model.specs.Words.{Value, asValue, scaled, multiply}
@@ -29,12 +28,13 @@ use Rattle.words_wellformed.specs.Conjugation.{value-eq}
 use Rattle.clifford.specs.Holds.{imageIn}
 use Rattle.clifford.specs.Images.{ImageThere, ImageSet, image-other, image-put, image-phase, image-stays}
 
+-- e more quarter turns, as the code adds them
 pub phase-added : {s t : List ℕ} {u i : ℕ} (e : ℕ) {old : ℕ} → old ≡ getD (row s u fPhase) i 0 → Written s u fPhase i ((old % 4 + e) % 4) t
     → Written s u fPhase i ((getD (row s u fPhase) i 0 + e) % 4) t
 phase-added {s} {t} {u} {i} e {old} f w =
     subst (λ (v : ℕ). Written s u fPhase i v t) (let g : (old % 4 + e) % 4 ≡ (getD (row s u fPhase) i 0 + e) % 4 = omega arith in g) w
 
--- ---- an image changes as angle k about the word at b is absorbed
+-- ---- one image, by the word at b
 
 pub record TurnPre (z : Shape) (i b k : ℕ) (ws xs : List ℕ) : Type 0 where
   pub there : ImageThere z i xs

@@ -87,7 +87,7 @@ module _ {z : Shape} {n m id : ℕ} {ws xs : List ℕ} {t : Touched} (h : CarryP
   id-count = omega (arith, axes-count, h .axis .id-in)
 
   pub carry-at : CarryAt z id ws xs t
-  carry-at = record { held = record { n = n; m = m; at = h .axis .at; id-in = h .axis .id-in }; inside = h .axis .inside }
+  carry-at = record { held = record { axes = n; slots = m; at = h .axis .at; id-in = h .axis .id-in }; inside = h .axis .inside }
 
   pub carry-words : (axisPlace (z .l) id + 2 * z .l ≤ z .limit) × (z .limit + 16 * z .l ≤ length ws)
   carry-words = (axis-in (h .axis .at .holds) (h .axis .id-in), h .axis .at .granted .words-long)

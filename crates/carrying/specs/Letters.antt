@@ -35,18 +35,18 @@ use Rattle.carrying.specs.Scratch.{scratchValue, TimesPre, ScratchTimes}
 
 -- both stores hold t, and axis id is one of its axes
 pub record AxisHeld (z : Shape) (id : ℕ) (ws xs : List ℕ) (t : Touched) : Type 0 where
-  pub n : ℕ
-  pub m : ℕ
-  pub at : HeldAt z n m ws xs t
-  pub id-in : id < n
+  pub axes : ℕ
+  pub slots : ℕ
+  pub at : HeldAt z axes slots ws xs t
+  pub id-in : id < axes
 
 -- what lies behind the limit may change
 pub axis-behind : {z : Shape} {id : ℕ} {ws xs ws′ : List ℕ} {t : Touched} → AxisHeld z id ws xs t
     → OnlyWords (z .limit) (maskPlace z) ws ws′
     → AxisHeld z id ws′ xs t
 axis-behind h k = record {
-  n = h .n;
-  m = h .m;
+  axes = h .axes;
+  slots = h .slots;
   at = record {
     granted = granted-same (h .at .granted) (k .long) refl;
     holds = holds-behind k (h .at .holds);
@@ -86,7 +86,7 @@ module _ {z : Shape} {id q e : ℕ} {ws xs : List ℕ} {t : Touched} (h : Letter
   }
 
   axis-is : {p : List ℕ} → ((n : ℕ) → id < n → p ≡ wordOf (axesOf (z .l) n ws) id) → p ≡ axisWord id t
-  axis-is f = f (h .held .n) (h .held .id-in) ∙ ap (λ (axes : List (List ℕ)). wordOf axes id) (h .held .at .holds .axes .are)
+  axis-is f = f (h .held .axes) (h .held .id-in) ∙ ap (λ (axes : List (List ℕ)). wordOf axes id) (h .held .at .holds .axes .are)
 
   pub letter-long : {p : List ℕ} → ((n : ℕ) → id < n → p ≡ wordOf (axesOf (z .l) n ws) id) → length p ≡ 2 * z .l
   letter-long f = read-long (z .l) ws id f letter-axis
@@ -121,14 +121,14 @@ module _ {z : Shape} {id q e : ℕ} {ws xs : List ℕ} {t : Touched} (h : Letter
           letter-held (z .l) 0 (s - 1) (t .held) q (c - 1) (let a : c - 1 < 3 = omega (arith, c-some .0, c-some .1) in a)
           (sym slot-is ∙ (let a : s ≡ 1 + (s - 1) = omega arith in a))
 
-      image-number : 3 * (s - 1) + (c - 1) < 3 * h .held .m
+      image-number : 3 * (s - 1) + (c - 1) < 3 * h .held .slots
       image-number = omega (arith, found .0, h .held .at .holds .count, c-some .0, c-some .1)
 
       pub letter-image-there : ImageThere z (3 * (s - 1) + (c - 1)) xs
       letter-image-there = record {
         slot = omega (arith, slots-le (z .l) _ _ image-number, h .held .at .holds .room);
         numbers-long = letter-granted .numbers-long;
-        entry = omega (arith, image-number, letter-granted .sized .words-row (3 * h .held .m) (omega (arith, h .held .at .holds .room)));
+        entry = omega (arith, image-number, letter-granted .sized .words-row (3 * h .held .slots) (omega (arith, h .held .at .holds .room)));
       }
 
       pub letter-image : letterOfAxis z id q t ≡ imageIn z ws xs (3 * (s - 1) + (c - 1))
@@ -200,7 +200,7 @@ module _ {z : Shape} {id j w e : ℕ} {ws₀ ws xs : List ℕ} {f rest q : ℕ} 
     letter-at = record { held = b .at t h .held; qubit = split .0 .0; letter = split .0 .1; small = b .phase }
 
   pub letters-turn : SomeTouched (λ (t : Touched). LettersAt z id j w e ws₀ xs t) → SomeTouched (λ (t : Touched). LetterAt z id q f ws xs t)
-  letters-turn s = record { t = s .t; it = letter-at (s .it) }
+  letters-turn s = record { state = s .state; it = letter-at (s .it) }
 
   pub letters-next : {ws′ : List ℕ} {r : ℕ} → SomeTouched (λ (t : Touched). LettersAt z id j w e ws₀ xs t)
       → ((t : Touched) → LetterAt z id q f ws xs t → ScratchTimes z f ws (letterOfAxis z id q t) ws′ r)
@@ -208,8 +208,8 @@ module _ {z : Shape} {id j w e : ℕ} {ws₀ ws xs : List ℕ} {f rest q : ℕ} 
   unfolding multiplyImages letterOfAxis
   letters-next s call = record {
     small = omega (arith, clear-lt rest (let p : 0 < rest = omega arith in p), b .small);
-    phase = call (s .t) (letter-at (s .it)) .small;
-    words = words-then (b .words) (call (s .t) (letter-at (s .it)) .words);
+    phase = call (s .state) (letter-at (s .it)) .small;
+    words = words-then (b .words) (call (s .state) (letter-at (s .it)) .words);
     at = λ t h.
         let k = b .at t h in
         let c = call t (letter-at h) in
@@ -300,15 +300,15 @@ module _ {z : Shape} {id : ℕ} {ws₀ ws xs : List ℕ} {f j a : ℕ} (b : Word
       letters-there = record { held = b .at t h .held; number = more; qubits = acted; small = b .phase }
 
     pub word-turn : SomeTouched (λ (t : Touched). CarryAt z id ws₀ xs t) → SomeTouched (λ (t : Touched). LettersAt z id j w f ws xs t)
-    word-turn s = record { t = s .t; it = letters-there (s .it) }
+    word-turn s = record { state = s .state; it = letters-there (s .it) }
 
     pub word-next : {ws′ : List ℕ} {r : ℕ} → SomeTouched (λ (t : Touched). CarryAt z id ws₀ xs t)
         → ((t : Touched) → LettersAt z id j w f ws xs t → LettersTimes z id f ws t (setBits 64 (64 * j) w) ws′ r)
         → WordLoop z id ws₀ ws′ xs r (j + 1)
     word-next {ws′} {r} s call = record {
       index = omega arith;
-      phase = call (s .t) (letters-there (s .it)) .small;
-      words = words-then (b .words) (call (s .t) (letters-there (s .it)) .words);
+      phase = call (s .state) (letters-there (s .it)) .small;
+      words = words-then (b .words) (call (s .state) (letters-there (s .it)) .words);
       at = λ t h.
           let k = b .at t h in
           let c = call t (letters-there h) in
@@ -373,4 +373,4 @@ module _ {z : Shape} {id o : ℕ} {ws ws₁ xs : List ℕ} {t : Touched} (h : Ca
 
 pub zeros-some : {z : Shape} {id o : ℕ} {ws ws₁ xs : List ℕ} → SomeTouched (λ (t : Touched). CarryAt z id ws xs t)
     → o ≡ scratchPlace (z .limit) → ws₁ ≡ put ws o (replicate (2 * z .l) 0) → SomeTouched (λ (t : Touched). CarryAt z id ws₁ xs t)
-zeros-some s e f = record { t = s .t; it = zeros-carry (s .it) e f }
+zeros-some s e f = record { state = s .state; it = zeros-carry (s .it) e f }

@@ -61,9 +61,9 @@ returns-2 c =
     let at-touch-all = at-t .before .before .before .before .before .before in
     let start = at-touch-all .before .before .before .before .before in (
       absorb-left (at-touch-all .touch-all .ensures) (at-t .t .given .1) (at-axis-at .axis-at .ensures) (start .pre)
-      (at-turn-images .turn-images .ensures),
+          (at-turn-images .turn-images .ensures),
       λ t h. absorb-holds (at-touch-all .touch-all .ensures) (at-t .t .given .1) (at-axis-at .axis-at .ensures) h
-      (at-turn-images .turn-images .ensures),
+          (at-turn-images .turn-images .ensures),
     )
 
 pub absorb-spec : {M : Type 1} → statement M

@@ -73,9 +73,9 @@ returns c =
     let at-loop = at-loop-test .before in
     let at-axis-at = at-loop .before in (
       numbers-left (at-loop .loop .inv) (at-loop-test .loop-test .taken) (at-axis-at .axis-at .ensures) (at-acted-at .acted-at .ensures)
-      (at-touch-bits .touch-bits .ensures),
+          (at-touch-bits .touch-bits .ensures),
       numbers-limit (at-loop .loop .inv) (at-loop-test .loop-test .taken) (at-axis-at .axis-at .ensures) (at-acted-at .acted-at .ensures)
-      (at-touch-bits .touch-bits .ensures) (c .enum-told .given .1),
+          (at-touch-bits .touch-bits .ensures) (c .enum-told .given .1),
     )
 
 add-j : tie.Need-add-j Inv-loop μ-loop

@@ -34,7 +34,7 @@ returns c =
 carry-word-requires : tie.Need-carry-word-requires
 carry-word-requires c κs =
     let start = c .before .before .before .before .before .before .before .before .before in
-    record { t = start .pre .t; it = carry-at (start .pre .it) }
+    record { state = start .pre .state; it = carry-at (start .pre .it) }
 
 mul-counted : tie.Need-mul-counted
 mul-counted c = search needs

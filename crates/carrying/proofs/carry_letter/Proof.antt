@@ -53,8 +53,11 @@ sub-i-2 c =
     let at-letter-at = at-read .before in
     let at-axis = at-letter-at .before in
     let start = at-axis .before .before .before .before in
-    omega (arith, letter-low (start .pre .it) (at-axis .axis .ensures) (at-letter-at .letter-at .ensures) (at-read .read .ensures)
-    (c .if1 .left))
+    omega (
+      arith,
+      letter-low (start .pre .it) (at-axis .axis .ensures) (at-letter-at .letter-at .ensures) (at-read .read .ensures)
+          (c .if1 .left),
+    )
 
 add-i : tie.Need-add-i
 add-i c = search needs
@@ -68,7 +71,7 @@ times-image-requires c κs =
     let start = at-axis .before .before .before .before in (
       letter-times (start .pre .it),
       letter-image-there (start .pre .it) (at-axis .axis .ensures) (at-letter-at .letter-at .ensures) (at-read .read .ensures)
-      (at-if1 .if1 .left),
+          (at-if1 .if1 .left),
       start .pre .it .small,
     )
 
