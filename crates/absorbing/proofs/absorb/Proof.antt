@@ -1,0 +1,84 @@
+-- The axis's qubits are touched, then all images change. Assumes nothing.
+use Rattle.absorbing.specs.AxisQubits.{axis-small}
+use Rattle.absorbing.specs.Absorbing.{absorb-limit, absorb-turns, absorb-small, absorb-left, absorb-holds}
+use borrow.Author.Needs.{needs}
+use native.Mathlib.Omega.{arith}
+use Rattle.absorbing.proofs.absorb.Statement.{statement}
+use Rattle.absorbing.proofs.absorb.Tie as tie
+
+touch-all-requires : tie.Need-touch-all-requires
+touch-all-requires c κs = search needs
+
+enum-known-t : tie.Need-enum-known-t
+enum-known-t c = search needs
+
+enum-told : tie.Need-enum-told
+enum-told c = search needs
+
+same-length : tie.Need-same-length
+same-length c = search needs
+
+same-length-2 : tie.Need-same-length-2
+same-length-2 c = search needs
+
+returns : tie.Need-returns
+returns c =
+    let at-touch-all = c .before .before .before .before .before .before in
+    (at-touch-all .touch-all .ensures .0, absorb-limit (at-touch-all .touch-all .ensures) (c .enum-told .given .1))
+
+axis-at-requires : tie.Need-axis-at-requires
+axis-at-requires c κs =
+    let start = c .before .before .before .before .before .before .before .before .before .before .before .before in
+    axis-small (start .pre .it .axis)
+
+mul-turn-images : tie.Need-mul-turn-images
+mul-turn-images c =
+    let at-axis-at = c .before .before in
+    let at-t = at-axis-at .before .before in
+    let at-touch-all = at-t .before .before .before .before .before .before in
+    let start = at-touch-all .before .before .before .before .before in
+    omega (arith, absorb-small (at-touch-all .touch-all .ensures) (at-t .t .given .1) (at-axis-at .axis-at .ensures) (start .pre))
+
+turn-images-requires : tie.Need-turn-images-requires
+turn-images-requires c κs =
+    let at-axis-at = c .before .before in
+    let at-t = at-axis-at .before .before in
+    let at-touch-all = at-t .before .before .before .before .before .before in
+    let start = at-touch-all .before .before .before .before .before in
+    absorb-turns (at-touch-all .touch-all .ensures) (at-t .t .given .1) (at-axis-at .axis-at .ensures) (start .pre)
+
+same-length-3 : tie.Need-same-length-3
+same-length-3 c = search needs
+
+same-length-4 : tie.Need-same-length-4
+same-length-4 c = search needs
+
+returns-2 : tie.Need-returns-2
+returns-2 c =
+    let at-turn-images = c .before .before .before .before in
+    let at-axis-at = at-turn-images .before .before .before in
+    let at-t = at-axis-at .before .before in
+    let at-touch-all = at-t .before .before .before .before .before .before in
+    let start = at-touch-all .before .before .before .before .before in (
+      absorb-left (at-touch-all .touch-all .ensures) (at-t .t .given .1) (at-axis-at .axis-at .ensures) (start .pre)
+          (at-turn-images .turn-images .ensures),
+      λ t h. absorb-holds (at-touch-all .touch-all .ensures) (at-t .t .given .1) (at-axis-at .axis-at .ensures) h
+          (at-turn-images .turn-images .ensures),
+    )
+
+pub absorb-spec : {M : Type 1} → statement M
+absorb-spec =
+    tie.close
+    (tie.spec
+    touch-all-requires
+    enum-known-t
+    enum-told
+    same-length
+    same-length-2
+    returns
+    axis-at-requires
+    mul-turn-images
+    turn-images-requires
+    same-length-3
+    same-length-4
+    returns-2)

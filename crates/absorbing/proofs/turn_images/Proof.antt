@@ -1,0 +1,66 @@
+-- The first i images are changed. Assumes nothing.
+use Rattle.absorbing.specs.Turning.{TurnedTo, turned-none, turn-pre, turned-more, turned-all}
+use Prim.Native.Nat.{_-_, _≤_}
+use native.Mathlib.Omega.{arith}
+use Rattle.absorbing.proofs.turn_images.Statement.{statement}
+use Rattle.absorbing.proofs.turn_images.Tie as tie
+
+abbrev Inv-loop : tie.InvT-loop
+Inv-loop ws₀ xs₀ z n b k i₀ ws xs i = (i ≤ n) × TurnedTo z n b k ws₀ xs₀ ws xs i
+
+abbrev μ-loop : tie.MeasureT-loop
+μ-loop ws₀ xs₀ z n b k i₀ ws xs i = n - i
+
+loop-holds : tie.Need-loop-holds Inv-loop μ-loop
+loop-holds c = (omega arith, turned-none _ _ _ _ _ _)
+
+turn-image-requires : tie.Need-turn-image-requires Inv-loop μ-loop
+turn-image-requires c κs =
+    let at-loop-test = c .before .before in
+    let at-loop = at-loop-test .before in
+    let start = at-loop .before .before .before in
+    turn-pre (start .pre) (at-loop .loop .inv .1) (at-loop-test .loop-test .taken)
+
+add-i : tie.Need-add-i Inv-loop μ-loop
+add-i c = omega arith
+
+loop-less : tie.Need-loop-less Inv-loop μ-loop
+loop-less c = omega arith
+
+loop-again : tie.Need-loop-again Inv-loop μ-loop
+loop-again c =
+    let at-turn-image = c .before .before .before .before in
+    let at-loop-test = at-turn-image .before .before .before in
+    let at-loop = at-loop-test .before in
+    let start = at-loop .before .before .before in
+    (omega arith, turned-more (start .pre) (at-loop .loop .inv .1) (at-loop-test .loop-test .taken) (at-turn-image .turn-image .ensures))
+
+same-length : tie.Need-same-length Inv-loop μ-loop
+same-length c =
+    let at-loop = c .before in
+    at-loop .loop .inv .1 .words .long
+
+same-length-2 : tie.Need-same-length-2 Inv-loop μ-loop
+same-length-2 c =
+    let at-loop = c .before in
+    at-loop .loop .inv .1 .numbers .long
+
+returns : tie.Need-returns Inv-loop μ-loop
+returns c =
+    let at-loop = c .before in
+    turned-all (at-loop .loop .inv .1) (omega arith) (at-loop .loop .inv .0)
+
+pub turn-images-spec : {M : Type 1} → statement M
+turn-images-spec =
+    tie.close
+    (tie.spec
+    Inv-loop
+    μ-loop
+    loop-holds
+    turn-image-requires
+    add-i
+    loop-less
+    loop-again
+    same-length
+    same-length-2
+    returns)

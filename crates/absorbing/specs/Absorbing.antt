@@ -1,0 +1,119 @@
+-- Absorbing: the axis's qubits are touched, then every image changes, as the model's `absorbWord` has it. Assumes nothing.
+use mathlib.Core.Path.{_≡_, refl, sym, ap, _∙_}
+use mathlib.Core.List.{List, map}
+use Prim.Native.Nat.{ℕ, _*_, _%_, _≤_, _<_, _-_}
+use native.Mathlib.Omega.{arith}
+use lib.ListN.{getD, length-map}
+use Rattle.bits.specs.Bit.{bit}
+use Rattle.model.specs.Words.{wordOf, support}
+use Rattle.model.specs.Clifford.{Touched, absorbImage, touchAll, absorbImages, absorbWord}
+use Rattle.model.specs.Lists.{allOf, anyOf, member}
+use Rattle.layout.specs.declared.Shape.{Shape}
+use Rattle.layout.specs.Rows.{fSlot}
+use Rattle.layout.specs.Only.{only-of}
+use Rattle.layout.specs.Words.{axisPlace, slots-le, kept-later, words-kept}
+use Rattle.layout.specs.Shape.{Granted}
+use Rattle.axes.specs.View.{wordAt, axis-word}
+use Rattle.axes.specs.Held.{held-rows, held-words}
+use Rattle.words_wellformed.specs.HeldImages.{IsQuarters}
+use Rattle.clifford_states.specs.Slots.{slot-absorbed, image-absorbed}
+use Rattle.clifford_states.specs.SetBits.{touchAll-axes}
+use Rattle.clifford.specs.Holds.{Holds, SomeTouched, fRows, LeftF, TouchedAs, as-slots, as-limit, left-then, granted-left, AxisAt}
+use Rattle.clifford.specs.declared.Touching.{Touching}
+use Rattle.clifford.specs.declared.Touching.the-variants.{Slots, ExpansionLimit}
+use Rattle.absorbing.specs.Turning.{TurnsPre, ImagesTurned}
+
+-- angle k, which is 2, 4 or 6, about axis id
+pub record AbsorbAt (z : Shape) (n m id k : ℕ) (ws xs : List ℕ) (t : Touched) : Type 0 where
+  pub axis : AxisAt z n m id ws xs t
+  pub quarters : IsQuarters k
+
+-- what the call that touches leaves
+abbrev pub AxisLeft : Shape → ℕ → ℕ → ℕ → List ℕ → List ℕ → Touching → List ℕ → List ℕ → Type 0
+AxisLeft z n m id ws xs r ws′ xs′ =
+    LeftF z ws xs ws′ xs′
+    × ((t : Touched) → AxisAt z n m id ws xs t
+    → TouchedAs z n r ws′ xs′ (touchAll (z .l) t (support (z .l) (wordOf (t .store .axes) id))))
+
+-- ---- the images change
+
+module _ {z : Shape} {n m b k : ℕ} {ws xs ws′ xs′ : List ℕ} {t : Touched} (h : Holds z n m ws xs t)
+    (turned : ImagesTurned z (3 * m) b k ws xs ws′ xs′) where
+  images-behind : axisPlace (z .l) n ≤ z .limit - 3 * m * (2 * z .l)
+  images-behind = omega (arith, h .room)
+
+  pub turned-holds : Holds z n m ws′ xs′ (record { store = t .store; held = map (absorbImages (z .l) (wordAt (z .l) ws b) k) (t .held) })
+  unfolding member anyOf
+  turned-holds = record {
+    axes = held-rows (held-words (h .axes) (turned .words) images-behind) (turned .numbers) refl;
+    peak-in = h .peak-in;
+    count = length-map (t .held) (absorbImages (z .l) (wordAt (z .l) ws b) k) ∙ h .count;
+    room = h .room;
+    slots = λ q c.
+        ap (λ (r : List ℕ). getD r q 0) (turned .numbers .rows fSlot (omega arith) refl) ∙ h .slots q c
+        ∙ sym (slot-absorbed 1 q (z .l) (wordAt (z .l) ws b) k (t .held));
+    images = λ i c.
+        turned .done i c ∙ ap (absorbImage (z .l) (wordAt (z .l) ws b) k) (h .images i c)
+        ∙ sym (image-absorbed (z .l) (wordAt (z .l) ws b) k (t .held) i (omega (arith, h .count)));
+    mask = λ q c e.
+        ap (λ (x : ℕ). bit x (q % 64)) (turned .words .above _ (omega arith))
+        ∙ h .mask q c (λ f. e (slot-absorbed 1 q (z .l) (wordAt (z .l) ws b) k (t .held) ∙ f));
+  }
+
+  pub turned-left : LeftF z ws xs ws′ xs′
+  unfolding allOf member anyOf
+  turned-left = record {
+    words = kept-later (omega arith) (words-kept (turned .words));
+    numbers = only-of fRows refl (turned .numbers);
+  }
+
+-- ---- both steps
+
+module _ {z : Shape} {n m id k : ℕ} {ws xs ws₁ xs₁ : List ℕ} {r : Touching} (touched : AxisLeft z n m id ws xs r ws₁ xs₁) where
+  pub absorb-limit : r ≡ ExpansionLimit → (t : Touched) → AbsorbAt z n m id k ws xs t
+      → TouchedAs z n ExpansionLimit ws₁ xs₁ (absorbWord (z .l) t (wordOf (t .store .axes) id) k)
+  unfolding absorbWord
+  absorb-limit e t h = as-limit (touched .1 t (h .axis) .refused e)
+
+  module _ {m₁ a : ℕ} (e : r ≡ Slots m₁) (place : a ≡ axisPlace (z .l) id) where
+    module _ {t : Touched} (h : AbsorbAt z n m id k ws xs t) where
+      now-granted : Granted z ws₁ xs₁
+      now-granted = granted-left (h .axis .at .granted) (touched .0)
+
+      now-holds : Holds z n m₁ ws₁ xs₁ (touchAll (z .l) t (support (z .l) (wordOf (t .store .axes) id)))
+      now-holds = touched .1 t (h .axis) .held m₁ e
+
+      images-entry : 3 * m₁ < z .u
+      images-entry = now-granted .sized .words-row (3 * m₁) (omega (arith, now-holds .room))
+
+      pub turns-there : TurnsPre z (3 * m₁) a k ws₁ xs₁
+      turns-there = record {
+        slots = omega (arith, now-holds .room);
+        words-long = omega (arith, now-granted .words-long);
+        numbers-long = now-granted .numbers-long;
+        entry = omega (arith, images-entry);
+        small = now-granted .sized .u-small;
+        word = omega (arith, place, now-holds .room, slots-le (z .l) id n (h .axis .id-in));
+        quarters = h .quarters;
+      }
+
+      same-axis : wordAt (z .l) ws₁ a ≡ wordOf (t .store .axes) id
+      same-axis =
+          ap (wordAt (z .l) ws₁) place ∙ sym (axis-word (z .l) n ws₁ id (h .axis .id-in))
+          ∙ ap (λ (axes : List (List ℕ)). wordOf axes id) (now-holds .axes .are
+          ∙ touchAll-axes (z .l) t (support (z .l) (wordOf (t .store .axes) id)))
+
+      pub absorb-holds : {ws₂ xs₂ : List ℕ} → ImagesTurned z (3 * m₁) a k ws₁ xs₁ ws₂ xs₂
+          → TouchedAs z n (Slots m₁) ws₂ xs₂ (absorbWord (z .l) t (wordOf (t .store .axes) id) k)
+      unfolding absorbWord
+      absorb-holds turned = as-slots (rw same-axis at (turned-holds now-holds turned))
+
+    pub absorb-turns : SomeTouched (λ (t : Touched). AbsorbAt z n m id k ws xs t) → TurnsPre z (3 * m₁) a k ws₁ xs₁
+    absorb-turns s = turns-there (s .it)
+
+    pub absorb-small : SomeTouched (λ (t : Touched). AbsorbAt z n m id k ws xs t) → 3 * m₁ < 1187839
+    absorb-small s = omega (arith, images-entry (s .it), now-granted (s .it) .sized .u-small)
+
+    pub absorb-left : SomeTouched (λ (t : Touched). AbsorbAt z n m id k ws xs t) → {ws₂ xs₂ : List ℕ}
+        → ImagesTurned z (3 * m₁) a k ws₁ xs₁ ws₂ xs₂ → LeftF z ws xs ws₂ xs₂
+    absorb-left s turned = left-then (touched .0) (turned-left (now-holds (s .it)) turned)

@@ -1,0 +1,206 @@
+-- Images change as angle k about a word is absorbed: as the model's `absorbImage` has it. Assumes nothing.
+use mathlib.Core.Path.{_≡_, subst, refl, sym, ap, ap₂, _∙_}
+use mathlib.Core.List.{List, [], _∷_}
+use mathlib.Core.Logic.{inl, inr, _≢_}
+use mathlib.Core.Bool.{Bool, true, false, not}
+use Prim.Native.Nat.{ℕ, _+_, _*_, _/_, _%_, _≤_, _<_, _-_}
+use native.Mathlib.Omega.{arith}
+use native.Mathlib.Decide.{ℕ-discrete}
+use lib.ListN.{length, getD}
+use borrow.Author.Tests.{eq-eqb, ne-eqb}
+use Rattle.store.specs.Part.{put, part-length}
+use Rattle.store.specs.Row.{row, Written}
+use Rattle.pauli.specs.Word.{anticommutes, xorWords, phase}
+use Rattle.pauli.specs.ProductLaws.{xorWords-length, phase-lt}
+use Rattle.product.specs.Product.{StoredPre, StoredProduct}
+use Rattle.model.specs.Words.{Value, asValue, scaled, multiply}
+use Rattle.model.specs.Clifford.{absorbImage}
+use Rattle.theory.specs.Cases.{if-true, if-false}
+use Rattle.layout.specs.declared.Shape.{Shape}
+use Rattle.layout.specs.Rows.{fPhase, rowCount}
+use Rattle.layout.specs.Only.{Only, only-none, only-then}
+use Rattle.layout.specs.Words.{slotPlace, slot-ends, slots-le, slot-in, OnlyWords, words-none, words-then, words-in, words-part}
+use Rattle.layout.specs.Words.{slot-behind}
+use Rattle.layout.specs.Shape.{longestRow}
+use Rattle.axes.specs.View.{wordAt}
+use Rattle.words_wellformed.specs.HeldImages.{IsQuarters}
+use Rattle.words_wellformed.specs.Conjugation.{value-eq}
+use Rattle.clifford.specs.Holds.{imageIn}
+use Rattle.clifford.specs.Images.{ImageThere, ImageSet, image-other, image-put, image-phase, image-stays}
+
+-- e more quarter turns, as the code adds them
+pub phase-added : {s t : List ℕ} {u i : ℕ} (e : ℕ) {old : ℕ} → old ≡ getD (row s u fPhase) i 0 → Written s u fPhase i ((old % 4 + e) % 4) t
+    → Written s u fPhase i ((getD (row s u fPhase) i 0 + e) % 4) t
+phase-added {s} {t} {u} {i} e {old} f w =
+    subst (λ (v : ℕ). Written s u fPhase i v t) (let g : (old % 4 + e) % 4 ≡ (getD (row s u fPhase) i 0 + e) % 4 = omega arith in g) w
+
+-- ---- one image, by the word at b
+
+pub record TurnPre (z : Shape) (i b k : ℕ) (ws xs : List ℕ) : Type 0 where
+  pub there : ImageThere z i xs
+  pub words-long : z .limit ≤ length ws
+  pub word : b + 2 * z .l ≤ slotPlace (z .limit) (z .l) i
+  pub quarters : IsQuarters k
+
+abbrev pub ImageTurned : Shape → ℕ → ℕ → ℕ → List ℕ → List ℕ → List ℕ → List ℕ → Type 0
+ImageTurned z i b k ws xs ws′ xs′ = ImageSet z i (absorbImage (z .l) (wordAt (z .l) ws b) k (imageIn z ws xs i)) ws xs ws′ xs′
+
+quarter-turns : (t e f c : ℕ) → e ≡ f → ((0 + t + f) % 4 + c) % 4 ≡ (t + (e + c)) % 4
+quarter-turns t e f c h = omega arith
+
+module _ {z : Shape} {i b k : ℕ} {ws xs : List ℕ} (pre : TurnPre z i b k ws xs) where
+  -- the words are there
+  slot-in-words : slotPlace (z .limit) (z .l) i + 2 * z .l ≤ length ws
+  slot-in-words = omega (arith, slot-ends (z .limit) (z .l) i (pre .there .slot), pre .words-long)
+
+  pub turn-word : b + 2 * z .l ≤ length ws
+  turn-word = omega (arith, pre .word, slot-in-words)
+
+  pub turn-slot : {at : ℕ} → at ≡ slotPlace (z .limit) (z .l) i → at + 2 * z .l ≤ length ws
+  turn-slot e = omega (arith, slot-in-words)
+
+  pub turn-longs : {at : ℕ} {p q : List ℕ} → at ≡ slotPlace (z .limit) (z .l) i → p ≡ wordAt (z .l) ws b → q ≡ wordAt (z .l) ws at
+      → (length p ≡ 2 * z .l) × (length q ≡ 2 * z .l)
+  turn-longs {at} e f g = (
+    ap length f ∙ part-length ws b (2 * z .l) turn-word,
+    ap length g ∙ part-length ws at (2 * z .l) (turn-slot e),
+  )
+
+  pub turn-stored : {at : ℕ} → at ≡ slotPlace (z .limit) (z .l) i → StoredPre (z .l) ws b at at
+  turn-stored e = record {
+    p-in = turn-word;
+    q-in = turn-slot e;
+    o-in = turn-slot e;
+    p-clear = inr (inr (omega (arith, pre .word)));
+    q-clear = inl refl;
+  }
+
+  pub turn-small : {at e : ℕ} {ws′ : List ℕ} → StoredProduct (z .l) ws b at at ws′ e
+      → (rowCount * z .u ≤ length xs) × (i < z .u) × (e + k / 2 < 8)
+  turn-small {at} s = (
+    pre .there .numbers-long,
+    pre .there .entry,
+    omega (arith, s .turns, phase-lt (z .l) (wordAt (z .l) ws b) (wordAt (z .l) ws at), pre .quarters .small),
+  )
+
+  -- whether it changes: said of the words that were read
+  module _ {r : Bool} {p q : List ℕ} {at : ℕ} (place : at ≡ slotPlace (z .limit) (z .l) i)
+      (said : r ≡ anticommutes (z .l) p q) (b-read : p ≡ wordAt (z .l) ws b) (i-read : q ≡ wordAt (z .l) ws at) where
+    as-read : r ≡ anticommutes (z .l) (wordAt (z .l) ws b) (imageIn z ws xs i .word)
+    unfolding imageIn
+    as-read = said ∙ ap₂ (anticommutes (z .l)) b-read (i-read ∙ ap (wordAt (z .l) ws) place)
+
+    -- it commutes
+    pub turned-not : r ≡ false → ImageTurned z i b k ws xs ws xs
+    unfolding absorbImage
+    turned-not e = rw (if-true {A = Value} _ _ (ap not (sym as-read ∙ e))) (image-stays z i ws xs)
+
+    -- "k = 4 gives -P"
+    pub turned-half : {xs′ : List ℕ} → r ≡ true → k ≡ 4 → Written xs (z .u) fPhase i ((getD (row xs (z .u) fPhase) i 0 + 2) % 4) xs′
+        → ImageTurned z i b k ws xs ws xs′
+    unfolding absorbImage
+    turned-half e f w =
+        rw (if-false {A = Value} _ _ (ap not (sym as-read ∙ e)), if-true {A = Value} _ _ (eq-eqb k 4 f))
+        (unfold scaled imageIn in (image-phase (pre .there) _ w))
+
+    -- "k = 2 gives iBP, k = -2 gives -iBP"
+    pub turned-quarter : {ws′ xs′ : List ℕ} {e : ℕ} → r ≡ true → (k ≡ 4 → ⊥) → StoredProduct (z .l) ws b at at ws′ e
+        → Written xs (z .u) fPhase i ((getD (row xs (z .u) fPhase) i 0 + (e + k / 2)) % 4) xs′ → ImageTurned z i b k ws xs ws′ xs′
+    unfolding absorbImage
+    turned-quarter {ws′} {xs′} {e} t f s w =
+        rw (if-false {A = Value} _ _ (ap not (sym as-read ∙ t)), if-false {A = Value} _ _ (ne-eqb k 4 f))
+        (subst (λ (v : Value). ImageSet z i v ws xs ws′ xs′) (sym value) (image-put (pre .there) _ _ (pre .words-long) long laid w))
+      where
+        laid : ws′ ≡ put ws (slotPlace (z .limit) (z .l) i)
+            (xorWords (wordAt (z .l) ws b) (wordAt (z .l) ws (slotPlace (z .limit) (z .l) i)))
+        laid = rw place at (s .store)
+
+        its-phase : e ≡ phase (z .l) (wordAt (z .l) ws b) (wordAt (z .l) ws (slotPlace (z .limit) (z .l) i))
+        its-phase = rw place at (s .turns)
+
+        value : scaled (k / 2) (multiply (z .l) (asValue (wordAt (z .l) ws b)) (imageIn z ws xs i))
+            ≡ record {
+              turns = (getD (row xs (z .u) fPhase) i 0 + (e + k / 2)) % 4;
+              word = xorWords (wordAt (z .l) ws b) (wordAt (z .l) ws (slotPlace (z .limit) (z .l) i));
+            }
+        value = unfold scaled multiply imageIn in (value-eq (quarter-turns _ _ _ (k / 2) its-phase) refl)
+
+        ends : slotPlace (z .limit) (z .l) i + 2 * z .l ≤ z .limit
+        ends = slot-ends (z .limit) (z .l) i (pre .there .slot)
+
+        b-long : length (wordAt (z .l) ws b) ≡ 2 * z .l
+        b-long = part-length ws b (2 * z .l) (omega (arith, pre .word, pre .words-long, ends))
+
+        i-long : length (wordAt (z .l) ws (slotPlace (z .limit) (z .l) i)) ≡ 2 * z .l
+        i-long = part-length ws (slotPlace (z .limit) (z .l) i) (2 * z .l) (omega (arith, pre .words-long, ends))
+
+        long : length (xorWords (wordAt (z .l) ws b) (wordAt (z .l) ws (slotPlace (z .limit) (z .l) i))) ≡ 2 * z .l
+        long = xorWords-length _ _ (b-long ∙ sym i-long) ∙ b-long
+
+-- ---- all images
+
+pub record TurnsPre (z : Shape) (n b k : ℕ) (ws xs : List ℕ) : Type 0 where
+  pub slots : n * (2 * z .l) ≤ z .limit
+  pub words-long : z .limit ≤ length ws
+  pub numbers-long : rowCount * z .u ≤ length xs
+  pub entry : n ≤ z .u
+  pub small : z .u ≤ longestRow
+  pub word : b + 2 * z .l + n * (2 * z .l) ≤ z .limit
+  pub quarters : IsQuarters k
+
+-- the first i images are changed
+pub record TurnedTo (z : Shape) (n b k : ℕ) (ws xs ws′ xs′ : List ℕ) (i : ℕ) : Type 0 where
+  pub done : (j : ℕ) → j < i → imageIn z ws′ xs′ j ≡ absorbImage (z .l) (wordAt (z .l) ws b) k (imageIn z ws xs j)
+  pub left : (j : ℕ) → i ≤ j → j < n → imageIn z ws′ xs′ j ≡ imageIn z ws xs j
+  pub words : OnlyWords (z .limit - n * (2 * z .l)) (z .limit) ws ws′
+  pub numbers : Only (fPhase ∷ []) (z .u) xs xs′
+
+abbrev pub ImagesTurned : Shape → ℕ → ℕ → ℕ → List ℕ → List ℕ → List ℕ → List ℕ → Type 0
+ImagesTurned z n b k ws xs ws′ xs′ = TurnedTo z n b k ws xs ws′ xs′ n
+
+pub turned-none : (z : Shape) (n b k : ℕ) (ws xs : List ℕ) → TurnedTo z n b k ws xs ws xs 0
+turned-none z n b k ws xs = record {
+  done = λ j h. absurd (omega arith);
+  left = λ j h m. refl;
+  words = words-none _ _ ws;
+  numbers = only-none _ (z .u) xs;
+}
+
+module _ {z : Shape} {n b k : ℕ} {ws xs ws₁ xs₁ : List ℕ} {i : ℕ} (pre : TurnsPre z n b k ws xs)
+    (to : TurnedTo z n b k ws xs ws₁ xs₁ i) (h : i < n) where
+  pub turn-pre : TurnPre z i b k ws₁ xs₁
+  turn-pre = record {
+    there = record {
+      slot = omega (arith, pre .slots, slots-le (z .l) i n h);
+      numbers-long = omega (arith, pre .numbers-long, to .numbers .long);
+      entry = omega (arith, pre .entry);
+    };
+    words-long = omega (arith, pre .words-long, to .words .long);
+    word = slot-behind (z .limit) (z .l) n (pre .slots) i _ h (pre .word);
+    quarters = pre .quarters;
+  }
+
+  -- the word at b is as it was
+  same-word : wordAt (z .l) ws₁ b ≡ wordAt (z .l) ws b
+  same-word = words-part (to .words) b (2 * z .l) (omega (arith, pre .word, pre .words-long)) (inl (omega (arith, pre .word)))
+
+  pub turned-more : {ws₂ xs₂ : List ℕ} → ImageTurned z i b k ws₁ xs₁ ws₂ xs₂ → TurnedTo z n b k ws xs ws₂ xs₂ (i + 1)
+  turned-more {ws₂} {xs₂} s = record {
+    done = λ j m. now j (ℕ-discrete j i) m;
+    left = λ j m e. other j (omega arith) e ∙ to .left j (omega arith) e;
+    words = words-then (to .words) (words-in _ _ (slot-behind (z .limit) (z .l) n (pre .slots) i _ h (omega (arith, pre .slots)))
+        (slot-in (z .limit) (z .l) n (pre .slots) i h) (s .words));
+    numbers = only-then (to .numbers) (s .numbers);
+  }
+    where
+      other : (j : ℕ) → j ≢ i → j < n → imageIn z ws₂ xs₂ j ≡ imageIn z ws₁ xs₁ j
+      other j ne m = image-other s (omega (arith, pre .words-long, to .words .long)) n j (pre .slots) h m ne
+
+      now : (j : ℕ) → Dec (j ≡ i) → j < i + 1 → imageIn z ws₂ xs₂ j ≡ absorbImage (z .l) (wordAt (z .l) ws b) k (imageIn z ws xs j)
+      now j (yes e) m =
+          rw e (s .image ∙ ap₂ (λ (w : List ℕ) (v : Value). absorbImage (z .l) w k v) same-word (to .left i (omega arith) h))
+      now j (no ne) m = other j ne (omega arith) ∙ to .done j (omega arith)
+
+pub turned-all : {z : Shape} {n b k : ℕ} {ws xs ws′ xs′ : List ℕ} {i : ℕ} → TurnedTo z n b k ws xs ws′ xs′ i → n ≤ i → i ≤ n
+    → ImagesTurned z n b k ws xs ws′ xs′
+turned-all {z} {n} {b} {k} {ws} {xs} {ws′} {xs′} {i} t h m = subst (TurnedTo z n b k ws xs ws′ xs′) (let e : i ≡ n = omega arith in e) t

@@ -1,0 +1,145 @@
+// F takes in a quarter, half or three quarter turn about an axis: the axis's qubits are touched, then the images change.
+ghost use mathlib.Core.Path.{_≡_};
+ghost use Prim.Native.Nat.{_+_, _*_, _%_, _<_, _≤_};
+ghost use lib.ListN.{length, getD};
+ghost use Rattle.store.specs.Row.{row, Written};
+ghost use Rattle.model.specs.Words.{setBits, support, wordOf};
+ghost use Rattle.model.specs.Clifford.{Touched, touchAll, absorbWord};
+ghost use Rattle.layout.specs.Rows.{fPhase};
+ghost use Rattle.clifford.specs.Holds.{SomeTouched, LeftF, TouchedAs, AxisAt};
+ghost use Rattle.absorbing.specs.Turning.{TurnPre, ImageTurned, TurnsPre, ImagesTurned};
+ghost use Rattle.absorbing.specs.AxisQubits.{BitsAt};
+ghost use Rattle.absorbing.specs.Absorbing.{AbsorbAt};
+use clifford::Touching;
+use layout::F_PHASE;
+use layout::Shape;
+
+// Touches the qubits of the set bits of number j of a plane.
+fn touch_bits(
+    words: &mut [u64],
+    numbers: &mut [u32],
+    shape: Shape,
+    axes: usize,
+    before: usize,
+    j: usize,
+    acted: u64,
+) -> Touching
+    requires { ⌜ SomeTouched (λ (t : Touched). BitsAt shape axes before j acted (now words) (now numbers) t) ⌝ }
+    ensures { λ r. ⌜ LeftF shape (now (words .entry)) (now (numbers .entry)) (now (words .exit)) (now (numbers .exit))
+        × ((t : Touched) → BitsAt shape axes before j acted (now (words .entry)) (now (numbers .entry)) t
+        → TouchedAs shape axes r (now (words .exit)) (now (numbers .exit)) (touchAll (shape .l) t (setBits 64 (64 * j) acted))) ⌝ }
+{
+    let mut slots = before;
+    let mut rest = acted;
+    while rest != 0 {
+        let q = 64 * j + u64::trailing_zeros(rest) as usize;
+        let t = clifford::touch(words, numbers, shape, axes, slots, q);
+        match t {
+            Touching::Slots(n) => slots = n,
+            Touching::ExpansionLimit => return Touching::ExpansionLimit,
+        }
+        rest &= rest - 1;
+    }
+    Touching::Slots(slots)
+}
+
+// Touches the qubits of axis id.
+fn touch_all(
+    words: &mut [u64],
+    numbers: &mut [u32],
+    shape: Shape,
+    axes: usize,
+    before: usize,
+    id: usize,
+) -> Touching
+    requires { ⌜ SomeTouched (λ (t : Touched). AxisAt shape axes before id (now words) (now numbers) t) ⌝ }
+    ensures { λ r. ⌜ LeftF shape (now (words .entry)) (now (numbers .entry)) (now (words .exit)) (now (numbers .exit))
+        × ((t : Touched) → AxisAt shape axes before id (now (words .entry)) (now (numbers .entry)) t
+        → TouchedAs shape axes r (now (words .exit)) (now (numbers .exit))
+        (touchAll (shape .l) t (support (shape .l) (wordOf (t .store .axes) id)))) ⌝ }
+{
+    let at = layout::axis_at(shape.l, id);
+    let mut slots = before;
+    for j in 0..shape.l {
+        let acted = clifford::acted_at(&words[..], at, shape.l, j);
+        let t = touch_bits(words, numbers, shape, axes, slots, j, acted);
+        match t {
+            Touching::Slots(n) => slots = n,
+            Touching::ExpansionLimit => return Touching::ExpansionLimit,
+        }
+    }
+    Touching::Slots(slots)
+}
+
+// Adds e to the phase of image i.
+fn add_phase(numbers: &mut [u32], u: usize, i: usize, e: u32)
+    requires { ⌜ (24 * u ≤ length (now numbers)) × (i < u) × (e < 8) ⌝ }
+    ensures { λ _. ⌜ Written (now (numbers .entry)) u fPhase i
+        ((getD (row (now (numbers .entry)) u fPhase) i 0 + e) % 4) (now (numbers .exit)) ⌝ }
+{
+    let old = store::read(&numbers[..], u, F_PHASE, i);
+    store::write(numbers, u, F_PHASE, i, (old % 4 + e) % 4);
+}
+
+// Image i, if it anticommutes with the word B at b: iBP for angle 2, -iBP for 6, -P for 4.
+fn turn_image(words: &mut [u64], numbers: &mut [u32], shape: Shape, i: usize, b: usize, k: u32)
+    requires { ⌜ TurnPre shape i b k (now words) (now numbers) ⌝ }
+    ensures { λ _. ⌜ ImageTurned shape i b k (now (words .entry)) (now (numbers .entry)) (now (words .exit)) (now (numbers .exit)) ⌝ }
+{
+    let l = shape.l;
+    let at = layout::slot_at(shape.limit, l, i);
+    if !pauli::anticommutes(
+        axes::word_at(&words[..], b, l),
+        axes::word_at(&words[..], at, l),
+        l,
+    ) {
+        return;
+    }
+    if k == 4 {
+        add_phase(numbers, shape.u, i, 2);
+        return;
+    }
+    let e = product::product_in(words, b, at, at, l);
+    add_phase(numbers, shape.u, i, e.0 as u32 + k / 2);
+}
+
+// All images, by the word at b.
+fn turn_images(
+    words: &mut [u64],
+    numbers: &mut [u32],
+    shape: Shape,
+    images: usize,
+    b: usize,
+    k: u32,
+)
+    requires { ⌜ TurnsPre shape images b k (now words) (now numbers) ⌝ }
+    ensures { λ _. ⌜ ImagesTurned shape images b k (now (words .entry)) (now (numbers .entry)) (now (words .exit)) (now (numbers .exit)) ⌝ }
+{
+    for i in 0..images {
+        turn_image(words, numbers, shape, i, b, k);
+    }
+}
+
+// F takes in angle k, which is 2, 4 or 6, about axis id.
+pub fn absorb(
+    words: &mut [u64],
+    numbers: &mut [u32],
+    shape: Shape,
+    axes: usize,
+    slots: usize,
+    id: usize,
+    k: u32,
+) -> Touching
+    requires { ⌜ SomeTouched (λ (t : Touched). AbsorbAt shape axes slots id k (now words) (now numbers) t) ⌝ }
+    ensures { λ r. ⌜ LeftF shape (now (words .entry)) (now (numbers .entry)) (now (words .exit)) (now (numbers .exit))
+        × ((t : Touched) → AbsorbAt shape axes slots id k (now (words .entry)) (now (numbers .entry)) t
+        → TouchedAs shape axes r (now (words .exit)) (now (numbers .exit)) (absorbWord (shape .l) t (wordOf (t .store .axes) id) k)) ⌝ }
+{
+    let t = touch_all(words, numbers, shape, axes, slots, id);
+    let Touching::Slots(n) = t else {
+        return Touching::ExpansionLimit;
+    };
+    let at = layout::axis_at(shape.l, id);
+    turn_images(words, numbers, shape, 3 * n, at, k);
+    Touching::Slots(n)
+}

@@ -1,0 +1,229 @@
+-- Carrying an axis through F: its image is stored, and has its id. Assumes nothing.
+use mathlib.Core.Path.{_≡_, subst, refl, sym, ap, ap₂, _∙_}
+use mathlib.Core.List.{List}
+use Prim.Native.Nat.{ℕ, _+_, _*_, _%_, _≤_, _<_, _-_}
+use native.Mathlib.Omega.{arith}
+use lib.ListN.{length, getD}
+use Rattle.bits.specs.Bit.{bit}
+use Rattle.model.specs.Words.{Value, wordOf, asValue, Store, idOf, intern}
+use Rattle.model.specs.Clifford.{Touched, imageWords, wordImage}
+use Rattle.model.specs.Lists.{anyOf, member}
+use Rattle.theory.specs.Ids.{id-stored, id-in}
+use Rattle.layout.specs.declared.Shape.{Shape}
+use Rattle.layout.specs.Rows.{fSlot, fPhase, axesRows}
+use Rattle.layout.specs.Only.{Only, only-none}
+use Rattle.layout.specs.Words.{axisPlace, slotPlace, scratchPlace, KeptFrom, slot-in, kept-none, kept-then, kept-later, words-kept}
+use Rattle.layout.specs.Words.{kept-part, slot-counted}
+use Rattle.layout.specs.Shape.{longestRow}
+use Rattle.axes.specs.View.{wordAt}
+use Rattle.axes.specs.Held.{sizesOf, held-count, held-stored}
+use Rattle.axes.specs.declared.Interned.{Interned}
+use Rattle.axes.specs.declared.Interned.the-variants.{Id}
+use Rattle.axes.specs.declared.Sizes.{Sizes}
+use Rattle.axes.specs.Intern.{InternPre, Stores, intern-old, countWith}
+use Rattle.axes.specs.Stored.{HasId, NoRoom, InternedAs, interned-is}
+use Rattle.words_wellformed.specs.Conjugation.{value-eq}
+use Rattle.words_wellformed.specs.StoredWords.{StoredWords}
+use Rattle.clifford.specs.Holds.{imageIn, maskPlace, Holds, AxisAt, holds-behind, axis-in}
+use Rattle.carrying.specs.Fixed.{NoneMarked, fixed-image}
+use Rattle.carrying.specs.Letters.{axisWord, CarryAt, WordCarried}
+use Rattle.carrying.specs.Scratch.{scratchValue}
+use Rattle.carrying.specs.declared.Carried.{Carried}
+use Rattle.carrying.specs.declared.Carried.the-variants.{To, ExpansionLimit}
+use Rattle.carrying.specs.declared.CarriedAxis.{CarriedAxis}
+
+-- the image of axis a, and the store once it is in
+unfoldable pub imageOfAxis : ℕ → Touched → ℕ → Value
+imageOfAxis l t a = wordImage l (t .held) (wordOf (t .store .axes) a)
+
+unfoldable pub carriedStore : ℕ → Touched → ℕ → Store
+carriedStore l t a = intern l (imageWords l (t .held)) (t .store) (imageOfAxis l t a .word)
+
+-- id is an axis, and every axis is a word that is stored once
+pub record CarryPre (z : Shape) (n m id : ℕ) (ws xs : List ℕ) (t : Touched) : Type 0 where
+  pub axis : AxisAt z n m id ws xs t
+  pub stored : StoredWords (z .l) (t .store .axes)
+
+-- what carrying leaves of both stores: where an axis is stored, rows that are kept for axes may change
+pub record LeftCarried (z : Shape) (ws xs ws′ xs′ : List ℕ) : Type 0 where
+  pub words : KeptFrom (maskPlace z) ws ws′
+  pub numbers : Only axesRows (z .u) xs xs′
+
+pub left-fixed : (z : Shape) (ws xs : List ℕ) → LeftCarried z ws xs ws xs
+left-fixed z ws xs = record { words = kept-none _ ws; numbers = only-none axesRows (z .u) xs }
+
+-- what the code's image means
+pub record CarriedTo (z : Shape) (m id : ℕ) (t : Touched) (ws xs : List ℕ) (c : CarriedAxis) : Type 0 where
+  pub id-is : c .id ≡ idOf (carriedStore (z .l) t id .axes) (imageOfAxis (z .l) t id .word)
+  pub id-in : c .id < c .axes
+  pub turns-are : c .turns ≡ imageOfAxis (z .l) t id .turns
+  pub small : c .turns < 4
+  pub holds : Holds z (c .axes) m ws xs (record { store = carriedStore (z .l) t id; held = t .held })
+
+-- what an answer means: the image is stored, or the model's peak is above the limit
+pub record CarriedAs (z : Shape) (m id : ℕ) (t : Touched) (r : Carried) (ws xs : List ℕ) : Type 0 where
+  pub to : (c : CarriedAxis) → r ≡ To c → CarriedTo z m id t ws xs c
+  pub refused : r ≡ ExpansionLimit → z .limit < carriedStore (z .l) t id .peak
+
+pub as-to : {z : Shape} {m id : ℕ} {t : Touched} {ws xs : List ℕ} {c : CarriedAxis} → CarriedTo z m id t ws xs c
+    → CarriedAs z m id t (To c) ws xs
+as-to {z} {m} {id} {t} {ws} {xs} {c} h = record {
+  to = λ d e. let f : c ≡ d = cc in subst (CarriedTo z m id t ws xs) f h;
+  refused = λ e. let f : _≡_ {A = ℕ} 0 1 = cc in absurd (omega arith);
+}
+
+pub as-refused : {z : Shape} {m id : ℕ} {t : Touched} {ws xs : List ℕ} → z .limit < carriedStore (z .l) t id .peak
+    → CarriedAs z m id t ExpansionLimit ws xs
+as-refused h = record {
+  to = λ d e. let f : _≡_ {A = ℕ} 0 1 = cc in absurd (omega arith);
+  refused = λ e. h;
+}
+
+module _ {z : Shape} {n m id : ℕ} {ws xs : List ℕ} {t : Touched} (h : CarryPre z n m id ws xs t) where
+  axes-count : length (t .store .axes) ≡ n
+  axes-count = held-count (h .axis .at .holds .axes)
+
+  id-count : id < length (t .store .axes)
+  id-count = omega (arith, axes-count, h .axis .id-in)
+
+  pub carry-at : CarryAt z id ws xs t
+  carry-at = record { held = record { axes = n; slots = m; at = h .axis .at; id-in = h .axis .id-in }; inside = h .axis .inside }
+
+  pub carry-words : (axisPlace (z .l) id + 2 * z .l ≤ z .limit) × (z .limit + 16 * z .l ≤ length ws)
+  carry-words = (axis-in (h .axis .at .holds) (h .axis .id-in), h .axis .at .granted .words-long)
+
+  pub carry-numbers : (n < longestRow) × (m * (6 * z .l) ≤ 1048576) × (z .limit ≤ 1048576) × (z .l ≤ 64)
+  carry-numbers =
+      let r = h .axis .at .holds .room in
+      let s = h .axis .at .granted .sized in
+      (omega (arith, s .words-row n (omega arith), s .u-small), omega (arith, s .limit), s .limit, s .few)
+
+  -- F leaves it: it has its id, and nothing is stored
+  pub fixed-to : {a b : ℕ} → a ≡ axisPlace (z .l) id → b ≡ maskPlace z → NoneMarked (z .l) ws a b (z .l)
+      → CarriedAs z m id t (To (record { id = id; turns = 0; axes = n })) ws xs
+  unfolding imageOfAxis carriedStore
+  fixed-to {a} place mask marked =
+      as-to (record {
+        id-is = sym (ap₂ (λ (st : Store) (v : Value). idOf (st .axes) (v .word)) same image ∙ h .stored .distinct id id-count);
+        id-in = h .axis .id-in;
+        turns-are = sym (ap (λ (v : Value). v .turns) image);
+        small = omega arith;
+        holds = subst (λ (st : Store). Holds z n m ws xs (record { store = st; held = t .held })) (sym same) (h .axis .at .holds);
+      })
+    where
+      image : wordImage (z .l) (t .held) (axisWord id t) ≡ asValue (axisWord id t)
+      image =
+          fixed-image carry-at (h .stored .words id id-count) place (subst (λ (x : ℕ). NoneMarked (z .l) ws a x (z .l)) mask marked)
+
+      same : intern (z .l) (imageWords (z .l) (t .held)) (t .store) (wordImage (z .l) (t .held) (axisWord id t) .word) ≡ t .store
+      same =
+          ap (λ (v : Value). intern (z .l) (imageWords (z .l) (t .held)) (t .store) (v .word)) image
+          ∙ intern-old (z .l) (imageWords (z .l) (t .held)) (t .store) (axisWord id t)
+          (omega (arith, h .stored .distinct id id-count, id-count))
+
+  -- it is worked out behind the limit
+  module _ {ws₁ : List ℕ} {e : ℕ} (word : WordCarried z id ws t ws₁ e) where
+    now-holds : Holds z n m ws₁ xs t
+    now-holds = holds-behind (word .words) (h .axis .at .holds)
+
+    long₁ : z .limit + 16 * z .l ≤ length ws₁
+    long₁ = omega (arith, h .axis .at .granted .words-long, word .words .long)
+
+    the-word : wordAt (z .l) ws₁ (z .limit) ≡ imageOfAxis (z .l) t id .word
+    unfolding imageOfAxis scratchValue
+    the-word = ap (λ (v : Value). v .word) (word .value)
+
+    pub intern-there : {o : ℕ} {y : Sizes} → o ≡ scratchPlace (z .limit) → y ≡ sizesOf z n → InternPre y (m * (6 * z .l)) ws₁ xs o
+    intern-there e f = rw f (record {
+      held = held-stored (now-holds .axes);
+      counted = omega (arith, now-holds .room);
+      word-in = omega (arith, long₁);
+      behind = omega arith;
+    })
+
+    others-are : imageWords (z .l) (t .held) ≡ m * (6 * z .l)
+    unfolding imageWords
+    others-are = ap (λ (x : ℕ). x * (6 * z .l)) (h .axis .at .holds .count)
+
+    store-is : carriedStore (z .l) t id ≡ intern (z .l) (m * (6 * z .l)) (t .store) (wordAt (z .l) ws₁ (z .limit))
+    unfolding carriedStore
+    store-is = ap₂ (λ (x : ℕ) (w : List ℕ). intern (z .l) x (t .store) w) others-are (sym the-word)
+
+    module _ {r : Interned} {ws₂ xs₂ : List ℕ} {o : ℕ} {y : Sizes} (scratch : o ≡ scratchPlace (z .limit)) (sizes : y ≡ sizesOf z n)
+        (said : Stores y (m * (6 * z .l)) ws₁ xs o r ws₂ xs₂) where
+      -- what the answer means
+      meant : InternedAs (sizesOf z n) (m * (6 * z .l)) ws₁ xs (t .store) (wordAt (z .l) ws₁ (z .limit)) r ws₂ xs₂
+      meant =
+          interned-is (sizesOf z n) (m * (6 * z .l)) ws₁ xs (z .limit) (intern-there refl refl) (t .store) (now-holds .axes)
+          (rw (scratch, sizes) at said)
+          (now-holds .peak-in)
+
+      module _ (f : r ≡ Rattle.axes.specs.declared.Interned.the-variants.ExpansionLimit) where
+        no-room : NoRoom (sizesOf z n) (m * (6 * z .l)) ws₁ xs (t .store) (wordAt (z .l) ws₁ (z .limit)) ws₂ xs₂
+        no-room =
+            subst (λ (x : Interned). InternedAs (sizesOf z n) (m * (6 * z .l)) ws₁ xs (t .store)
+            (wordAt (z .l) ws₁ (z .limit)) x ws₂ xs₂) f meant
+
+        pub limit-left : LeftCarried z ws xs ws₂ xs₂
+        limit-left = record { words = rw (no-room .kept) (words-kept (word .words)); numbers = no-room .numbers }
+
+        pub carry-limit : CarriedAs z m id t ExpansionLimit ws₂ xs₂
+        carry-limit = as-refused (rw store-is (no-room .exceeds))
+
+      module _ {new : ℕ} (f : r ≡ Id new) where
+        has : HasId (sizesOf z n) (m * (6 * z .l)) ws₁ xs (t .store) (wordAt (z .l) ws₁ (z .limit)) new ws₂ xs₂
+        has =
+            subst (λ (x : Interned). InternedAs (sizesOf z n) (m * (6 * z .l)) ws₁ xs (t .store)
+            (wordAt (z .l) ws₁ (z .limit)) x ws₂ xs₂) f meant
+
+        kept₂ : KeptFrom (z .limit - m * (6 * z .l)) ws₁ ws₂
+        kept₂ = has .kept
+
+        pub carry-left : LeftCarried z ws xs ws₂ xs₂
+        carry-left = record { words = kept-then (words-kept (word .words)) (kept-later (omega arith) kept₂); numbers = has .numbers }
+
+        image-same : (i : ℕ) → i < 3 * m → imageIn z ws₂ xs₂ i ≡ imageIn z ws₁ xs i
+        unfolding imageIn member anyOf
+        image-same i b =
+            let room : 3 * m * (2 * z .l) ≤ z .limit = omega (arith, now-holds .room) in
+            value-eq (ap (λ (s : List ℕ). getD s i 0) (has .numbers .rows fPhase (omega arith) refl))
+            (kept-part kept₂ (slotPlace (z .limit) (z .l) i) (2 * z .l)
+            (omega (arith, slot-counted (z .limit) (z .l) (3 * m) room i b))
+            (omega (arith, slot-in (z .limit) (z .l) (3 * m) room i b, long₁)))
+
+        next-holds : Holds z (countWith n new) m ws₂ xs₂ (record {
+          store = intern (z .l) (m * (6 * z .l)) (t .store) (wordAt (z .l) ws₁ (z .limit));
+          held = t .held;
+        })
+        unfolding member anyOf
+        next-holds = record {
+          axes = has .held;
+          peak-in = has .fits;
+          count = h .axis .at .holds .count;
+          room = has .room (now-holds .room);
+          slots = λ q b. ap (λ (s : List ℕ). getD s q 0) (has .numbers .rows fSlot (omega arith) refl) ∙ h .axis .at .holds .slots q b;
+          images = λ i b. image-same i b ∙ now-holds .images i b;
+          mask = λ q b g. ap (λ (x : ℕ). bit x (q % 64)) (kept₂ .kept _ (omega arith)) ∙ now-holds .mask q b g;
+        }
+
+        new-in : new < countWith n new
+        new-in =
+            let k = id-in (z .l) (m * (6 * z .l)) (t .store) (wordAt (z .l) ws₁ (z .limit)) in
+            let old = id-stored (z .l) (m * (6 * z .l)) (t .store) (wordAt (z .l) ws₁ (z .limit)) in
+            omega (arith, k, old, has .id-is, held-count (has .held))
+
+        pub carry-to : {count : ℕ} → count ≡ countWith n new
+            → CarriedAs z m id t (To (record { id = new; turns = e; axes = count })) ws₂ xs₂
+        unfolding imageOfAxis
+        carry-to g =
+            as-to (rw g (record {
+              id-is =
+                  has .id-is ∙ sym (id-stored (z .l) (m * (6 * z .l)) (t .store) (wordAt (z .l) ws₁ (z .limit)))
+                  ∙ ap₂ (λ (st : Store) (w : List ℕ). idOf (st .axes) w) (sym store-is) the-word;
+              id-in = new-in;
+              turns-are = unfold scratchValue in (ap (λ (v : Value). v .turns) (word .value));
+              small = word .small;
+              holds =
+                  subst (λ (st : Store). Holds z (countWith n new) m ws₂ xs₂ (record { store = st; held = t .held }))
+                  (sym store-is) next-holds;
+            }))

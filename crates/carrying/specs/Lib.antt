@@ -1,0 +1,4 @@
+pub mod Scratch
+pub mod Letters
+pub mod Fixed
+pub mod Carrying

@@ -1,0 +1,176 @@
+// Axes carried through F.
+ghost use mathlib.Core.Path.{_≡_};
+ghost use mathlib.Core.Bool.{true};
+ghost use Prim.Native.Nat.{_+_, _*_, _<_, _≤_};
+ghost use lib.ListN.{length};
+ghost use Rattle.pauli.specs.Letter.{single};
+ghost use Rattle.model.specs.Words.{asValue, setBits, support};
+ghost use Rattle.model.specs.Clifford.{Touched};
+ghost use Rattle.clifford.specs.Holds.{SomeTouched, imageIn};
+ghost use Rattle.clifford.specs.Images.{ImageThere};
+ghost use Rattle.carrying.specs.Scratch.{TimesPre, ScratchTimes};
+ghost use Rattle.carrying.specs.Letters.{LetterAt, letterOfAxis, LettersAt, LettersTimes, CarryAt, axisWord, WordCarried};
+ghost use Rattle.carrying.specs.Fixed.{NoneMarked};
+ghost use Rattle.carrying.specs.Carrying.{CarryPre, LeftCarried, CarriedAs};
+use axes::Interned;
+use layout::F_PHASE;
+use layout::F_SLOT;
+use layout::Shape;
+
+// An axis's image: the id of its word, its quarter turns, and how many axes there are then.
+pub struct CarriedAxis {
+    pub id: usize,
+    pub turns: u32,
+    pub axes: usize,
+}
+
+// The image, or the limit refuses its word.
+pub enum Carried {
+    To(CarriedAxis),
+    ExpansionLimit,
+}
+
+// Whether the word at a place has no letter where the mask has a bit. Only the time of `carry` depends on it.
+fn fixes(words: &[u64], at: usize, mask: usize, l: usize) -> bool
+    requires { ⌜ (at + 2 * l ≤ length (now words)) × (mask + l ≤ length (now words)) ⌝ }
+    ensures { λ r. ⌜ (r ≡ true → NoneMarked l (now (words .entry)) at mask l) ⌝ }
+{
+    for j in 0..l {
+        if clifford::acted_at(words, at, l, j) & words[mask + j] != 0 {
+            return false;
+        }
+    }
+    true
+}
+
+// Multiplies a letter on qubit q behind the scratch word, whose phase is given; the phase then.
+fn times_letter(words: &mut [u64], shape: Shape, q: usize, letter: u32, phase: u32) -> u32
+    requires { ⌜ TimesPre shape (now words) × (q < 64 * shape .l) × (phase < 4) ⌝ }
+    ensures { λ r. ⌜ ScratchTimes shape phase (now (words .entry)) (asValue (single (shape .l) q letter)) (now (words .exit)) r ⌝ }
+{
+    let scratch = layout::scratch_at(shape.limit);
+    let one = scratch + 2 * shape.l;
+    letter::put_letter(words, one, shape.l, q, letter);
+    let e = product::product_in(words, scratch, one, scratch, shape.l);
+    (phase + e.0 as u32) % 4
+}
+
+// Multiplies image i behind the scratch word.
+fn times_image(words: &mut [u64], numbers: &[u32], shape: Shape, i: usize, phase: u32) -> u32
+    requires { ⌜ TimesPre shape (now words) × ImageThere shape i (now numbers) × (phase < 4) ⌝ }
+    ensures { λ r. ⌜ ScratchTimes shape phase (now (words .entry)) (imageIn shape (now (words .entry)) (now (numbers .entry)) i)
+        (now (words .exit)) r ⌝ }
+{
+    let turns = store::read(numbers, shape.u, F_PHASE, i);
+    let scratch = layout::scratch_at(shape.limit);
+    let at = layout::slot_at(shape.limit, shape.l, i);
+    let e = product::product_in(words, scratch, at, scratch, shape.l);
+    (phase + turns % 4 + e.0 as u32) % 4
+}
+
+// Multiplies the image of axis id's letter on qubit q behind the scratch word.
+fn carry_letter(
+    words: &mut [u64],
+    numbers: &[u32],
+    shape: Shape,
+    id: usize,
+    q: usize,
+    phase: u32,
+) -> u32
+    requires { ⌜ SomeTouched (λ (t : Touched). LetterAt shape id q phase (now words) (now numbers) t) ⌝ }
+    ensures { λ r. ⌜ ((t : Touched) → LetterAt shape id q phase (now (words .entry)) (now (numbers .entry)) t
+        → ScratchTimes shape phase (now (words .entry)) (letterOfAxis shape id q t) (now (words .exit)) r) ⌝ }
+{
+    let letter = letter::letter_at(axes::axis(&words[..], id, shape.l), shape.l, q);
+    let slot = store::read(numbers, shape.u, F_SLOT, q) as usize;
+    if slot == 0 {
+        return times_letter(words, shape, q, letter, phase);
+    }
+    let i = 3 * (slot - 1) + (letter as usize - 1);
+    times_image(words, numbers, shape, i, phase)
+}
+
+// Multiplies the images of axis id's letters on the qubits of the set bits of number j behind the scratch word.
+fn carry_bits(
+    words: &mut [u64],
+    numbers: &[u32],
+    shape: Shape,
+    id: usize,
+    j: usize,
+    acted: u64,
+    before: u32,
+) -> u32
+    requires { ⌜ SomeTouched (λ (t : Touched). LettersAt shape id j acted before (now words) (now numbers) t) ⌝ }
+    ensures { λ r. ⌜ ((t : Touched) → LettersAt shape id j acted before (now (words .entry)) (now (numbers .entry)) t
+        → LettersTimes shape id before (now (words .entry)) t (setBits 64 (64 * j) acted) (now (words .exit)) r) ⌝ }
+{
+    let mut phase = before;
+    let mut rest = acted;
+    while rest != 0 {
+        let q = 64 * j + u64::trailing_zeros(rest) as usize;
+        phase = carry_letter(words, numbers, shape, id, q, phase);
+        rest &= rest - 1;
+    }
+    phase
+}
+
+// Multiplies the images of all of axis id's letters behind the scratch word, qubits rising; the phase.
+fn carry_letters(words: &mut [u64], numbers: &[u32], shape: Shape, id: usize) -> u32
+    requires { ⌜ SomeTouched (λ (t : Touched). CarryAt shape id (now words) (now numbers) t) ⌝ }
+    ensures { λ r. ⌜ ((t : Touched) → CarryAt shape id (now (words .entry)) (now (numbers .entry)) t
+        → LettersTimes shape id 0 (now (words .entry)) t (support (shape .l) (axisWord id t)) (now (words .exit)) r) ⌝ }
+{
+    let at = layout::axis_at(shape.l, id);
+    let mut phase: u32 = 0;
+    for j in 0..shape.l {
+        let acted = clifford::acted_at(&words[..], at, shape.l, j);
+        phase = carry_bits(words, numbers, shape, id, j, acted, phase);
+    }
+    phase
+}
+
+// The image of axis id's word, as the scratch word, and its phase.
+fn carry_word(words: &mut [u64], numbers: &[u32], shape: Shape, id: usize) -> u32
+    requires { ⌜ SomeTouched (λ (t : Touched). CarryAt shape id (now words) (now numbers) t) ⌝ }
+    ensures { λ r. ⌜ ((t : Touched) → CarryAt shape id (now (words .entry)) (now (numbers .entry)) t
+        → WordCarried shape id (now (words .entry)) t (now (words .exit)) r) ⌝ }
+{
+    let scratch = layout::scratch_at(shape.limit);
+    let e = scratch + 2 * shape.l;
+    store::zero_words(&mut words[scratch..e]);
+    carry_letters(words, numbers, shape, id)
+}
+
+// The image of axis id: its word's id, stored if it is new, and its quarter turns. The limit is tested with F's images counted.
+pub fn carry(
+    words: &mut [u64],
+    numbers: &mut [u32],
+    shape: Shape,
+    axes: usize,
+    slots: usize,
+    id: usize,
+) -> Carried
+    requires { ⌜ SomeTouched (λ (t : Touched). CarryPre shape axes slots id (now words) (now numbers) t) ⌝ }
+    ensures { λ r. ⌜ LeftCarried shape (now (words .entry)) (now (numbers .entry)) (now (words .exit)) (now (numbers .exit))
+        × ((t : Touched) → CarryPre shape axes slots id (now (words .entry)) (now (numbers .entry)) t
+        → CarriedAs shape slots id t r (now (words .exit)) (now (numbers .exit))) ⌝ }
+{
+    let at = layout::axis_at(shape.l, id);
+    let mask = clifford::mask_at(shape.limit, shape.l);
+    if fixes(&words[..], at, mask, shape.l) {
+        return Carried::To(CarriedAxis { id, turns: 0, axes });
+    }
+    let turns = carry_word(words, &numbers[..], shape, id);
+    let counted = slots * (6 * shape.l);
+    let scratch = layout::scratch_at(shape.limit);
+    let z = axes::sizes_of(shape, axes);
+    let i = axes::intern(words, numbers, z, counted, scratch);
+    let Interned::Id(new) = i else {
+        return Carried::ExpansionLimit;
+    };
+    Carried::To(CarriedAxis {
+        id: new,
+        turns,
+        axes: axes::count_with(axes, new),
+    })
+}
