@@ -57,7 +57,8 @@ module _ (z : Sizes) (ws xs : List ℕ) (b end axis : ℕ) where
   pub commutes-end : (i : ℕ) → end ≤ i → commutesFrom i ≡ true
   unfolding commutesFrom commutesWithAll allOf
   commutes-end i h =
-      ap (λ (rots : List Rot). commutesWithAll (z .l) (storedAxes z ws) rots (rot axis 0)) (view-none rotSaid xs (z .u) b i (end - i) (omega arith))
+      ap (λ (rots : List Rot). commutesWithAll (z .l) (storedAxes z ws) rots (rot axis 0))
+      (view-none rotSaid xs (z .u) b i (end - i) (omega arith))
 
   module _ {i other : ℕ} {r : Bool} (h : i < end) (read : other ≡ taggedAt xs (z .u) b i .axis)
       (said : r ≡ anticommute (z .l) (storedAxes z ws) other axis) where

@@ -50,9 +50,11 @@ loop-again c =
     let anticommute = c .before in
     let axis-at = anticommute .before in
     let turn = axis-at .before in
-    let head = turn .before in
-    (omega (arith, head .loop .inv .0), head .loop .inv .1 ∙ commutes-more _ _ _ _ _ _ (turn .loop-test .taken) (axis-at .axis-at .ensures)
-    (anticommute .anticommute .ensures) (c .if1 .left))
+    let head = turn .before in (
+      omega (arith, head .loop .inv .0),
+      head .loop .inv .1 ∙ commutes-more _ _ _ _ _ _ (turn .loop-test .taken) (axis-at .axis-at .ensures)
+          (anticommute .anticommute .ensures) (c .if1 .left),
+    )
 
 returns-2 : tie.Need-returns-2 Inv-loop μ-loop
 returns-2 c = sym (commutes-is _ _ _ _ _ _ _ ∙ c .before .loop .inv .1 ∙ commutes-end _ _ _ _ _ _ _ (c .loop-test .left))
