@@ -29,7 +29,7 @@ use Rattle.effect.specs.Image.{image}
 use Rattle.effect.specs.Clifford.{Cliff, nothing, absorbed, absorbed-im, im-odd, Turn, absorbAll, absorbAll-im, imageAll, carryRow}
 use Rattle.effect.specs.Clifford.{carryRow-mul, carryRow-unit}
 use Rattle.effect.specs.Packed.{Packed, packed-ext, mul, one, one-mul, one-phase, mul-comm, phase4, phase4-swap, packed}
-use Rattle.effect.specs.Support.{walk, walk-append, numbers-append, walk-support}
+use Rattle.theory.specs.Support.{walk, walk-append, numbers-append, walk-support}
 use Rattle.effect.specs.Apart.{single-none, letterAt-lt, fromLetters-own, next-letter}
 use Rattle.effect.specs.Held.{Letter, letter-of, letterImage-absorb}
 

@@ -8,7 +8,7 @@ use Rattle.groups.specs.Real.{IsReal}
 use Rattle.effect.specs.Phase.{Quarter, odd, neg4, _⊞₄_, Sgn, minus, _·ˢ_, toℤ, σ, τ, σ-cube, σ-even, zero4, zero4-at, fits-of}
 use Rattle.effect.specs.Words.{Words, Setting}
 use Rattle.effect.specs.Signs.{act, act-mul, act-add, act-map, act-diff}
-use Rattle.effect.specs.Effect.{sums, sumsRoot, times, J, A}
+use Rattle.effect.specs.Effect.{sums, sumsRoot, times, J}
 
 -- words that commute
 abbrev pub Commute : (H : Setting) → H .words .W → H .words .W → Type 0

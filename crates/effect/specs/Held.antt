@@ -2,11 +2,11 @@
 use mathlib.Core.Path.{_≡_, refl, sym, _∙_, ap, ap₂}
 use mathlib.Core.Bool.{Bool, true, false, not, _||_}
 use mathlib.Core.List.{List, [], _∷_, _++_, map}
-use Prim.Native.Nat.{ℕ, zero, suc, _+_, _*_, _<_}
+use Prim.Native.Nat.{ℕ, zero, suc, _*_, _<_}
 use native.Mathlib.Omega.{arith}
 use lib.Dec.{eqb}
 use borrow.Author.Tests.{eqb-true, eqb-false}
-use Rattle.pauli.specs.Word.{IsWord, anticommutes}
+use Rattle.pauli.specs.Word.{IsWord}
 use Rattle.pauli.specs.Letter.{letterAt, single, other, acts}
 use Rattle.pauli.specs.ProductLaws.{anticommutes-none}
 use Rattle.pauli.specs.LetterLaws.{single-word}
@@ -14,7 +14,7 @@ use Rattle.model.specs.Lists.{if_then_else_, anyOf}
 use Rattle.model.specs.Words.{Value, asValue, support}
 use Rattle.model.specs.Clifford.{Images, absorbImage, absorbImages, isHeld, ownImages, Touched, touch, touchAll, absorbWord, imageOf, letterImage}
 use Rattle.theory.specs.Cases.{by-if, on-if, if-true, if-false}
-use Rattle.effect.specs.Support.{Absent, absent-acts}
+use Rattle.theory.specs.Support.{Absent, absent-acts}
 use Rattle.effect.specs.Apart.{symplectic-apart, single-apart}
 
 -- X, Y or Z

@@ -14,7 +14,6 @@ pub mod Frame
 pub mod Clifford
 pub mod Packed
 pub mod Examples
-pub mod Support
 pub mod Apart
 pub mod Held
 pub mod Bridge

@@ -10,7 +10,7 @@ use Rattle.groups.specs.Real.{cos2, sin2, cos2-add, IsReal, rot, rot-real, sum-
 use Rattle.effect.specs.Phase.{Quarter, q0, q1, q2, q3, odd, neg4, Sgn, nil, plus, minus, _·ˢ_, σ, τ}
 use Rattle.effect.specs.Words.{Words, Setting}
 use Rattle.effect.specs.Signs.{act, act-mul, act-add, act-map}
-use Rattle.effect.specs.Effect.{Op, plain, measured, conditional, sums, sumsRoot, times, J, A, rotateAt, rotate, keepAt, measure, signed}
+use Rattle.effect.specs.Effect.{Op, plain, measured, conditional, sums, sumsRoot, J, A, rotateAt, rotate, keepAt, measure, signed}
 use Rattle.effect.specs.Effect.{given}
 use Rattle.effect.specs.Effect.{step, effect}
 use Rattle.effect.specs.Generators.{times-at, twice-at, times-real}

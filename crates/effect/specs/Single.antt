@@ -7,7 +7,7 @@ use Rattle.groups.specs.Abelian.{Ab, zer-add, map-zer, dbl}
 use Rattle.groups.specs.Root.{Root, at, ∅, _⊞_, ⊟_, lin}
 use Rattle.groups.specs.Eighth.{Eighth, e0, e1, e2, e3, e4, e5, e6, e7, isEvenE}
 use Rattle.groups.specs.Real.{cos2, sin2, rot-still, rot-plane}
-use Rattle.effect.specs.Phase.{Quarter, odd, neg4, Sgn, plus, minus, _·ˢ_, σ, τ, σ-even, τ-odd, σ-back, τ-back, τ-one, τ-three}
+use Rattle.effect.specs.Phase.{Quarter, odd, neg4, Sgn, minus, _·ˢ_, σ, τ, σ-even, τ-odd, σ-back, τ-back, τ-one, τ-three}
 use Rattle.effect.specs.Words.{Words, Setting}
 use Rattle.effect.specs.Signs.{act, act-add}
 use Rattle.effect.specs.Effect.{conditional, pick, sums, sumsRoot, times, J, A, rotate, measure, given, step, word}

@@ -8,30 +8,27 @@ use native.Mathlib.Omega.{arith}
 use lib.Dec.{eqb, ltb}
 use lib.IntN.{pos}
 use lib.ListN.{length, take, drop, length-map}
-use borrow.Author.Tests.{eqb-true, ltb-false, le-ltb}
+use borrow.Author.Tests.{eqb-true, ltb-false}
 use Rattle.store.specs.Chunk.{chunks-length}
 use Rattle.groups.specs.Eighth.{eighth}
 use Rattle.pauli.specs.Word.{width}
-use Rattle.model.specs.declared.Answer.{Answer}
-use Rattle.model.specs.declared.Answer.the-variants.{Accepted, CountOutside, OptionOutside, BadOperation}
-use Rattle.model.specs.Interface.{accepts}
+use Rattle.model.specs.declared.Answer.the-variants.{Accepted, BadOperation}
 use Rattle.model.specs.Program.{fieldOf, largestOutcome, noOutcome, minusOne, Job, operationRecords, rowRecords, Kind, rotate, measure}
 use Rattle.model.specs.Program.{conditional}
 use Rattle.model.specs.Program.{kindOf, Operation, operationOf, rowOf, Program, programOf}
 use Rattle.model.specs.Rules.{Rules, rulesOf}
-use Rattle.model.specs.Packing.{packed}
 use Rattle.model.specs.Items.{Item, rotation, barrier, withSign}
 use Rattle.model.specs.Rounds.{Work}
-use Rattle.model.specs.Run.{startOf, endOf, answerOf}
+use Rattle.model.specs.Run.{startOf, endOf}
 use Rattle.model.specs.Results.{signField, noOperation, operationAt, barrierRecord, itemRecord, operationResults, rowResults, countersOf}
-use Rattle.model.specs.Checking.{badCount, badOption, badOperation, measured, checkNodes, checkOperation, checkOperations, checkRows, checkProgram}
-use Rattle.model.specs.Listing.{Read, read, from16, resultLine, letterLines, refusalLines, firstLine, endLines, runLines, listingChecks, jobLines}
+use Rattle.model.specs.Checking.{badOperation, measured, checkNodes, checkOperation, checkOperations, checkRows, checkProgram}
+use Rattle.model.specs.Listing.{Read, read, from16, resultLine, letterLines, firstLine, endLines, jobLines}
 use Rattle.model.specs.Listing.{textOf, linesOf, listing}
-use Rattle.theory.specs.Cases.{on-if, if-true, if-false, neither}
+use Rattle.theory.specs.Cases.{on-if, neither}
 use Rattle.theory.specs.Every.{Every}
-use Rattle.theory.specs.Checked.{accepts-only, not-accepted, both-accepted, not-refused, Fine, program-fine}
-use Rattle.theory.specs.AcceptedRun.{finishOf, accepted-peak, accepted-roots, accepted-ending}
-use Rattle.theory.specs.ListingCalls.{optionsOf, listedRun, checksOf, listingAnswer}
+use Rattle.theory.specs.Checked.{both-accepted, not-refused}
+use Rattle.theory.specs.AcceptedRun.{finishOf}
+use Rattle.theory.specs.ListingCalls.{optionsOf, listingAnswer, listed-checks, listed-fine, listed-hermitian, listed-end}
 use Rattle.words_wellformed.specs.Wellformed.{end-words}
 use Rattle.run_wellformed.specs.Points.{passes-reached}
 use Rattle.run_wellformed.specs.RunWellFormed.{rowResults-length}
@@ -116,27 +113,6 @@ module _ (t : Read) (yes′ : listingAnswer (some t) ≡ Accepted) where
   abbrev pub listedEnd : Work
   listedEnd = endOf (rulesOf (optionsOf t)) 8 (programOf (t .job))
 
-  passed : (checksOf t ≡ Accepted) × (answerOf (t .limit) (listedRun t) ≡ Accepted)
-  unfolding listingAnswer
-  passed =
-      on-if (λ (a : Answer). a ≡ Accepted → (checksOf t ≡ Accepted) × (answerOf (t .limit) (listedRun t) ≡ Accepted)) (accepts (checksOf t)) _ _
-      (λ e h. (accepts-only (checksOf t) e, h)) (λ e h. absurd (not-accepted (checksOf t) e h)) yes′
-
-  -- Checking's rules for records found nothing
-  pub listed-checks : checkProgram (t .job) ≡ Accepted
-  unfolding listingChecks
-  listed-checks =
-      let a = not-refused (badCount (t .job .counts)) CountOutside _ refl (passed .0) in
-      not-refused (badOption (optionsOf t)) OptionOutside (checkProgram (t .job)) refl (a .1) .1
-
-  -- what the theorems about runs ask for
-  pub listed-fine : Fine (programOf (t .job))
-  listed-fine = program-fine (t .job) listed-checks
-
-  -- no root was refused
-  pub listed-hermitian : packed (programOf (t .job)) .refused ≡ false
-  listed-hermitian = accepted-roots (t .limit) r 8 p (passed .1)
-
   -- ---- its lines
 
   -- "answer, T before, T after, merges, swaps, absorbed, operations, axes"
@@ -153,11 +129,8 @@ module _ (t : Read) (yes′ : listingAnswer (some t) ≡ Accepted) where
 
   -- these are the lines printed
   pub listed-lines : jobLines t ≡ listedFirst ∷ listedRest
-  unfolding jobLines runLines endLines
-  listed-lines =
-      if-true _ (refusalLines (checksOf t)) (ap accepts (passed .0))
-      ∙ if-false _ _ (le-ltb (t .limit) (listedRun t .peak) (accepted-peak (t .limit) r 8 p (passed .1)))
-      ∙ ap (endLines r p) (accepted-ending (t .limit) r 8 p (passed .1))
+  unfolding endLines
+  listed-lines = listed-end t yes′
 
   -- and its text
   pub listed-text : (text : List ℕ) → read text ≡ some t → listing text ≡ textOf (listedFirst ∷ listedRest)
@@ -210,7 +183,7 @@ module _ (t : Read) (yes′ : listingAnswer (some t) ≡ Accepted) where
   pub listed-axes : listedAxes ≡ listedEnd .store .axes
   listed-axes =
       ap (axesRead (width (p .qubits)) 0 (fieldOf listedFirst 7)) letters-are
-      ∙ unfold firstLine in (axes-read (width (p .qubits)) (listedEnd .store .axes) (end-words r 8 p listed-fine listed-hermitian))
+      ∙ unfold firstLine in (axes-read (width (p .qubits)) (listedEnd .store .axes) (end-words r 8 p (listed-fine t yes′) (listed-hermitian t yes′)))
 
   -- ---- what they mean
 
@@ -218,8 +191,8 @@ module _ (t : Read) (yes′ : listingAnswer (some t) ≡ Accepted) where
     lines-mean : (axes : List (List ℕ)) → resultOps word axes ops ≡ resultOps word axes (operationResults p listedEnd)
     unfolding resultOps operationResults endOf
     lines-mean axes =
-        item-lines word (p .operations) (program-outcomes (t .job) listed-checks) axes (listedEnd .items)
-        (point-stands p listed-fine listed-hermitian r (passes-reached (width (p .qubits)) r (startOf p) (r .strategy) 8))
+        item-lines word (p .operations) (program-outcomes (t .job) (listed-checks t yes′)) axes (listedEnd .items)
+        (point-stands p (listed-fine t yes′) (listed-hermitian t yes′) r (passes-reached (width (p .qubits)) r (startOf p) (r .strategy) 8))
 
     -- the printed operations are the items at the end
     pub listed-ops : resultOps word listedAxes (operationsRead listedFirst listedRest)
@@ -227,11 +200,11 @@ module _ (t : Read) (yes′ : listingAnswer (some t) ≡ Accepted) where
         (listedEnd .items)
     listed-ops =
         ap₂ (λ (axes : List (List ℕ)) (rs : List (List ℕ)). resultOps word axes rs) listed-axes operations-are
-        ∙ lines-mean (listedEnd .store .axes) ∙ end-ops p listed-fine listed-hermitian r word 8
+        ∙ lines-mean (listedEnd .store .axes) ∙ end-ops p (listed-fine t yes′) (listed-hermitian t yes′) r word 8
 
     -- and the printed rows its rows
     pub listed-frame : resultRows word (programOf (t .job)) listedAxes (rowsRead (programOf (t .job) .qubits) listedFirst listedRest)
         ≡ workRows word (programOf (t .job)) listedEnd
     listed-frame =
         ap₂ (λ (axes : List (List ℕ)) (rs : List (List ℕ)). resultRows word p axes rs) listed-axes rows-are
-        ∙ end-rows p listed-fine listed-hermitian r word 8
+        ∙ end-rows p (listed-fine t yes′) (listed-hermitian t yes′) r word 8

@@ -18,7 +18,7 @@ use Rattle.model.specs.Checking.{Lent, checking}
 use Rattle.model.specs.Rewriting.{rewriting}
 use Rattle.model.specs.Listing.{Read}
 use Rattle.theory.specs.Checked.{checked-fine}
-use Rattle.theory.specs.ListingCalls.{optionsOf, listingAnswer}
+use Rattle.theory.specs.ListingCalls.{optionsOf, listingAnswer, listed-fine, listed-hermitian}
 use Rattle.effect.specs.Effect.{effectFrom}
 use Rattle.effect.specs.Packed as PackedWords
 use Rattle.stream_effect.specs.PackedAxes.{packedWord}
@@ -26,7 +26,7 @@ use Rattle.result_effect.specs.Definitions.{operationsRead, rowsRead}
 use Rattle.result_effect.specs.Records.{end-ops}
 use Rattle.result_effect.specs.Rows.{end-rows}
 use Rattle.result_effect.specs.Calls.{leftAxes, leftOperations, leftRows, call-fine, call-hermitian, left-axes, left-operations, left-rows}
-use Rattle.result_effect.specs.Listing.{listedEnd, listedFirst, listedRest, listed-fine, listed-hermitian, listed-count, listedAxes, listed-ops}
+use Rattle.result_effect.specs.Listing.{listedEnd, listedFirst, listedRest, listed-count, listedAxes, listed-ops}
 use Rattle.result_effect.specs.Listing.{listed-frame}
 use Rattle.run_effect.specs.Same.{picked}
 use Rattle.run_effect.specs.RunEffect.{Effects, sourceEffect, resultEffect, run-keeps-effect}

@@ -145,12 +145,14 @@ row-records-fit p w = flatten-length (rowResultsFrom p 0 (p .rows) _) ∙ rows-s
 -- ---- calls
 
 -- what 3 asks for
-record LongEnough (j : Job) (s : Lent) (limit : ℕ) : Type 0 where
-  words : limit ≤ length (s .words)
-  operations : 6 * j .counts .operations ≤ length (s .operations)
-  rows : 8 * j .counts .qubits ≤ length (s .rows)
+pub record LongEnough (j : Job) (s : Lent) (limit : ℕ) : Type 0 where
+  pub words : wordsAsked (width (j .counts .qubits)) limit ≤ length (s .words)
+  pub numbers : numbersAsked (width (j .counts .qubits)) (j .counts) limit ≤ length (s .numbers)
+  pub operations : 6 * j .counts .operations ≤ length (s .operations)
+  pub rows : 8 * j .counts .qubits ≤ length (s .rows)
 
-long-enough : (o : Options) (j : Job) (s : Lent) → checking o j s ≡ Accepted → LongEnough j s (limitOf o)
+-- where Checking passes, it was not refused
+pub long-enough : (o : Options) (j : Job) (s : Lent) → checking o j s ≡ Accepted → LongEnough j s (limitOf o)
 unfolding checking lentShort wordsAsked
 long-enough o j s c =
     let l = width (j .counts .qubits) in
@@ -163,7 +165,8 @@ long-enough o j s c =
     (e .0) in
     let g = neither (ltb (length (s .words)) (limitOf o + 16 * l)) _ (f .0) in
     record {
-      words = omega (arith, ltb-false (length (s .words)) (limitOf o + 16 * l) (g .0));
+      words = ltb-false (length (s .words)) (limitOf o + 16 * l) (g .0);
+      numbers = ltb-false (length (s .numbers)) (numbersAsked l (j .counts) (limitOf o)) (g .1);
       operations = ltb-false (length (s .operations)) (6 * j .counts .operations) (f .1);
       rows = ltb-false (length (s .rows)) (8 * j .counts .qubits) (e .1);
     }
@@ -182,6 +185,7 @@ stopped-lengths a s = record { words = zeros-length (s .words); numbers = zeros-
 
 module _ (o : Options) (j : Job) (s : Lent) where
   accepted-lengths : rewriting o j s .answer ≡ Accepted → SameLengths s (rewriting o j s .lent)
+  unfolding wordsAsked
   accepted-lengths yes′ =
       let p = programOf j in
       let r = rulesOf o in

@@ -154,7 +154,7 @@ listed = job 1 (I ∷ Z 0 ∷ X 0 ∷ []) (rotate 1 0 1 ∷ rotate 1 0 1 ∷ mea
 abbrev slices : Lent
 slices = lengths 29 361 19 9
 
-pub record Left : Type 0 where
+pub record AfterCalls : Type 0 where
   -- "Acceptance (0): results, then zeros; axis words, then zeros; number store zero."
   pub accepted-words : rewriting options listed slices .lent .words ≡ 0 ∷ 1 ∷ 1 ∷ 0 ∷ 1 ∷ 1 ∷ replicate 23 0
   pub accepted-numbers : rewriting options listed slices .lent .numbers ≡ replicate 361 0
@@ -177,9 +177,9 @@ pub record Left : Type 0 where
   pub eight : rewriting options (job1 nodes (conditional 1 0 1 0 ∷ [])) slices
       ≡ record { answer = BadOutcome; counters = noCounters; lent = slices }
 
-pub left-as-stated : Left
+pub after-calls : AfterCalls
 unfolding everything
-left-as-stated = record {
+after-calls = record {
   accepted-words = refl;
   accepted-numbers = refl;
   accepted-operations = refl;

@@ -2,14 +2,14 @@
 use mathlib.Core.Path.{_≡_, refl, sym, _∙_, ap, subst}
 use mathlib.Core.Bool.{Bool, true, _&&_}
 use mathlib.Core.List.{List, [], _∷_, _++_, append-assoc}
-use Prim.Native.Nat.{ℕ, suc, _+_, _-_, _≤_}
+use Prim.Native.Nat.{ℕ, suc, _≤_}
 use native.Mathlib.Omega.{arith}
 use lib.ListN.{length, length-append, set}
 use lib.Seq.{set-append-seam}
 use Rattle.model.specs.Program.{Operation}
 use Rattle.model.specs.Rules.{Absorption, off, atOnce, lazy}
 use Rattle.model.specs.Items.{rot, Item, rotation, barrier, isClifford}
-use Rattle.model.specs.Stream.{at, Pass, withLast, setAngle, putOut, leaveZero, putOutRotation}
+use Rattle.model.specs.Stream.{Pass, withLast, setAngle, putOut, leaveZero, putOutRotation}
 use Rattle.model.specs.Stream.{carryAxis, absorb, absorbWaitingAt, absorbWaiting, absorbAllWaiting, absorbBlocking, carryRotation}
 use Rattle.theory.specs.Cases.{on-if, and-left}
 use Rattle.theory.specs.Every.{Every, every-right}

@@ -1,6 +1,7 @@
 pub mod Cases
 pub mod Every
 pub mod Lists
+pub mod Support
 pub mod Peak
 pub mod Measure
 pub mod StreamMeasure

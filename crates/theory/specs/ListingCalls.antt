@@ -19,6 +19,7 @@ use Rattle.model.specs.Lists.{if_then_else_}
 use Rattle.model.specs.Interface.{numberOf, accepts, defaultsAt}
 use Rattle.model.specs.Program.{fieldOf, Program, programOf}
 use Rattle.model.specs.Rules.{Rules, absorptionOf, rulesOf}
+use Rattle.model.specs.Packing.{packed}
 use Rattle.model.specs.Rounds.{Work}
 use Rattle.model.specs.Run.{Ending, nonHermitian, finished, Run, endOf, endAnswer, answerOf}
 use Rattle.model.specs.Results.{countersOf}
@@ -131,7 +132,7 @@ read-limit text t e = let a = bind-some (linesFrom [] [] text) readLines t e in 
 -- ---- two listings at two limits
 
 -- Rust's defaults are in the domain, and so is a limit of at most 256
-defaults-good : (limit : ℕ) → limit ≤ 256 → badOption (defaultsAt limit) ≡ false
+pub defaults-good : (limit : ℕ) → limit ≤ 256 → badOption (defaultsAt limit) ≡ false
 unfolding badOption
 defaults-good limit h = le-ltb 1048576 limit (omega arith)
 
@@ -194,7 +195,7 @@ module _ (text text′ : List ℕ) (t t′ : Read) (reads : read text ≡ some t
   same-text-at-larger-limit le (inr e) =
       not-ten le (listing-ran t NonHermitianAxis e (inr (omega arith))) (λ f. let z : _≡_ {A = ℕ} 0 1 = cc in omega arith)
 
--- ---- the T-count that an accepted listing prints
+-- ---- an accepted listing
 
 -- the run's counters stand in the first line, and their T after is at most their T before
 pub record Listed (t : Read) (counters : Counters) (work : Work) : Type 0 where
@@ -209,32 +210,41 @@ module _ (t : Read) (yes′ : listingAnswer (some t) ≡ Accepted) where
   abbrev p : Program
   p = programOf (t .job)
 
-  passes′ : accepts (checksOf t) ≡ true
-  passes′ = listing-ran t Accepted yes′ (inl refl)
-
-  fine : Fine p
-  unfolding listingChecks
-  fine =
-      let c : checksOf t ≡ Accepted = accepts-only (checksOf t) passes′ in
-      let a = not-refused (badCount (t .job .counts)) CountOutside _ refl c in
-      program-fine (t .job) (not-refused (badOption (optionsOf t)) OptionOutside (checkProgram (t .job)) refl (a .1) .1)
-
-  answers : answerOf (t .limit) (listedRun t) ≡ Accepted
+  -- Checking's rules found nothing, and the run was accepted
+  pub listed-passed : (checksOf t ≡ Accepted) × (answerOf (t .limit) (listedRun t) ≡ Accepted)
   unfolding listingAnswer
-  answers = sym (if-true _ (checksOf t) passes′) ∙ yes′
+  listed-passed =
+      let ran = listing-ran t Accepted yes′ (inl refl) in
+      (accepts-only (checksOf t) ran, sym (if-true _ (checksOf t) ran) ∙ yes′)
 
-  lines-are : jobLines t ≡ endLines r p (finished (finishOf r 8 p))
+  -- so did those for its records
+  pub listed-checks : checkProgram (t .job) ≡ Accepted
+  unfolding listingChecks
+  listed-checks =
+      let a = not-refused (badCount (t .job .counts)) CountOutside _ refl (listed-passed .0) in
+      not-refused (badOption (optionsOf t)) OptionOutside (checkProgram (t .job)) refl (a .1) .1
+
+  -- what the theorems about runs ask for
+  pub listed-fine : Fine (programOf (t .job))
+  listed-fine = program-fine (t .job) listed-checks
+
+  -- no root was refused
+  pub listed-hermitian : packed (programOf (t .job)) .refused ≡ false
+  listed-hermitian = accepted-roots (t .limit) r 8 p (listed-passed .1)
+
+  -- the lines that it prints are those of its run's end
+  pub listed-end : jobLines t ≡ endLines (rulesOf (optionsOf t)) (programOf (t .job)) (finished (finishOf (rulesOf (optionsOf t)) 8 (programOf (t .job))))
   unfolding jobLines runLines
-  lines-are =
-      if-true _ (refusalLines (checksOf t)) passes′
-      ∙ if-false _ _ (le-ltb (t .limit) (listedRun t .peak) (accepted-peak (t .limit) r 8 p answers))
-      ∙ ap (endLines r p) (accepted-ending (t .limit) r 8 p answers)
+  listed-end =
+      if-true _ (refusalLines (checksOf t)) (ap accepts (listed-passed .0))
+      ∙ if-false _ _ (le-ltb (t .limit) (listedRun t .peak) (accepted-peak (t .limit) r 8 p (listed-passed .1)))
+      ∙ ap (endLines r p) (accepted-ending (t .limit) r 8 p (listed-passed .1))
 
   -- an accepted listing prints a T-count no higher than its source's
   pub no-more-listed : Listed t (countersOf r p (finishOf r 8 p)) (endOf r 8 p)
   unfolding endLines
   no-more-listed = record {
     rest = _;
-    printed = lines-are;
-    no-more = counters-source r p fine (accepted-roots (t .limit) r 8 p answers) 8;
+    printed = listed-end;
+    no-more = counters-source r p listed-fine listed-hermitian 8;
   }
