@@ -1,4 +1,4 @@
-// Checking: refusals 1 to 8. It takes no slice by &mut, so it writes nothing.
+// Checking: refusals 1 to 8. It takes no lent slice by &mut, so it writes no lent memory.
 ghost use mathlib.Core.Path.{_≡_};
 ghost use mathlib.Core.Bool.{false};
 ghost use mathlib.Core.List.{List, []};
