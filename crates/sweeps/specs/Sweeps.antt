@@ -9,7 +9,7 @@ use Rattle.model.specs.Items.{Rot, dropZeroRots, Segment}
 use Rattle.model.specs.Layering.{Swept, sweep, dropZeroLayers, sweepsFrom, height}
 use Rattle.theory.specs.Every.{every-keep}
 use Rattle.theory.specs.SegmentAxes.{AllHave, LayersHave, sweep-has, zeros-has}
-use Rattle.layout.specs.Rows.{layersRow, layerEnd, sweptRow, sweptEnd}
+use Rattle.layout.specs.Rows.{layersRow, layerEnd}
 use Rattle.layout.specs.Only.{Only, only-none, only-of, only-then}
 use Rattle.store.specs.From.{from-none}
 use Rattle.items.specs.View.{rotsIn}
@@ -18,9 +18,10 @@ use Rattle.layering_states.specs.Zeros.{zero-layers-none}
 use Rattle.axes.specs.declared.Sizes.{Sizes}
 use Rattle.axes.specs.Held.{storedAxes, held-rows}
 use Rattle.layers.specs.declared.Laid.{Laid}
-use Rattle.layers.specs.View.{beginOf, layerIn, layersIn, layers-flat}
+use Rattle.layers.specs.View.{firstLayers, beginOf, layerIn, layers-flat}
 use Rattle.layers.specs.Contracts.{IsAxis}
 use Rattle.sweeps.specs.declared.sweep.Moving.{Moving}
+use Rattle.sweeps.specs.View.{firstSwept}
 use Rattle.sweeps.specs.Contracts.{SweepPre, SweptAll, ZerosPre, ZerosDropped, SweepsPre, sweepsRows, SweptOnce, SweepsDone}
 
 -- ---- a sweep
@@ -30,7 +31,7 @@ module _ (z : Sizes) (ws s : List ℕ) (st : Moving) (pre : SweepsPre z ws s (st
   axes = storedAxes z ws
 
   abbrev now : List (List Rot)
-  now = layersIn s (z .u) layersRow layerEnd 0 (st .laid .count)
+  now = firstLayers s (z .u) (st .laid .count)
 
   -- there are no layers
   pub once-none : st .laid .count ≡ 0 → SweptOnce z ws s st (record { laid = st .laid; stay = 0; moved = false }) s
@@ -83,7 +84,7 @@ module _ (z : Sizes) (ws s : List ℕ) (st : Moving) (pre : SweepsPre z ws s (st
       count = omega (arith, v .count-le, w .count-is);
       size = omega (arith, v .room, v .merged-is, w .sound .ends, w .size, end-is);
       layers = v .layers
-          ∙ ap (λ (n : ℕ). dropZeroLayers (layersIn s₁ (z .u) sweptRow sweptEnd 0 n)) (w .count-is)
+          ∙ ap (λ (n : ℕ). dropZeroLayers (firstSwept s₁ (z .u) n)) (w .count-is)
           ∙ ap (λ (q : Swept). dropZeroLayers (q .layers)) (sym (w .swept));
       merged = v .merged-is ∙ ap (λ (q : Swept). q .merged) (sym (w .swept));
       moved = ap (λ (q : Swept). q .moved) (sym (w .swept));
@@ -107,17 +108,18 @@ module _ (z : Sizes) (ws s : List ℕ) (st : Laid) where
   stored = storedAxes z ws
 
   abbrev layers : List ℕ → Laid → List (List Rot)
-  layers x r = layersIn x (z .u) layersRow layerEnd 0 (r .count)
+  layers x r = firstLayers x (z .u) (r .count)
 
-  abbrev whole : Segment
-  whole = sweepsFrom (z .l) stored (enough (z .l) stored (layers s st)) true (st .merged) (layers s st)
+  -- the sweeps from layers that memory holds, if one has moved or none
+  abbrev from : List ℕ → Laid → Bool → Segment
+  from x r moved = sweepsFrom (z .l) stored (enough (z .l) stored (layers x r)) moved (r .merged) (layers x r)
 
   -- the sweeps that are left, from the layers that memory holds
   pub record SweepsTo (r : Moving) (x : List ℕ) : Type 0 where
     pub ready : SweepsPre z ws x (r .laid)
     pub only : Only sweepsRows (z .u) s x
     pub size : r .laid .len + r .laid .merged ≤ st .len + st .merged
-    pub goes-on : sweepsFrom (z .l) stored (enough (z .l) stored (layers x (r .laid))) (r .moved) (r .laid .merged) (layers x (r .laid)) ≡ whole
+    pub goes-on : from x (r .laid) (r .moved) ≡ from s st true
 
   pub sweeps-start : SweepsPre z ws s st → SweepsTo (record { laid = st; stay = 0; moved = true }) s
   sweeps-start pre = record { ready = pre; only = only-none sweepsRows (z .u) s; size = omega arith; goes-on = refl }
@@ -147,7 +149,7 @@ module _ (z : Sizes) (ws s : List ℕ) (st : Laid) where
       size = omega (arith, w .size, a .size);
       goes-on = rw (w .layers, w .moved, w .merged)
           (sym (sweeps-turn (z .l) stored (r .laid .merged) (layers x (r .laid)))
-          ∙ ap (λ (b : Bool). sweepsFrom (z .l) stored (enough (z .l) stored (layers x (r .laid))) b (r .laid .merged) (layers x (r .laid))) (sym h)
+          ∙ ap (from x (r .laid)) (sym h)
           ∙ a .goes-on);
     }
 
@@ -161,7 +163,7 @@ module _ (z : Sizes) (ws s : List ℕ) (st : Laid) where
     only = a .only;
     size = a .size;
     swept = sym (a .goes-on)
-        ∙ ap (λ (b : Bool). sweepsFrom (z .l) stored (enough (z .l) stored (layers x (r .laid))) b (r .laid .merged) (layers x (r .laid))) h
+        ∙ ap (from x (r .laid)) h
         ∙ sweeps-end (z .l) stored (r .laid .merged) (layers x (r .laid))
         ∙ ap (λ (q : List Rot). record { rots = q; changes = r .laid .merged })
         (layers-flat x (z .u) layersRow layerEnd (r .laid .count) (a .ready .sound .rise)
