@@ -184,14 +184,14 @@ module _ (l : ℕ) (v : List ℕ) where
         let q = carryAxis l p a in
         stays-trans p q _ (carryAxis-stays p a u) (λ t. absorbWaiting-stays _ q 0 (q .out) t (t .output))
 
-    carryRotation-stays : (m : Absorption) (p : Pass) (a : ℕ) → Unmoved p → StaysUnmoved p (carryRotation l m p a)
+    carryRotation-stays : (m : Absorption) (p : Pass) (a : ℕ) → Unmoved p → StaysUnmoved p (carryRotation l m p a .pass)
     unfolding carryRotation
     carryRotation-stays off p a u = carryAxis-stays p a u
     carryRotation-stays atOnce p a u = carryAxis-stays p a u
     carryRotation-stays lazy p a u = stays-trans p (absorbBlocking l p a) _ (absorbBlocking-stays p a u) (carryAxis-stays (absorbBlocking l p a) a)
 
     carryRotation-free : (m : Absorption) (p : Pass) (a : ℕ) → Unmoved p → FreeAxis (p .store .axes) a
-        → FreeAxis (carryRotation l m p a .store .axes) (imageId l (carryRotation l m p a) a)
+        → FreeAxis (carryRotation l m p a .pass .store .axes) (carryRotation l m p a .axis)
     unfolding carryRotation
     carryRotation-free off p a u h = carried-free p a u h
     carryRotation-free atOnce p a u h = carried-free p a u h
@@ -243,10 +243,10 @@ module _ (l : ℕ) (v : List ℕ) where
         → StaysUnmoved p (streamItem l r merging p i)
     unfolding streamItem
     streamItem-stays r merging p (rotation t) u h =
-        let q = carryRotation l (r .absorption) p (t .axis) in
-        let k = withSign-turns (axisImage l q (t .axis) .turns) (t .angle) (h .1 .0) (h .1 .1) in
-        stays-trans p q _ (carryRotation-stays (r .absorption) p (t .axis) u)
-        (λ w. takeRotation-stays r merging q _ _ w (carryRotation-free (r .absorption) p (t .axis) u (h .0)) (k .0) (k .1))
+        let c = carryRotation l (r .absorption) p (t .axis) in
+        let k = withSign-turns (c .turns) (t .angle) (h .1 .0) (h .1 .1) in
+        stays-trans p (c .pass) _ (carryRotation-stays (r .absorption) p (t .axis) u)
+        (λ w. takeRotation-stays r merging (c .pass) _ _ w (carryRotation-free (r .absorption) p (t .axis) u (h .0)) (k .0) (k .1))
     streamItem-stays r merging p (barrier o a s) u h =
         let q = absorbAllWaiting l (r .absorption) p in
         let first = absorbAllWaiting-stays (r .absorption) p u in

@@ -74,6 +74,12 @@ canReach l lookback axes out j a = leb (length out - j - 1) lookback && allOf (l
 unfoldable pub angleAt : List Item → ℕ → ℕ
 angleAt out j = angleOf (getD out j (rotation (rot 0 0)))
 
+-- a pass, and the image of an axis that it has carried: the image's id, and its quarter turns
+pub record Carried : Type 0 where
+  pub pass : Pass
+  pub axis : ℕ
+  pub turns : ℕ
+
 -- a pass, and the frame rows carried so far
 pub record Rowed : Type 0 where
   pub pass : Pass
@@ -93,6 +99,10 @@ module _ (l : ℕ) where
   -- "each axis is carried through F, the Clifford absorbed so far": its image is stored
   unfoldable pub carryAxis : Pass → ℕ → Pass
   carryAxis p a = passWithStore (intern l (imageWords l (p .held)) (p .store) (axisImage p a .word)) p
+
+  -- the pass that has stored it, with its id and turns
+  abbrev pub carried : Pass → ℕ → Carried
+  carried p a = let q = carryAxis p a in record { pass = q; axis = imageId q a; turns = axisImage q a .turns }
 
   -- F takes in angle k about axis a
   unfoldable pub absorb : Pass → ℕ → ℕ → Pass
@@ -127,10 +137,10 @@ module _ (l : ℕ) where
       absorbWaiting (λ b. anticommutes l (wordOf (q .store .axes) b) (axisImage p a .word)) q 0 (q .out)
 
   -- "and that rotation is carried again from its original axis": to the same axis, at no cost, where none was absorbed
-  unfoldable pub carryRotation : Absorption → Pass → ℕ → Pass
-  carryRotation off p a = carryAxis p a
-  carryRotation atOnce p a = carryAxis p a
-  carryRotation lazy p a = carryAxis (absorbBlocking p a) a
+  unfoldable pub carryRotation : Absorption → Pass → ℕ → Carried
+  carryRotation off p a = carried p a
+  carryRotation atOnce p a = carried p a
+  carryRotation lazy p a = carried (absorbBlocking p a) a
 
   -- ---- a rotation, carried: its axis is a, its angle k
 
@@ -158,12 +168,12 @@ module _ (l : ℕ) where
 
   unfoldable pub streamItem : Rules → Bool → Pass → Item → Pass
   streamItem r merging p (rotation t) =
-      let q = carryRotation (r .absorption) p (t .axis) in
-      takeRotation r merging q (imageId q (t .axis)) (withSign (axisImage q (t .axis) .turns) (t .angle))
+      let c = carryRotation (r .absorption) p (t .axis) in
+      takeRotation r merging (c .pass) (c .axis) (withSign (c .turns) (t .angle))
   -- "A barrier clears `last`."
   streamItem r merging p (barrier o a s) =
-      let q = carryAxis (absorbAllWaiting (r .absorption) p) a in
-      putOut (barrier o (imageId q a) ((axisImage q a .turns + s) % 4)) (withLast clearedLast q)
+      let c = carried (absorbAllWaiting (r .absorption) p) a in
+      putOut (barrier o (c .axis) ((c .turns + s) % 4)) (withLast clearedLast (c .pass))
 
   unfoldable pub stream : Rules → Bool → Pass → List Item → Pass
   stream r merging p [] = absorbAllWaiting (r .absorption) p
@@ -174,8 +184,8 @@ module _ (l : ℕ) where
   unfoldable pub carryRowsFrom : Pass → List SignedAxis → List SignedAxis → Rowed
   carryRowsFrom p done [] = record { pass = p; rows = done }
   carryRowsFrom p done (f ∷ rest) =
-      let q = carryAxis p (f .axis) in
-      carryRowsFrom q (done ++ (record { axis = imageId q (f .axis); sign = (axisImage q (f .axis) .turns + f .sign) % 4 } ∷ [])) rest
+      let c = carried p (f .axis) in
+      carryRowsFrom (c .pass) (done ++ (record { axis = c .axis; sign = (c .turns + f .sign) % 4 } ∷ [])) rest
 
   unfoldable pub carryRows : Pass → List SignedAxis → Rowed
   carryRows p rows = if eqb (p .absorbed) 0 then record { pass = p; rows = rows } else carryRowsFrom p [] rows

@@ -12,7 +12,7 @@ use Rattle.model.specs.Items.{rot, Item, rotation, barrier, isClifford}
 use Rattle.model.specs.Words.{wordOf}
 use Rattle.model.specs.Packing.{SignedAxis}
 use Rattle.model.specs.Clifford.{Images, Touched, absorbWord}
-use Rattle.model.specs.Stream.{Place, nowhere, at, Pass, withLast, countMerge, setAngle, putOut, clearedLast, leaveZero, Rowed, axisImage, imageId}
+use Rattle.model.specs.Stream.{Place, nowhere, at, Pass, withLast, countMerge, setAngle, putOut, clearedLast, leaveZero, Rowed}
 use Rattle.model.specs.Stream.{carryAxis, absorb, absorbWaitingAt, absorbWaiting, absorbAllWaiting, absorbBlocking, carryRotation, mergeAt}
 use Rattle.model.specs.Stream.{putOutRotation}
 use Rattle.model.specs.Stream.{mergeOrPutOut, takeRotation, streamItem, stream, carryRowsFrom, carryRows}
@@ -81,7 +81,7 @@ module _ (l : ℕ) (P : ℕ → Pass → Type 0) (kept : KeptBySteps l P) where
     absorbBlocking-by n p a h = let g = kept .carries n p a h in absorbWaiting-by n _ (carryAxis l p a) 0 _ (small n (carryAxis l p a) g) g
 
     -- a rotation, carried
-    pub carryRotation-by : (n : ℕ) (m : Absorption) (p : Pass) (a : ℕ) → P n p → P n (carryRotation l m p a)
+    pub carryRotation-by : (n : ℕ) (m : Absorption) (p : Pass) (a : ℕ) → P n p → P n (carryRotation l m p a .pass)
     unfolding carryRotation
     carryRotation-by n off p a h = kept .carries n p a h
     carryRotation-by n atOnce p a h = kept .carries n p a h
@@ -116,9 +116,9 @@ module _ (l : ℕ) (P : ℕ → Pass → Type 0) (kept : KeptBySteps l P) where
     pub streamItem-by : (n : ℕ) (r : Rules) (merging : Bool) (p : Pass) (i : Item) → TurnsItem i → P n p → P (suc n) (streamItem l r merging p i)
     unfolding streamItem
     streamItem-by n r merging p (rotation t) b h =
-        let q = carryRotation l (r .absorption) p (t .axis) in
-        let k = withSign-turns (axisImage l q (t .axis) .turns) (t .angle) (b .0) (b .1) in
-        takeRotation-by n r merging q (imageId l q (t .axis)) _ (k .0) (k .1) (carryRotation-by n (r .absorption) p (t .axis) h)
+        let c = carryRotation l (r .absorption) p (t .axis) in
+        let k = withSign-turns (c .turns) (t .angle) (b .0) (b .1) in
+        takeRotation-by n r merging (c .pass) (c .axis) _ (k .0) (k .1) (carryRotation-by n (r .absorption) p (t .axis) h)
     streamItem-by n r merging p (barrier o a s) b h =
         kept .bars n _ o _ _ (kept .carries n (absorbAllWaiting l (r .absorption) p) a (absorbAllWaiting-by n (r .absorption) p h))
 

@@ -19,7 +19,7 @@ use Rattle.model.specs.Items.{Rot, rot, Item, rotation, barrier, withSign, isCl
 use Rattle.model.specs.Stream.{Place, nowhere, at, Pass, withLast, countMerge, setAngle, putOut, setLast, clearedLast, leaveZero, canReach}
 use Rattle.model.specs.Stream.{angleAt}
 use Rattle.model.specs.Stream.{axisImage, imageId, carryAxis, absorb, absorbWaitingAt, absorbWaiting, absorbAllWaiting, absorbBlocking}
-use Rattle.model.specs.Stream.{carryRotation}
+use Rattle.model.specs.Stream.{Carried, carryRotation}
 use Rattle.model.specs.Stream.{mergeAt}
 use Rattle.model.specs.Stream.{putOutRotation, mergeOrPutOut, takeRotation, streamItem, stream, begin}
 use Rattle.theory.specs.Cases.{by-if, on-if, and-left, and-right}
@@ -280,15 +280,15 @@ module _ (l : ℕ) where
           ∙ unfold carryAxis in (rw (intern-grows l _ (p .store) _ .keeps a b) refl)))
 
   -- and the rotation is carried again
-  pub carryRotation-waiting : (p : Pass) (a : ℕ) → Waiting l p → Waiting l (carryRotation l lazy p a)
+  pub carryRotation-waiting : (p : Pass) (a : ℕ) → Waiting l p → Waiting l (carryRotation l lazy p a .pass)
   unfolding carryRotation
   carryRotation-waiting p a h = carryAxis-waiting (absorbBlocking l p a) a (absorbBlocking-waiting p a h)
 
   -- the rotation, carried again, commutes with all that still wait
   pub carryRotation-yields : (p : Pass) (a : ℕ) → a < length (p .store .axes) → Waiting l p
-      → Every (Yields l (carryRotation l lazy p a .store .axes)
-      (wordOf (carryRotation l lazy p a .store .axes) (imageId l (carryRotation l lazy p a) a)))
-      (carryRotation l lazy p a .out)
+      → Every (Yields l (carryRotation l lazy p a .pass .store .axes)
+      (wordOf (carryRotation l lazy p a .pass .store .axes) (carryRotation l lazy p a .axis)))
+      (carryRotation l lazy p a .pass .out)
   unfolding carryRotation
   carryRotation-yields p a b h =
       let s = absorbBlocking l p a in
@@ -416,19 +416,18 @@ module _ (l : ℕ) where
     unfolding streamItem
     streamItem-waiting p (rotation t) b c h =
         subst (λ (m : Absorption). Waiting l (after m)) (sym is-lazy)
-        (takeRotation-waiting r is-lazy merging (carried lazy) (imageId l (carried lazy) (t .axis)) _ carried-in
-        (withSign-turns (axisImage l (carried lazy) (t .axis) .turns) (t .angle) (b .0) (b .1) .0)
+        (takeRotation-waiting r is-lazy merging (carried lazy .pass) (carried lazy .axis) _ carried-in
+        (withSign-turns (carried lazy .turns) (t .angle) (b .0) (b .1) .0)
         (carryRotation-yields p (t .axis) c h) (carryRotation-waiting p (t .axis) h))
       where
-        carried : Absorption → Pass
+        carried : Absorption → Carried
         carried m = carryRotation l m p (t .axis)
 
         after : Absorption → Pass
         after m =
-            takeRotation l r merging (carried m) (imageId l (carried m) (t .axis))
-            (withSign (axisImage l (carried m) (t .axis) .turns) (t .angle))
+            takeRotation l r merging (carried m .pass) (carried m .axis) (withSign (carried m .turns) (t .angle))
 
-        carried-in : imageId l (carryRotation l lazy p (t .axis)) (t .axis) < length (carryRotation l lazy p (t .axis) .store .axes)
+        carried-in : carryRotation l lazy p (t .axis) .axis < length (carryRotation l lazy p (t .axis) .pass .store .axes)
         carried-in = unfold carryRotation in (carried-id l (absorbBlocking l p (t .axis)) (t .axis) (absorbBlocking-in p (t .axis) c))
     streamItem-waiting p (barrier o a s) b c h =
         rw is-lazy

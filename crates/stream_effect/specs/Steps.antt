@@ -161,7 +161,7 @@ module _ (l : ℕ) (operations : List Operation) where
 
   -- "and that rotation is carried again from its original axis"
   pub carryRotation-follows : (X : List (Op W)) (m : Absorption) (p : Pass) (a : ℕ) → Well p → (m ≡ lazy → Waiting l p) → S X p
-      → S X (carryRotation l m p a)
+      → S X (carryRotation l m p a .pass)
   unfolding carryRotation
   carryRotation-follows X off p a w wait h = carryAxis-follows X p a w h
   carryRotation-follows X atOnce p a w wait h = carryAxis-follows X p a w h

@@ -9,7 +9,7 @@ use Rattle.model.specs.Program.{Operation}
 use Rattle.model.specs.Rules.{Absorption, off, atOnce, lazy, Rules}
 use Rattle.model.specs.Words.{wordOf, Store}
 use Rattle.model.specs.Items.{Rot, Item, rotation, barrier, withSign}
-use Rattle.model.specs.Stream.{Pass, withLast, putOut, clearedLast, axisImage, imageId, carryAxis, absorbAllWaiting, absorbBlocking, carryRotation}
+use Rattle.model.specs.Stream.{Pass, Carried, withLast, putOut, clearedLast, axisImage, imageId, carryAxis, absorbAllWaiting, absorbBlocking, carryRotation}
 use Rattle.model.specs.Stream.{takeRotation}
 use Rattle.model.specs.Stream.{streamItem, stream, begin}
 use Rattle.theory.specs.Every.{Every}
@@ -49,13 +49,13 @@ module _ (l : ℕ) (operations : List Operation) where
 
   -- ---- what is known of the carried state
 
-  carryRotation-sound : (m : Absorption) (p : Pass) (a : ℕ) → Sound p → (m ≡ lazy → Waiting l p) → Sound (carryRotation l m p a)
+  carryRotation-sound : (m : Absorption) (p : Pass) (a : ℕ) → Sound p → (m ≡ lazy → Waiting l p) → Sound (carryRotation l m p a .pass)
   carryRotation-sound off p a s wait = unfold carryRotation in (carryAxis-kept l p a s .sound)
   carryRotation-sound atOnce p a s wait = unfold carryRotation in (carryAxis-kept l p a s .sound)
-  carryRotation-sound lazy p a s wait = waiting-sound l (carryRotation l lazy p a) (carryRotation-waiting l p a (wait refl))
+  carryRotation-sound lazy p a s wait = waiting-sound l (carryRotation l lazy p a .pass) (carryRotation-waiting l p a (wait refl))
 
   carryRotation-id : (m : Absorption) (p : Pass) (a : ℕ) → Well p → a < length (p .store .axes)
-      → imageId l (carryRotation l m p a) a < length (carryRotation l m p a .store .axes)
+      → imageId l (carryRotation l m p a .pass) a < length (carryRotation l m p a .pass .store .axes)
   unfolding carryRotation
   carryRotation-id off p a w h = carried-id l p a h
   carryRotation-id atOnce p a w h = carried-id l p a h
@@ -66,7 +66,17 @@ module _ (l : ℕ) (operations : List Operation) where
   unfolding carryAxis
   carryAxis-grows p a = intern-grows l _ (p .store) _
 
-  carryRotation-grows : (m : Absorption) (p : Pass) (a : ℕ) → Grows (p .store .axes) (carryRotation l m p a .store .axes)
+  abbrev imageIn : Pass → ℕ → Carried
+  imageIn q a = record { pass = q; axis = imageId l q a; turns = axisImage l q a .turns }
+
+  -- its id and turns are those of its image, which is stored
+  carryRotation-is : (m : Absorption) (p : Pass) (a : ℕ) → carryRotation l m p a ≡ imageIn (carryRotation l m p a .pass) a
+  unfolding carryRotation
+  carryRotation-is off p a = refl
+  carryRotation-is atOnce p a = refl
+  carryRotation-is lazy p a = refl
+
+  carryRotation-grows : (m : Absorption) (p : Pass) (a : ℕ) → Grows (p .store .axes) (carryRotation l m p a .pass .store .axes)
   unfolding carryRotation
   carryRotation-grows off p a = carryAxis-grows p a
   carryRotation-grows atOnce p a = carryAxis-grows p a
@@ -138,18 +148,20 @@ module _ (l : ℕ) (operations : List Operation) where
     unfolding streamItem
     rotation-follows t b z n =
         let m = r .absorption in
-        let q = carryRotation l m p (t .axis) in
+        let q = carryRotation l m p (t .axis) .pass in
         let goes = carryRotation-well l (Unit {0}) m p (t .axis) w in
         let id = carryRotation-id m p (t .axis) w b in
         let k = withSign (axisImage l q (t .axis) .turns) (t .angle) in
         let small = withSign-turns (axisImage l q (t .axis) .turns) (t .angle) z n in
-        subst (λ (x : Op W). S (X ++ (x ∷ [])) (takeRotation l r merging q (imageId l q (t .axis)) k))
+        subst (λ (c : Carried). S (X ++ (turnAt l operations (p .store .axes) (t .axis) (t .angle) ∷ []))
+        (takeRotation l r merging (c .pass) (c .axis) (withSign (c .turns) (t .angle)))) (sym (carryRotation-is m p (t .axis)))
+        (subst (λ (x : Op W). S (X ++ (x ∷ [])) (takeRotation l r merging q (imageId l q (t .axis)) k))
         (opOf-grows l operations (p .store .axes) (q .store .axes) (carryRotation-grows m p (t .axis)) (rotation t) (b, tt))
         (takeRotation-follows l operations (X ++ (turnAt l operations (q .store .axes) (t .axis) (t .angle) ∷ [])) r merging q
         (imageId l q (t .axis)) k
         (goes .well) (carryRotation-sound m p (t .axis) s wait) id (small .0) (small .1)
         (rotation-comes X q (t .axis) (goes .well) (le-trans b (goes .longer)) id
-        (carryRotation-follows l operations X m p (t .axis) w wait h) (t .angle) n))
+        (carryRotation-follows l operations X m p (t .axis) w wait h) (t .angle) n)))
 
     barrier-follows : (o a t : ℕ) → a < length (p .store .axes) → IsSign t
         → S (X ++ (barrierAt l operations (p .store .axes) o a t ∷ [])) (streamItem l r merging p (barrier o a t))

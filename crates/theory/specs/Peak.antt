@@ -123,7 +123,7 @@ module _ (l : ℕ) where
   unfolding absorbBlocking
   absorbBlocking-rises p a = le-trans (carryAxis-rises p a) (absorbWaiting-rises _ _ 0 _)
 
-  carryRotation-rises : (m : Absorption) (p : Pass) (a : ℕ) → Rises p (carryRotation l m p a)
+  carryRotation-rises : (m : Absorption) (p : Pass) (a : ℕ) → Rises p (carryRotation l m p a .pass)
   unfolding carryRotation
   carryRotation-rises off p a = carryAxis-rises p a
   carryRotation-rises atOnce p a = carryAxis-rises p a

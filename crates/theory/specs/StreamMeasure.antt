@@ -74,12 +74,12 @@ module _ (m : ℕ → ℕ) (law : Measure m) where
     absorbBlocking-adds p a =
         adds-chain p (carryAxis l p a) (absorbBlocking l p a) (carryAxis-adds p a) (absorbWaiting-adds _ (carryAxis l p a) 0 _)
 
-    carryRotation-adds : (when : Absorption) (p : Pass) (a : ℕ) → Adds 0 p (carryRotation l when p a)
+    carryRotation-adds : (when : Absorption) (p : Pass) (a : ℕ) → Adds 0 p (carryRotation l when p a .pass)
     unfolding carryRotation
     carryRotation-adds off p a = carryAxis-adds p a
     carryRotation-adds atOnce p a = carryAxis-adds p a
     carryRotation-adds lazy p a =
-        adds-chain p (absorbBlocking l p a) (carryRotation l lazy p a) (absorbBlocking-adds p a) (carryAxis-adds (absorbBlocking l p a) a)
+        adds-chain p (absorbBlocking l p a) (carryRotation l lazy p a .pass) (absorbBlocking-adds p a) (carryAxis-adds (absorbBlocking l p a) a)
 
     absorb-adds : (p : Pass) (a k : ℕ) → Adds 0 p (absorb l p a k)
     unfolding absorb
@@ -110,12 +110,12 @@ module _ (m : ℕ → ℕ) (law : Measure m) where
     pub streamItem-adds : (r : Rules) (b : Bool) (p : Pass) (i : Item) → Adds (m (angleOf i)) p (streamItem l r b p i)
     unfolding streamItem withLast
     streamItem-adds r b p (rotation t) =
-        let q = carryRotation l (r .absorption) p (t .axis) in
+        let c = carryRotation l (r .absorption) p (t .axis) in
         omega (
           arith,
           carryRotation-adds (r .absorption) p (t .axis),
-          takeRotation-adds r b q (imageId l q (t .axis)) (withSign (axisImage l q (t .axis) .turns) (t .angle)),
-          withSign-adds (axisImage l q (t .axis) .turns) (t .angle),
+          takeRotation-adds r b (c .pass) (c .axis) (withSign (c .turns) (t .angle)),
+          withSign-adds (c .turns) (t .angle),
         )
     streamItem-adds r b p (barrier o a s) =
         let q = absorbAllWaiting l (r .absorption) p in

@@ -239,7 +239,7 @@ module _ (l : ℕ) where
   absorbBlocking-kept p a s =
       kept-trans p (carryAxis l p a) _ (carryAxis-kept p a s) (λ t. absorbWaiting-kept _ (carryAxis l p a) 0 (carryAxis l p a .out) t refl)
 
-  carryRotation-kept : (m : Absorption) (p : Pass) (a : ℕ) → Sound p → Kept p (carryRotation l m p a)
+  carryRotation-kept : (m : Absorption) (p : Pass) (a : ℕ) → Sound p → Kept p (carryRotation l m p a .pass)
   unfolding carryRotation
   carryRotation-kept off p a s = carryAxis-kept p a s
   carryRotation-kept atOnce p a s = carryAxis-kept p a s
@@ -257,7 +257,7 @@ module _ (l : ℕ) where
   carried-id p a h = rw (axisImage-carried p a h) (unfold carryAxis in (id-in l _ (p .store) _))
 
   carryRotation-id : (m : Absorption) (p : Pass) (a : ℕ) → Sound p → a < length (p .store .axes)
-      → imageId l (carryRotation l m p a) a < length (carryRotation l m p a .store .axes)
+      → carryRotation l m p a .axis < length (carryRotation l m p a .pass .store .axes)
   unfolding carryRotation
   carryRotation-id off p a s h = carried-id p a h
   carryRotation-id atOnce p a s h = carried-id p a h
@@ -391,8 +391,8 @@ module _ (l : ℕ) where
       → Stepped (barriersOf (i ∷ [])) p (streamItem l r merging p i)
   unfolding streamItem barriersOf
   streamItem-stepped r merging p (rotation t) s h =
-      after-kept [] p (carryRotation l (r .absorption) p (t .axis)) _ (carryRotation-kept l (r .absorption) p (t .axis) s)
-      (takeRotation-stepped r merging (carryRotation l (r .absorption) p (t .axis)) _ _ (carryRotation-kept l (r .absorption) p (t .axis) s .sound)
+      after-kept [] p (carryRotation l (r .absorption) p (t .axis) .pass) _ (carryRotation-kept l (r .absorption) p (t .axis) s)
+      (takeRotation-stepped r merging (carryRotation l (r .absorption) p (t .axis) .pass) _ _ (carryRotation-kept l (r .absorption) p (t .axis) s .sound)
       (carryRotation-id l (r .absorption) p (t .axis) s h))
   streamItem-stepped r merging p (barrier o a t) s h =
       let k = absorbAllWaiting-kept l (r .absorption) p s in

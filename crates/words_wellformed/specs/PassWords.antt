@@ -214,7 +214,7 @@ module _ (l : ℕ) (Angles : Type 0) where
       goes-trans p q _ (carryAxis-well p a w) (λ v. absorbWaiting-well _ q 0 (q .out) v (v .output))
 
   -- "and that rotation is carried again"
-  pub carryRotation-well : (m : Absorption) (p : Pass) (a : ℕ) → Well p → Goes p (carryRotation l m p a)
+  pub carryRotation-well : (m : Absorption) (p : Pass) (a : ℕ) → Well p → Goes p (carryRotation l m p a .pass)
   unfolding carryRotation
   carryRotation-well off p a w = carryAxis-well p a w
   carryRotation-well atOnce p a w = carryAxis-well p a w
@@ -222,7 +222,7 @@ module _ (l : ℕ) (Angles : Type 0) where
 
   -- the carried axis has an id
   carryRotation-id : (m : Absorption) (p : Pass) (a : ℕ) → Well p → a < length (p .store .axes)
-      → imageId l (carryRotation l m p a) a < length (carryRotation l m p a .store .axes)
+      → carryRotation l m p a .axis < length (carryRotation l m p a .pass .store .axes)
   unfolding carryRotation
   carryRotation-id off p a w h = carried-id l p a h
   carryRotation-id atOnce p a w h = carried-id l p a h
@@ -275,7 +275,7 @@ module _ (l : ℕ) (Angles : Type 0) where
       → Goes p (streamItem l r merging p i)
   unfolding streamItem
   streamItem-well r merging p (rotation t) w h =
-      let q = carryRotation l (r .absorption) p (t .axis) in
+      let q = carryRotation l (r .absorption) p (t .axis) .pass in
       goes-trans p q _ (carryRotation-well (r .absorption) p (t .axis) w)
       (λ v. takeRotation-well r merging q _ _ v (carryRotation-id (r .absorption) p (t .axis) w (h .0)) (λ g. withSign-item _ (t .angle) (h .1 g)))
   streamItem-well r merging p (barrier o a s) w h =
