@@ -149,10 +149,10 @@ module _ {z : Shape} {m : Absorption} {st : State} {ws xs xs′ rs : List ℕ} {
 
 -- ---- the list of waiting places changes
 
--- nothing is said of it
-never : off ≡ lazy → ⊥
+pub never : off ≡ lazy → ⊥
 never e = let f : _≡_ {A = ℕ} 0 1 = cc in omega arith
 
+-- nothing is said of it
 pub without-list : {z : Shape} {m : Absorption} {st : State} {ws xs : List ℕ} {p : Pass} (n : ℕ) → HoldsPass z m st ws xs p
     → HoldsPass z off (withWaiting n st) ws xs p
 without-list n h = record {
