@@ -115,11 +115,11 @@ plain-is : (l : ℕ) (g : Rules) (merging : Bool) (p : Pass) (a k : ℕ) → (g 
     ≡ takeRotation l g merging (carryAxis l p a) (imageId l (carryAxis l p a) a) (withSign (axisImage l (carryAxis l p a) a .turns) k)
 unfolding streamItem carryRotation
 plain-is l g merging p a k (inl e) =
-    ap (λ (m : Absorption). takeRotation l g merging (carryRotation l m p a) (imageId l (carryRotation l m p a) a)
-    (withSign (axisImage l (carryRotation l m p a) a .turns) k)) e
+    ap (λ (m : Absorption). takeRotation l g merging (carryRotation l m p a .pass) (carryRotation l m p a .axis)
+    (withSign (carryRotation l m p a .turns) k)) e
 plain-is l g merging p a k (inr e) =
-    ap (λ (m : Absorption). takeRotation l g merging (carryRotation l m p a) (imageId l (carryRotation l m p a) a)
-    (withSign (axisImage l (carryRotation l m p a) a .turns) k)) e
+    ap (λ (m : Absorption). takeRotation l g merging (carryRotation l m p a .pass) (carryRotation l m p a .axis)
+    (withSign (carryRotation l m p a .turns) k)) e
 
 lazy-is : (l : ℕ) (g : Rules) (merging : Bool) (p : Pass) (a k : ℕ) → g .absorption ≡ lazy
     → streamItem l g merging p (rotation (rot a k))
@@ -127,8 +127,8 @@ lazy-is : (l : ℕ) (g : Rules) (merging : Bool) (p : Pass) (a k : ℕ) → g .a
     (withSign (axisImage l (carryAxis l (absorbBlocking l p a) a) a .turns) k)
 unfolding streamItem carryRotation
 lazy-is l g merging p a k e =
-    ap (λ (m : Absorption). takeRotation l g merging (carryRotation l m p a) (imageId l (carryRotation l m p a) a)
-    (withSign (axisImage l (carryRotation l m p a) a .turns) k)) e
+    ap (λ (m : Absorption). takeRotation l g merging (carryRotation l m p a .pass) (carryRotation l m p a .axis)
+    (withSign (carryRotation l m p a .turns) k)) e
 
 said-off : (c : StreamRules) → c .«to_frame» ≡ false → absorptionSaid c ≡ off
 unfolding absorptionSaid
