@@ -31,7 +31,8 @@ fn behind(from: usize, next: usize, end: usize) -> usize
 // Reads the job at a place of the input, its records into memory for all of them; words and numbers say how much room the stores have.
 pub fn read_job(s: &[u8], from: usize, records: &mut [u32], words: usize, numbers: usize) -> Job
     requires { ⌜ from < length (now s) ⌝ }
-    ensures { λ r. ⌜ (from < r .next) × (r .next ≤ length (now (s .entry))) × Within (r .lent) (length (now (records .entry))) words numbers ⌝ }
+    ensures { λ r. ⌜ (from < r .next) × (r .next ≤ length (now (s .entry))) × Within (r .lent)
+        (length (now (records .entry))) words numbers ⌝ }
 {
     let h = read::read_header(s, from);
     let size = lend::following(h, records.len());

@@ -140,7 +140,8 @@ module _ (nodes : List Node) (o : Ordered 0 nodes) (n : ℕ) (h : n < length nod
   unfolding reaches someMarked someBelow
   adds b c e f = ap (λ (x : Bool). isSet acts q || (someMarked n marks mentioned || x)) (ap₂ _&&_ e f)
 
-  reach-step : (b : Bool) (node : Node) → isSet marks n ≡ b → getD nodes n identity ≡ node → LeafIn (length acts) node → ChildrenBefore n node
+  reach-step : (b : Bool) (node : Node) → isSet marks n ≡ b → getD nodes n identity ≡ node → LeafIn (length acts) node
+      → ChildrenBefore n node
       → n ≤ length marks → reaches nodes n (marksFrom b node marks) (actedFrom b node acts) q ≡ reaches nodes (suc n) marks acts q
   unfolding marksFrom actedFrom reaches
   reach-step false node e f l k s =

@@ -24,10 +24,12 @@ pub record NodePre (ns : List ℕ) (u n : ℕ) (xs : List ℕ) : Type 0 where
 
 module _ {ns : List ℕ} {u count : ℕ} {xs : List ℕ} (h : NodesPre ns u count xs) (n : ℕ) (b : n < count) where
   pub leaf-here : LeafIn u (nodeHere ns n)
-  leaf-here = rw (node-here count ns n b) at (every-at (LeafIn u) (nodesIn count ns) identity n (h .leaves) (omega (arith, nodes-count count ns)))
+  leaf-here =
+      rw (node-here count ns n b) at (every-at (LeafIn u) (nodesIn count ns) identity n (h .leaves) (omega (arith, nodes-count count ns)))
 
   qubit-in : nodeRecord ns n .kind ≡ 1 → nodeRecord ns n .left < u
-  qubit-in o = let l : (nodeRecord ns n .left < u) × (nodeRecord ns n .«left_phase» ≤ 3) = rw (said-letter (nodeRecord ns n) o) at leaf-here in l .0
+  qubit-in o =
+      let l : (nodeRecord ns n .left < u) × (nodeRecord ns n .«left_phase» ≤ 3) = rw (said-letter (nodeRecord ns n) o) at leaf-here in l .0
 
   -- what is asked of each node
   pub node-pre : {ys : List ℕ} → length ys ≡ length xs → NodePre ns u n ys

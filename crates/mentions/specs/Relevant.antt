@@ -83,19 +83,22 @@ module _ (nodes : List Node) (o : Ordered 0 nodes) (n : ℕ) (h : n < length nod
   unfolding mentionsActed
   own node e = ap (anyOf (isSet acts)) (mentions-own nodes o n h ∙ ap (nodeMentions (mentionsAt (mentions nodes))) e)
 
-  node-tells : (node : Node) → getD nodes n identity ≡ node → ChildrenBefore n node → relevantNode acts known node ≡ mentionsActed nodes acts n
+  node-tells : (node : Node) → getD nodes n identity ≡ node → ChildrenBefore n node
+      → relevantNode acts known node ≡ mentionsActed nodes acts n
   unfolding relevantNode
   node-tells identity e k = sym (unfold nodeMentions anyOf in (own identity e))
   node-tells (letter q c) e k =
       let one : mentionsActed nodes acts n ≡ isSet acts q || false = unfold nodeMentions anyOf in (own (letter q c) e) in
       sym (one ∙ or-false (isSet acts q))
   node-tells (product a p c r) e k =
-      ap₂ _||_ (flag-set known a (mentionsActed nodes acts a) (tells a (k .0))) (flag-set known c (mentionsActed nodes acts c) (tells c (k .1)))
+      ap₂ _||_ (flag-set known a (mentionsActed nodes acts a) (tells a (k .0)))
+      (flag-set known c (mentionsActed nodes acts c) (tells c (k .1)))
       ∙ sym (own (product a p c r) e ∙ children)
     where
       children : anyOf (isSet acts) (nodeMentions (mentionsAt (mentions nodes)) (product a p c r))
           ≡ mentionsActed nodes acts a || mentionsActed nodes acts c
-      children = unfold nodeMentions mentionsActed in (any-append (isSet acts) (mentionsAt (mentions nodes) a) (mentionsAt (mentions nodes) c))
+      children =
+          unfold nodeMentions mentionsActed in (any-append (isSet acts) (mentionsAt (mentions nodes) a) (mentionsAt (mentions nodes) c))
 
 pub relevant-none : (ns : List ℕ) (u count : ℕ) (s : List ℕ) → RelevantNodes ns u count 0 s s
 relevant-none ns u count s = record { only = only-none (relevantRow ∷ []) u s; tells = λ m b. absurd (omega arith) }
@@ -124,10 +127,12 @@ relevant-next {ns} {u} {count} {n} {s} {t} {w} h l r b e v bit y =
         ∙ node-tells (nodesIn count ns) (h .nodes .ordered) n (omega (arith, nodes-count count ns)) (row s u acted) (row t u relevantRow)
         (r .tells) (nodeHere ns n) (node-here count ns n l) (children-here (h .nodes) n l)
 
-    go : (m : ℕ) → m < n + 1 → Dec (m ≡ n) → getD (row w u relevantRow) m 0 ≡ (if mentionsActed (nodesIn count ns) (row s u acted) m then 1 else 0)
+    go : (m : ℕ) → m < n + 1 → Dec (m ≡ n)
+        → getD (row w u relevantRow) m 0 ≡ (if mentionsActed (nodesIn count ns) (row s u acted) m then 1 else 0)
     go m k (yes i) =
         rw i (entry-own t u relevantRow n v changed long (omega arith) inside ∙ bit ∙ ap (λ (x : Bool). if x then 1 else 0) truth)
     go m k (no i) = entry-other t u relevantRow n v changed m i ∙ r .tells m (omega arith)
 
-pub relevant-all : {ns : List ℕ} {u count n : ℕ} {s t : List ℕ} → count ≡ n → RelevantNodes ns u count n s t → RelevantNodes ns u count count s t
+pub relevant-all : {ns : List ℕ} {u count n : ℕ} {s t : List ℕ} → count ≡ n → RelevantNodes ns u count n s t
+    → RelevantNodes ns u count count s t
 relevant-all e r = rw (sym e) at r

@@ -15,7 +15,8 @@ use Rattle.packing.specs.Holding.{SlotsHold}
 -- words that stay where the slots are
 pub slots-words : {l limit b slots free : ℕ} {value : ℕ → Value} {uses slotRow phaseRow stack ws ws′ : List ℕ}
     → ((s : ℕ) → s < slots → part ws′ (slotPlace limit l s) (2 * l) ≡ part ws (slotPlace limit l s) (2 * l))
-    → SlotsHold l limit b slots free value uses slotRow phaseRow stack ws → SlotsHold l limit b slots free value uses slotRow phaseRow stack ws′
+    → SlotsHold l limit b slots free value uses slotRow phaseRow stack ws
+    → SlotsHold l limit b slots free value uses slotRow phaseRow stack ws′
 slots-words {slotRow = slotRow} f s = record {
   slot = s .slot;
   word = λ m a u. f (getD slotRow m 0) (s .slot m a u) ∙ s .word m a u;

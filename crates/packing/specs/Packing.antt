@@ -1,6 +1,6 @@
 -- Packing from node to node: its start, its loop and its ends. Assumes nothing.
 use mathlib.Core.Path.{_≡_, refl, sym, ap, _∙_}
-use mathlib.Core.Bool.{true, false}
+use mathlib.Core.Bool.{true}
 use mathlib.Core.Logic.{inl, inr}
 use mathlib.Core.List.{List, _∷_}
 use Prim.Native.Nat.{ℕ, suc, _+_, _*_, _≤_, _<_}
@@ -169,7 +169,8 @@ module _ {z : Shape} {ns os rs ws xs xs₀ : List ℕ} (pre : PackPre z ns os rs
 
     module _ {ws″ xs″ : List ℕ} (b : n < z .nodes) (k : RestKept z ws′ xs′ ws″ xs″) where
       -- a turn ends packing by 9
-      pub pack-odd : (before (programIn z ns os rs) (suc n) .refused ≡ true) × (before (programIn z ns os rs) (suc n) .store .peak ≤ z .limit)
+      pub pack-odd : (before (programIn z ns os rs) (suc n) .refused ≡ true)
+          × (before (programIn z ns os rs) (suc n) .store .peak ≤ z .limit)
           → PackedAs z (programIn z ns os rs) NonHermitianAxis ws xs ws″ xs″
       pack-odd h =
           let l = rest-then (a .rest) k in

@@ -82,7 +82,8 @@ module _ {p : Program} {z : Shape} {st : Slots} {n : ℕ} {x : NodeRecord} {ws x
   children-in : 2 ≤ x .kind → (x .left < n) × (x .right < n)
   children-in k = children-below p fine n below (is-product k)
 
-  children-live : 2 ≤ x .kind → (0 < getD (before p n .uses) (x .left) 0) × (0 < getD (oneUseLess (x .left) (before p n .uses)) (x .right) 0)
+  children-live : 2 ≤ x .kind
+      → (0 < getD (before p n .uses) (x .left) 0) × (0 < getD (oneUseLess (x .left) (before p n .uses)) (x .right) 0)
   children-live k = children-used p fine n below (h .holding .going) (h .used) (is-product k)
 
   second-live : 2 ≤ x .kind → 0 < getD (before p n .uses) (x .right) 0
@@ -268,7 +269,8 @@ module _ {p : Program} {z : Shape} {st : Slots} {n : ℕ} {x : NodeRecord} {ws x
   axes-count = held-count axes₁
 
   kept₁ : KeptFrom (z .limit + 2 * z .l) ws ws′
-  kept₁ = rw words-are (kept-put (z .limit + 2 * z .l) ws (z .limit) word (omega (arith, value-long h)) (omega (arith, h .granted .words-long)))
+  kept₁ =
+      rw words-are (kept-put (z .limit + 2 * z .l) ws (z .limit) word (omega (arith, value-long h)) (omega (arith, h .granted .words-long)))
 
   -- the limit refuses the slot
   pub place-limit : taken z t st₁ ≡ ExpansionLimit → Turned p z (suc n) n 0 (slotted p n) ExpansionLimit ws′ t
@@ -285,7 +287,9 @@ module _ {p : Program} {z : Shape} {st : Slots} {n : ℕ} {x : NodeRecord} {ws x
     s = st′ .taken
 
     took : Took z n (st .axes) (st .slots) r (row t (z .u) nodeSlot) (row t (z .u) freeRow) k₁ (takeSlot (z .l) k₁) st′
-    took = took-slot z n (valueOf p) t ws′ (row t (z .u) nodePhase) st₁ k₁ slots-count (slots₁ .all) axes-count (slots₁ .held) (h .holding .room)
+    took =
+        took-slot z n (valueOf p) t ws′ (row t (z .u) nodePhase) st₁ k₁ slots-count (slots₁ .all) axes-count (slots₁ .held)
+        (h .holding .room)
         (omega (arith, h .holding .fits, ap (λ (y : Store). y .peak) (children-keep (nodeAt p n) (before p n) .0))) f
 
     slots-fit′ : st′ .slots * (2 * z .l) ≤ z .limit

@@ -81,8 +81,8 @@ module _ {p : Program} {z : Shape} {st : Slots} {n j phase : ℕ} {ws xs : List 
     held-word : wordAt (z .l) ws (v .at) ≡ valueOf p n .word
     held-word = ap (wordAt (z .l) ws) (held-place z xs n e) ∙ h .holding .held .word n (omega arith) (h .used)
 
-    stored-pre : InternPre (sizesOf z (st .axes)) (st .slots * (2 * z .l)) ws xs (v .at)
-    stored-pre =
+    sizes-pre : InternPre (sizesOf z (st .axes)) (st .slots * (2 * z .l)) ws xs (v .at)
+    sizes-pre =
         let s = slotOf xs (z .u) n in
         let at : v .at ≡ slotPlace (z .limit) (z .l) s = held-place z xs n e in
         record {
@@ -93,7 +93,7 @@ module _ {p : Program} {z : Shape} {st : Slots} {n j phase : ℕ} {ws xs : List 
         }
 
     pub intern-pre : {sizes : Sizes} → sizes ≡ sizesOf z (st .axes) → InternPre sizes (st .slots * (2 * z .l)) ws xs (v .at)
-    intern-pre f = rw f stored-pre
+    intern-pre f = rw f sizes-pre
 
     -- the root's total phase
     pub phase-total : (v .phase + phase % 4) % 4 ≡ (valueOf p n .turns + referenceAt p j .phase) % 4
@@ -126,8 +126,9 @@ module _ {p : Program} {z : Shape} {st : Slots} {n j phase : ℕ} {ws xs : List 
       (s : Stores sizes (st .slots * (2 * z .l)) ws xs (v .at) r ws′ xs′) where
     stored-as : InternedAs (sizesOf z (st .axes)) (st .slots * (2 * z .l)) ws xs (within p n j .store) (valueOf p n .word) r ws′ xs′
     stored-as =
-        subst (λ (w : List ℕ). InternedAs (sizesOf z (st .axes)) (st .slots * (2 * z .l)) ws xs (within p n j .store) w r ws′ xs′) (held-word e)
-        (interned-is _ _ ws xs (v .at) (stored-pre e) (within p n j .store) (h .holding .axes)
+        subst (λ (w : List ℕ). InternedAs (sizesOf z (st .axes)) (st .slots * (2 * z .l)) ws xs (within p n j .store) w r ws′ xs′)
+        (held-word e)
+        (interned-is _ _ ws xs (v .at) (sizes-pre e) (within p n j .store) (h .holding .axes)
         (subst (λ (y : Sizes). Stores y (st .slots * (2 * z .l)) ws xs (v .at) r ws′ xs′) f s) (h .holding .fits))
 
     pub root-has-id : {id : ℕ} → r ≡ Id id → RootHasId p z st n j ws xs id ws′ xs′

@@ -52,7 +52,8 @@ pub record AtLink (p : Program) (z : Shape) (n link : ℕ) (st : Slots) (ws xs :
   pub some : (r : ℕ) → link ≡ suc r → BeforeRoot p z n r st ws xs
 
 module _ {p : Program} {z : Shape} {n : ℕ} {st : Slots} {ws xs : List ℕ} where
-  at-link : (j link : ℕ) → j ≤ total p → link ≡ linkFrom p n j → Holding p z (suc n) n j (within p n j) st ws xs → AtLink p z n link st ws xs
+  at-link : (j link : ℕ) → j ≤ total p → link ≡ linkFrom p n j → Holding p z (suc n) n j (within p n j) st ws xs
+      → AtLink p z n link st ws xs
   at-link j link b e h = record {
     end = λ f.
         let g : linkFrom p n j ≡ 0 = sym e ∙ f in
@@ -90,7 +91,8 @@ module _ {z : Shape} {placed : Slots} {n : ℕ} {os rs ws₀ xs₀ : List ℕ} w
   }
 
   -- the node has its first link
-  pub first-there : SomeProgram (λ p. RootsAt p z placed n os rs ws₀ xs₀) → (rowCount * z .u ≤ length xs₀) × (firstRoot < rowCount) × (n < z .u)
+  pub first-there : SomeProgram (λ p. RootsAt p z placed n os rs ws₀ xs₀)
+      → (rowCount * z .u ≤ length xs₀) × (firstRoot < rowCount) × (n < z .u)
   first-there s = let g = s .it .granted in (g .numbers-long, omega arith, omega (arith, s .it .node, g .sized .row))
 
   module _ {ws xs : List ℕ} {st : Slots} {link r : ℕ} (a : Along z placed n os rs ws₀ xs₀ ws xs st link) (l : link ≡ suc r) where
@@ -167,7 +169,8 @@ module _ {z : Shape} {placed : Slots} {n : ℕ} {os rs ws₀ xs₀ : List ℕ} w
 
       -- "refused" ends the node's turn
       pub along-odd : step ≡ NonHermitianAxis → RestKept z ws₀ xs₀ ws′ xs′
-          × ((p : Program) → RootsAt p z placed n os rs ws₀ xs₀ → Turned p z (suc n) n (total p) (within p n (total p)) NonHermitianAxis ws′ xs′)
+          × ((p : Program) → RootsAt p z placed n os rs ws₀ xs₀
+          → Turned p z (suc n) n (total p) (within p n (total p)) NonHermitianAxis ws′ xs′)
       along-odd f = (
         rest-then (a .rest) k,
         λ p h.
@@ -178,7 +181,8 @@ module _ {z : Shape} {placed : Slots} {n : ℕ} {os rs ws₀ xs₀ : List ℕ} w
 
       -- and so does a sum above the limit
       pub along-limit : step ≡ ExpansionLimit → RestKept z ws₀ xs₀ ws′ xs′
-          × ((p : Program) → RootsAt p z placed n os rs ws₀ xs₀ → Turned p z (suc n) n (total p) (within p n (total p)) ExpansionLimit ws′ xs′)
+          × ((p : Program) → RootsAt p z placed n os rs ws₀ xs₀
+          → Turned p z (suc n) n (total p) (within p n (total p)) ExpansionLimit ws′ xs′)
       along-limit f = (
         rest-then (a .rest) k,
         λ p h.

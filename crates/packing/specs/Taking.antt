@@ -6,7 +6,7 @@ use Prim.Native.Nat.{ℕ, suc, _+_, _-_, _*_, _≤_, _<_}
 use native.Mathlib.Nat.{add-mul}
 use native.Mathlib.Numerals.{add-one}
 use native.Mathlib.Omega.{arith}
-use lib.ListN.{length, getD}
+use lib.ListN.{length}
 use borrow.Author.Tests.{ltb-true, ltb-false, lt-ltb, le-ltb}
 use Rattle.store.specs.Row.{row}
 use Rattle.model.specs.Words.{Value, tested}
@@ -92,7 +92,8 @@ module _ (z : Shape) (n : ℕ) (value : ℕ → Value) (xs ws phaseRow : List �
       omega (arith, f .1, same-sum)
 
   module _
-      (held : SlotsHold (z .l) (z .limit) n (st .slots) (st .free) value (k .uses) (row xs (z .u) nodeSlot) phaseRow (row xs (z .u) freeRow) ws)
+      (held : SlotsHold (z .l) (z .limit) n (st .slots) (st .free) value (k .uses) (row xs (z .u) nodeSlot) phaseRow
+      (row xs (z .u) freeRow) ws)
       (room : st .slots * (2 * z .l) + st .axes * (2 * z .l) ≤ z .limit) (fits : k .store .peak ≤ z .limit) where
     abbrev Result : Slots → Type 0
     Result st′ = Took z n (st .axes) (st .slots) (st .free) (row xs (z .u) nodeSlot) (row xs (z .u) freeRow) k (takeSlot (z .l) k) st′

@@ -69,7 +69,8 @@ module _ (z : Shape) (x : NodeRecord) (ws xs : List ℕ) where
   value-letter e = ap (nodeValue (z .l) (heldValue z ws xs)) (said-letter x e)
 
   value-product : (x .kind ≡ 0 → ⊥) → (x .kind ≡ 1 → ⊥)
-      → valueOfRecord z ws xs x ≡ multiply (z .l) (scaled (x .«left_phase») (heldValue z ws xs (x .left))) (scaled (x .«right_phase») (heldValue z ws xs (x .right)))
+      → valueOfRecord z ws xs x
+      ≡ multiply (z .l) (scaled (x .«left_phase») (heldValue z ws xs (x .left))) (scaled (x .«right_phase») (heldValue z ws xs (x .right)))
   unfolding valueOfRecord nodeValue
   value-product f g = ap (nodeValue (z .l) (heldValue z ws xs)) (said-product x f g)
 
@@ -89,10 +90,12 @@ module _ (z : Shape) (x : NodeRecord) (ws xs : List ℕ) where
       evaluated (asValue (identityWord (z .l))) (value-identity k)
       (zeros-lent ws o (2 * z .l) w (omega arith) e ∙ ap (λ (i : ℕ). put ws i (identityWord (z .l))) s) refl
 
-  pub evaluated-letter : (ws′ : List ℕ) (o : ℕ) → o ≡ scratchPlace (z .limit) → x .kind ≡ 1 → ws′ ≡ put ws o (single (z .l) (x .left) (x .«left_phase»))
+  pub evaluated-letter : (ws′ : List ℕ) (o : ℕ) → o ≡ scratchPlace (z .limit) → x .kind ≡ 1
+      → ws′ ≡ put ws o (single (z .l) (x .left) (x .«left_phase»))
       → Evaluated z x ws xs ws′ 0
   evaluated-letter ws′ o s k e =
-      evaluated (asValue (single (z .l) (x .left) (x .«left_phase»))) (value-letter k) (e ∙ ap (λ (i : ℕ). put ws i (single (z .l) (x .left) (x .«left_phase»))) s) refl
+      evaluated (asValue (single (z .l) (x .left) (x .«left_phase»))) (value-letter k)
+      (e ∙ ap (λ (i : ℕ). put ws i (single (z .l) (x .left) (x .«left_phase»))) s) refl
 
 -- the phases of a product, remainder by remainder
 turns-sum : (e a p b q : ℕ) → (e + a + p % 4 + b + q % 4) % 4 ≡ ((a + p) % 4 + (b + q) % 4 + e) % 4
@@ -101,7 +104,8 @@ turns-sum e a p b q =
 
 module _ {z : Shape} {x : NodeRecord} {ws xs : List ℕ} (a b : ValueHeld) (o : ℕ) where
   -- the words of both children, and the scratch word, for `product_in`
-  pub stored-pre : EvaluatePre z x ws xs → 2 ≤ x .kind → a ≡ heldAt z xs (x .left) → b ≡ heldAt z xs (x .right) → o ≡ scratchPlace (z .limit)
+  pub stored-pre : EvaluatePre z x ws xs → 2 ≤ x .kind → a ≡ heldAt z xs (x .left) → b ≡ heldAt z xs (x .right)
+      → o ≡ scratchPlace (z .limit)
       → StoredPre (z .l) ws (a .at) (b .at) o
   stored-pre pre k e f g =
       let p : a .at + 2 * z .l ≤ z .limit = held-ends z xs (x .left) (pre .first k) e in
@@ -125,14 +129,17 @@ module _ {z : Shape} {x : NodeRecord} {ws xs : List ℕ} (a b : ValueHeld) (o : 
   evaluated-product f g p q c s =
       let u = held-place z xs (x .left) p in
       let v = held-place z xs (x .right) q in
-      evaluated z x ws xs (multiply (z .l) (scaled (x .«left_phase») (heldValue z ws xs (x .left))) (scaled (x .«right_phase») (heldValue z ws xs (x .right))))
+      evaluated z x ws xs (multiply (z .l) (scaled (x .«left_phase») (heldValue z ws xs (x .left)))
+      (scaled (x .«right_phase») (heldValue z ws xs (x .right))))
       (value-product z x ws xs f g)
       (s .store ∙ rw (c, u, v) refl)
-      (rw (s .turns, held-phase z xs (x .left) p, held-phase z xs (x .right) q, u, v) (turns-sum _ _ (x .«left_phase») _ (x .«right_phase»)))
+      (rw (s .turns, held-phase z xs (x .left) p, held-phase z xs (x .right) q, u, v)
+      (turns-sum _ _ (x .«left_phase») _ (x .«right_phase»)))
 
 -- ---- giving up a use
 
-module _ {s t : List ℕ} {u free n : ℕ} (k : ℕ) (pre : ReleasePre s u free n) (is : k ≡ usesOf s u n) (w : Written s u usesRow n (k - 1) t) where
+module _ {s t : List ℕ} {u free n : ℕ} (k : ℕ) (pre : ReleasePre s u free n) (is : k ≡ usesOf s u n)
+    (w : Written s u usesRow n (k - 1) t) where
   only-uses : Only (usesRow ∷ []) u s t
   only-uses = only-written (pre .long) (omega arith) (pre .node) w
 
@@ -191,7 +198,8 @@ module _ {s : List ℕ} {u free : ℕ} {x : NodeRecord} where
     used = pre .first-used k;
   }
 
-  pub second-pre : (r : ℕ) {t : List ℕ} → ChildrenPre s u free x → 2 ≤ x .kind → Released s u free (x .left) r t → ReleasePre t u r (x .right)
+  pub second-pre : (r : ℕ) {t : List ℕ} → ChildrenPre s u free x → 2 ≤ x .kind → Released s u free (x .left) r t
+      → ReleasePre t u r (x .right)
   second-pre r {t} pre k one =
       let most : (if eqb (usesOf s u (x .left)) 1 then 1 else 0) ≤ 1 = by-if (λ (i : ℕ). i ≤ 1) _ _ _ (omega arith) (omega arith) in
       record {

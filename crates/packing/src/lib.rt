@@ -137,7 +137,8 @@ fn pack_roots(
 ) -> Step
     requires { ⌜ SomeProgram (λ (p : Program). RootsAt p shape placed n (now operations) (now rows) (now words) (now numbers)) ⌝ }
     ensures { λ r. ⌜ RestKept shape (now (words .entry)) (now (numbers .entry)) (now (words .exit)) (now (numbers .exit))
-        × ((p : Program) → RootsAt p shape placed n (now (operations .entry)) (now (rows .entry)) (now (words .entry)) (now (numbers .entry))
+        × ((p : Program)
+        → RootsAt p shape placed n (now (operations .entry)) (now (rows .entry)) (now (words .entry)) (now (numbers .entry))
         → Turned p shape (suc n) n (total p) (within p n (total p)) r (now (words .exit)) (now (numbers .exit))) ⌝ }
 {
     let mut st = placed;

@@ -43,4 +43,5 @@ run-goes-on r rounds p limit h = go (ltb limit (packed p .store .peak)) refl (pa
     go : (a : Bool) → ltb limit (packed p .store .peak) ≡ a → (b : Bool) → packed p .refused ≡ b → run r rounds p ≡ finishedRun r rounds p
     go a e false f = if-false _ _ f
     go true e true f = let z : _≡_ {A = ℕ} 10 0 = ap numberOf (sym (ap packingAnswer (if-true _ _ e)) ∙ h) in absurd (omega arith)
-    go false e true f = let z : _≡_ {A = ℕ} 9 0 = ap numberOf (sym (ap packingAnswer (if-false _ _ e ∙ if-true _ _ f)) ∙ h) in absurd (omega arith)
+    go false e true f =
+        let z : _≡_ {A = ℕ} 9 0 = ap numberOf (sym (ap packingAnswer (if-false _ _ e ∙ if-true _ _ f)) ∙ h) in absurd (omega arith)

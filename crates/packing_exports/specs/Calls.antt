@@ -41,7 +41,8 @@ pub record PackedCall (limit : ℕ) (j : Job) (s : Lent) (axes r : ℕ) (ws xs :
   pub kept : (checkedNumber limit j s ≡ 0 → ⊥) → (ws ≡ s .words) × ((xs ≡ s .numbers) × (axes′ ≡ axes))
   pub answer : checkedNumber limit j s ≡ 0 → r ≡ packedNumber (packingOf limit j)
   pub count : checkedNumber limit j s ≡ 0 → axes′ ≡ axesAfter axes (packingOf limit j)
-  pub memory : checkedNumber limit j s ≡ 0 → PackedAs (shapeOf (j .counts) limit) (programOf j) (packingOf limit j) (s .words) (s .numbers) ws xs
+  pub memory : checkedNumber limit j s ≡ 0
+      → PackedAs (shapeOf (j .counts) limit) (programOf j) (packingOf limit j) (s .words) (s .numbers) ws xs
 
 -- the answer's number, as the code works it out
 pub check-number : (limit : ℕ) (j : Job) (s : Lent) {o : Options} {a : Answer} {r : ℕ} → o ≡ defaultsAt limit → a ≡ checking o j s

@@ -62,7 +62,8 @@ reference-node p f j h =
     let n = length (p .nodes) in
     let ops = map operationRoot (p .operations) in
     every-at (RowIn n) (ops ++ p .rows) noReference j
-    (every-append (RowIn n) ops (p .rows) (every-map (NodeIn n) (RowIn n) operationRoot (λ x k. k) (p .operations) (f .operations)) (f .rows)) h
+    (every-append (RowIn n) ops (p .rows) (every-map (NodeIn n) (RowIn n) operationRoot (λ x k. k) (p .operations) (f .operations))
+    (f .rows)) h
 
 -- ---- what is known of a program without its records
 

@@ -69,7 +69,8 @@ used-below-less zero m uses h u = absurd (omega arith)
 used-below-less (suc b) m uses h u = go (ℕ-discrete b m) (λ c. used-below-less b m uses c u)
   where
     go : Dec (b ≡ m) → (m < b → usedBelow b (oneUseLess m uses) + (if eqb (getD uses m 0) 1 then 1 else 0) ≡ usedBelow b uses)
-        → usedBelow b (oneUseLess m uses) + (if eqb (getD (oneUseLess m uses) b 0) 0 then 0 else 1) + (if eqb (getD uses m 0) 1 then 1 else 0)
+        → usedBelow b (oneUseLess m uses) + (if eqb (getD (oneUseLess m uses) b 0) 0 then 0 else 1)
+        + (if eqb (getD uses m 0) 1 then 1 else 0)
         ≡ usedBelow b uses + (if eqb (getD uses b 0) 0 then 0 else 1)
     go (yes e) ih =
         let one : _≡_ {A = ℕ} (if eqb (getD uses m 0) 0 then 0 else 1) 1 = if-false _ _ (ne-eqb (getD uses m 0) 0 (λ z. omega arith)) in

@@ -39,7 +39,8 @@ module _ (nodes : List Node) where
   -- a node that is not used owes nothing
   pub owed-unused : (uses : List ℕ) (m c : ℕ) → m < length nodes → getD uses m 0 ≡ 0 → owed nodes uses m c ≡ owed nodes uses (suc m) c
   owed-unused uses m c h z =
-      let none : _≡_ {A = ℕ} (if eqb (getD uses m 0) 0 then 0 else edges (getD nodes m identity) c) 0 = if-true _ _ (eq-eqb (getD uses m 0) 0 z) in
+      let none : _≡_ {A = ℕ} (if eqb (getD uses m 0) 0 then 0 else edges (getD nodes m identity) c) 0 =
+      if-true _ _ (eq-eqb (getD uses m 0) 0 z) in
       omega (arith, owed-step uses m c h)
 
   -- a used one owes each child its use
@@ -107,7 +108,8 @@ module _ (nodes : List Node) (o : Ordered 0 nodes) (own : ℕ → ℕ) where
   enough-counted (suc m) uses h e = enough-counted m (countNode m (getD nodes m identity) uses) (omega arith) (enough-step uses m h e)
 
 -- the uses of each node at the start: its roots, and what the used products owe it
-pub counts-enough : (nodes : List Node) (rs : List PauliRef) → Ordered 0 nodes → Enough nodes (λ c. length (rootsAt c rs)) (useCounts nodes rs) 0
+pub counts-enough : (nodes : List Node) (rs : List PauliRef) → Ordered 0 nodes
+    → Enough nodes (λ c. length (rootsAt c rs)) (useCounts nodes rs) 0
 unfolding useCounts
 counts-enough nodes rs o =
     enough-counted nodes o (λ c. length (rootsAt c rs)) (length nodes) (rootCounts rs (length nodes)) (le-refl _)

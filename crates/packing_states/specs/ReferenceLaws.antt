@@ -68,7 +68,8 @@ module _ (p : Program) where
       let long = length-append operationRoots (p .rows) in
       sym (kept-front (referenceAt p) (isRootAt p) noReference operationRoots 0 (length (p .rows)) _ long operation-kept
       ∙ ap (λ (rows : List PauliRef). operationRoots ++ rows)
-      (kept-behind (referenceAt p) (isRootAt p) noReference (isRoot p) (p .rows) (length operationRoots + 0) (λ k h. (row-kept k, row-at k))))
+      (kept-behind (referenceAt p) (isRootAt p) noReference (isRoot p) (p .rows) (length operationRoots + 0)
+      (λ k h. (row-kept k, row-at k))))
 
   -- those of node n
   pub roots-of : (n : ℕ) → rootsAt n (roots p) ≡ map (referenceAt p) (keep (rootOf p n) (numbersFrom 0 (total p)))
@@ -80,7 +81,8 @@ module _ (p : Program) where
 
   -- how many they are
   roots-of-count : (n : ℕ) → length (rootsAt n (roots p)) ≡ countOf (rootOf p n) (numbersFrom 0 (total p))
-  roots-of-count n = ap length (roots-of n) ∙ length-map (keep (rootOf p n) (numbersFrom 0 (total p))) (referenceAt p) ∙ keep-count (rootOf p n) _
+  roots-of-count n =
+      ap length (roots-of n) ∙ length-map (keep (rootOf p n) (numbersFrom 0 (total p))) (referenceAt p) ∙ keep-count (rootOf p n) _
 
 -- ---- which node a root is of
 

@@ -53,7 +53,8 @@ module _ (p : Program) (n : ℕ) where
   roots-within zero j t e = let z : j ≡ t = omega arith in rw z refl
   roots-within (suc k) j t e = go (rootOf p n j) refl (roots-within k (suc j) t (omega arith))
     where
-      go : (b : Bool) → rootOf p n j ≡ b → packRoots (width (p .qubits)) n (valueOf p n) (within p n (suc j)) (rootsAfter k (suc j)) ≡ within p n t
+      go : (b : Bool) → rootOf p n j ≡ b
+          → packRoots (width (p .qubits)) n (valueOf p n) (within p n (suc j)) (rootsAfter k (suc j)) ≡ within p n t
           → packRoots (width (p .qubits)) n (valueOf p n) (within p n j) (rootsAfter (suc k) j) ≡ within p n t
       go true f ih = rw (keep-taken (rootOf p n) j (numbersFrom (suc j) k) f) (rw (step-root j f) at ih)
       go false f ih = rw (keep-left (rootOf p n) j (numbersFrom (suc j) k) f, ← skip-reference j f) ih

@@ -108,7 +108,8 @@ product-of r h = go (r .kind) h
     go (suc zero) h = absurd (omega arith)
     go (suc (suc k)) h = refl
 
-pub said-product : (r : NodeRecord) → (r .kind ≡ 0 → ⊥) → (r .kind ≡ 1 → ⊥) → nodeSaid r ≡ product (r .left) (r .«left_phase») (r .right) (r .«right_phase»)
+pub said-product : (r : NodeRecord) → (r .kind ≡ 0 → ⊥) → (r .kind ≡ 1 → ⊥)
+    → nodeSaid r ≡ product (r .left) (r .«left_phase») (r .right) (r .«right_phase»)
 said-product r f g = product-of r (product-kind (r .kind) (f, g))
 
 -- ---- record i of the counted ones is the model's i

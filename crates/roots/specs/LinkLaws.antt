@@ -14,7 +14,8 @@ use Rattle.model.specs.Program.{Program}
 use Rattle.model.specs.Packing.{oneUseMore}
 use Rattle.theory.specs.Cases.{if-false}
 use Rattle.layout.specs.declared.Shape.{Shape}
-use Rattle.layout.specs.Rows.{rowCount, relevantRow, usesRow, firstRoot, nextRoot, rootAxis, rootSign, noAxis, written-row, entry-own, entry-other}
+use Rattle.layout.specs.Rows.{rowCount, relevantRow, usesRow, firstRoot, nextRoot, rootAxis}
+use Rattle.layout.specs.Rows.{rootSign, noAxis, written-row, entry-own, entry-other}
 use Rattle.layout.specs.Only.{Only, only-of, only-then, only-written}
 use Rattle.packing_states.specs.References.{referenceAt, total, isRootAt, rootOf, linkFrom}
 use Rattle.packing_states.specs.ReferenceLaws.{rootsFrom, roots-from-step, roots-from-end, link-end, link-here, link-past}

@@ -199,7 +199,9 @@ module _ (z : Shape) (os s : List ℕ) where
 all-linked : (p : Program) (z : Shape) (t : List ℕ) → Sizes p z t → LinksFrom p z 0 t → Links p z t
 all-linked p z t a f = record {
   linked = f .linked;
-  uses = ext-getD 0 (entries t (z .u) usesRow (z .nodes)) (rootCounts (roots p) (z .nodes)) (long ∙ sym (rootCounts-length (roots p) (z .nodes)))
+  uses =
+      ext-getD 0 (entries t (z .u) usesRow (z .nodes)) (rootCounts (roots p) (z .nodes))
+      (long ∙ sym (rootCounts-length (roots p) (z .nodes)))
       (λ n h. one n (omega (arith, long)));
 }
   where

@@ -53,7 +53,12 @@ module _ (ns s s₁ : List ℕ) (u n : ℕ) (h : 2 ≤ nodeRecord ns n .kind) (w
       let a = nodeRecord ns n .left in
       let b = nodeRecord ns n .right in
       let long : b < length (row s u usesRow) =
-      omega (arith, pre .node .children h .1, row-length s u rowCount usesRow (pre .node .long) (let z : usesRow < rowCount = omega arith in z)) in
+      omega (
+        arith,
+        pre .node .children h .1,
+        row-length s u rowCount usesRow (pre .node .long)
+            (let z : usesRow < rowCount = omega arith in z),
+      ) in
       record {
         long = omega (arith, pre .node .long, w .only .long);
         node = pre .node .children h .1;

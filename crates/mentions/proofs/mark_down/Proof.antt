@@ -33,7 +33,8 @@ loop-again c =
     let at-loop = c .before .before .before .before .before in (
       omega arith,
       search needs,
-      down-step (at-loop .before .before .before .pre) (omega arith) (omega arith) (at-loop .loop .inv .2) (c .before .before .mark-from .ensures),
+      down-step (at-loop .before .before .before .pre) (omega arith) (omega arith) (at-loop .loop .inv .2)
+          (c .before .before .mark-from .ensures),
     )
 
 same-length : tie.Need-same-length Inv-loop μ-loop

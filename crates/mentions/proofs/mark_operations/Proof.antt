@@ -43,7 +43,8 @@ loop-again c =
     let at-loop = o .before .before in (
       omega arith,
       search needs,
-      marked-next (at-loop .before .before .before .pre) (omega arith) (at-loop .loop .inv .2) (o .operation-at .result) (o .operation-at .ensures)
+      marked-next (at-loop .before .before .before .pre) (omega arith) (at-loop .loop .inv .2) (o .operation-at .result)
+          (o .operation-at .ensures)
           (w .write .ensures),
     )
 

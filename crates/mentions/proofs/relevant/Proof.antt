@@ -46,7 +46,8 @@ returns-3 : tie.Need-returns-3
 returns-3 c =
     let t = c .before .before .before in
     let x = t .before .before .before .before .node-at in
-    relevant-first _ _ _ _ (x .result) (x .ensures) (t .before .before .if1 .left) (t .if2 .left) _ (c .before .read2 .ensures) (c .if3 .taken)
+    relevant-first _ _ _ _ (x .result) (x .ensures) (t .before .before .if1 .left) (t .if2 .left) _ (c .before .read2 .ensures)
+    (c .if3 .taken)
 
 cast-read-3 : tie.Need-cast-read-3
 cast-read-3 c = search needs

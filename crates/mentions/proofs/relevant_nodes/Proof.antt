@@ -52,7 +52,8 @@ loop-again c =
     let at-loop = r .before .before .before in (
       omega arith,
       search needs,
-      relevant-next (at-loop .before .before .before .pre) (omega arith) (at-loop .loop .inv .2) (r .relevant .result) (r .relevant .ensures)
+      relevant-next (at-loop .before .before .before .pre) (omega arith) (at-loop .loop .inv .2) (r .relevant .result)
+          (r .relevant .ensures)
           _ (byte-bit _) (w .write .ensures),
     )
 

@@ -54,10 +54,11 @@ returns-2 c =
     let sizes-of = intern .before .before .before in
     let test = sizes-of .before .before .before in
     let held = test .before .before in
-    let start = held .before .before .before .before in
-    ( rest-limit (start .pre .it) (held .held .ensures) (sizes-of .sizes-of .ensures) (intern .intern .ensures) (c .enum-told .given .1), λ
-    p h. root-limit h (held .held .ensures) (sizes-of .sizes-of .ensures) (intern .intern .ensures) (test .if1 .left)
-    (c .enum-told .given .1), )
+    let start = held .before .before .before .before in (
+      rest-limit (start .pre .it) (held .held .ensures) (sizes-of .sizes-of .ensures) (intern .intern .ensures) (c .enum-told .given .1),
+      λ p h. root-limit h (held .held .ensures) (sizes-of .sizes-of .ensures) (intern .intern .ensures) (test .if1 .left)
+          (c .enum-told .given .1),
+    )
 
 cast-write : tie.Need-cast-write
 cast-write c =
@@ -74,9 +75,11 @@ write-requires c κs =
     let intern = i .before .before .before .before .before .before in
     let sizes-of = intern .before .before .before in
     let held = sizes-of .before .before .before .before .before in
-    let start = held .before .before .before .before in
-    (stored-long (start .pre .it) (held .held .ensures) (sizes-of .sizes-of .ensures) (intern .intern .ensures) (i .i .given .1), omega
-    arith, reference-in (start .pre .it))
+    let start = held .before .before .before .before in (
+      stored-long (start .pre .it) (held .held .ensures) (sizes-of .sizes-of .ensures) (intern .intern .ensures) (i .i .given .1),
+      omega arith,
+      reference-in (start .pre .it),
+    )
 
 write-requires-2 : tie.Need-write-requires-2
 write-requires-2 c κs =
@@ -85,9 +88,16 @@ write-requires-2 c κs =
     let intern = i .before .before .before .before .before .before in
     let sizes-of = intern .before .before .before in
     let held = sizes-of .before .before .before .before .before in
-    let start = held .before .before .before .before in
-    ( omega (arith, stored-long (start .pre .it) (held .held .ensures) (sizes-of .sizes-of .ensures) (intern .intern .ensures)
-    (i .i .given .1), write .write .ensures .long), omega arith, reference-in (start .pre .it), )
+    let start = held .before .before .before .before in (
+      omega (
+        arith,
+        stored-long (start .pre .it) (held .held .ensures) (sizes-of .sizes-of .ensures) (intern .intern .ensures)
+            (i .i .given .1),
+        write .write .ensures .long,
+      ),
+      omega arith,
+      reference-in (start .pre .it),
+    )
 
 release-requires : tie.Need-release-requires
 release-requires c κs =
@@ -103,7 +113,10 @@ release-requires c κs =
 
 count-with-requires : tie.Need-count-with-requires
 count-with-requires c κs =
-    let start = c .before .before .before .before .before .before .before .before .before .before .before .before .before .before .before .before .before .before .before .before .before .before .before .before .before .before .before .before .before .before .before in
+    let write2 = c .before .before .before .before .before .before in
+    let i = write2 .before .before .before .before .before .before .before in
+    let sizes-of = i .before .before .before .before .before .before .before .before .before in
+    let start = sizes-of .before .before .before .before .before .before .before .before .before in
     omega (arith, axes-small (start .pre .it))
 
 same-length-4 : tie.Need-same-length-4
@@ -122,11 +135,13 @@ returns-3 c =
     let sizes-of = intern .before .before .before in
     let test = sizes-of .before .before .before in
     let held = test .before .before in
-    let start = held .before .before .before .before in
-    ( root-rest (start .pre .it) (held .held .ensures) (sizes-of .sizes-of .ensures) (intern .intern .ensures) (i .i .given .1)
-    (write .write .ensures) (write2 .write2 .ensures) (release .release .ensures), λ p h. root-next h (held .held .ensures)
-    (sizes-of .sizes-of .ensures) (intern .intern .ensures) (i .i .given .1) (write .write .ensures) (write2 .write2 .ensures)
-    (release .release .ensures) (test .if1 .left) (c .count-with .ensures), )
+    let start = held .before .before .before .before in (
+      root-rest (start .pre .it) (held .held .ensures) (sizes-of .sizes-of .ensures) (intern .intern .ensures) (i .i .given .1)
+          (write .write .ensures) (write2 .write2 .ensures) (release .release .ensures),
+      λ p h. root-next h (held .held .ensures)
+          (sizes-of .sizes-of .ensures) (intern .intern .ensures) (i .i .given .1) (write .write .ensures) (write2 .write2 .ensures)
+          (release .release .ensures) (test .if1 .left) (c .count-with .ensures),
+    )
 
 pub pack-root-spec : {M : Type 1} → statement M
 pack-root-spec =

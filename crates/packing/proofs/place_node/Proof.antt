@@ -51,10 +51,12 @@ returns c =
     let take-slot = step .before .before in
     let release-children = take-slot .before .before .before .before in
     let evaluate = release-children .before .before .before .before in
-    let start = evaluate .before .before .before .before .before in
-    (rest-next (start .pre .it) (evaluate .evaluate .ensures) (release-children .release-children .ensures)
-    (sym (take-slot .take-slot .ensures) ∙ step .step .given .1) (keep .keep .ensures), λ p h. place-next h (evaluate .evaluate .ensures)
-    (release-children .release-children .ensures) (sym (take-slot .take-slot .ensures) ∙ step .step .given .1) (keep .keep .ensures))
+    let start = evaluate .before .before .before .before .before in (
+      rest-next (start .pre .it) (evaluate .evaluate .ensures) (release-children .release-children .ensures)
+          (sym (take-slot .take-slot .ensures) ∙ step .step .given .1) (keep .keep .ensures),
+      λ p h. place-next h (evaluate .evaluate .ensures)
+          (release-children .release-children .ensures) (sym (take-slot .take-slot .ensures) ∙ step .step .given .1) (keep .keep .ensures),
+    )
 
 same-length-3 : tie.Need-same-length-3
 same-length-3 c = search needs
@@ -76,10 +78,12 @@ returns-3 c =
     let take-slot = c .before .before in
     let release-children = take-slot .before .before .before .before in
     let evaluate = release-children .before .before .before .before in
-    let start = evaluate .before .before .before .before .before in
-    (rest-limit (start .pre .it) (evaluate .evaluate .ensures) (release-children .release-children .ensures), λ p h. place-limit h
-    (evaluate .evaluate .ensures) (release-children .release-children .ensures)
-    (sym (take-slot .take-slot .ensures) ∙ c .enum-told2 .given .1))
+    let start = evaluate .before .before .before .before .before in (
+      rest-limit (start .pre .it) (evaluate .evaluate .ensures) (release-children .release-children .ensures),
+      λ p h. place-limit h
+          (evaluate .evaluate .ensures) (release-children .release-children .ensures)
+          (sym (take-slot .take-slot .ensures) ∙ c .enum-told2 .given .1),
+    )
 
 pub place-node-spec : {M : Type 1} → statement M
 place-node-spec =

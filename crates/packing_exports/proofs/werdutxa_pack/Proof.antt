@@ -27,7 +27,8 @@ pack-requires : tie.Need-pack-requires
 pack-requires c κs =
     let s = c .before .before in
     let n = s .before in
-    pack-granted _ _ _ (n .before .before .werdutxa-check .ensures) (n .before .if1 .left) (rw (n .counts .ensures) at (s .shape-of .ensures))
+    pack-granted _ _ _ (n .before .before .werdutxa-check .ensures) (n .before .if1 .left)
+    (rw (n .counts .ensures) at (s .shape-of .ensures))
 
 packed-number-requires : tie.Need-packed-number-requires
 packed-number-requires c κs = search needs

@@ -56,7 +56,8 @@ same-length-2 c = search needs
 returns-2 : tie.Need-returns-2
 returns-2 c =
     let f = c .before .before .before .before .before in
-    evaluated-letter _ _ _ _ _ _ (f .before .before .before .before .scratch-at .ensures) (f .if2 .taken) (c .before .before .put-letter .ensures)
+    evaluated-letter _ _ _ _ _ _ (f .before .before .before .before .scratch-at .ensures) (f .if2 .taken)
+    (c .before .before .put-letter .ensures)
 
 evaluate-product-requires : tie.Need-evaluate-product-requires
 evaluate-product-requires c κs = search needs

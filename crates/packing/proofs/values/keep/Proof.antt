@@ -44,7 +44,8 @@ returns c =
     let s = f .before .before .before in
     let o = s .before in
     let w = g .before .before .before .before .before .write .ensures in
-    kept (o .before .before .before .pre) _ _ (o .scratch-at .ensures) (s .slot-at .ensures) (f .copy-within .ensures) w (g .write2 .ensures)
+    kept (o .before .before .before .pre) _ _ (o .scratch-at .ensures) (s .slot-at .ensures) (f .copy-within .ensures) w
+    (g .write2 .ensures)
 
 pub keep-spec : {M : Type 1} → statement M
 keep-spec =
