@@ -2,7 +2,7 @@
 use mathlib.Core.Path.{_≡_, refl, sym, ap, ap₂, _∙_}
 use mathlib.Core.Bool.{Bool, true, false, not, _&&_, _||_, true≢false, false≢true}
 use mathlib.Core.List.{List, [], _∷_}
-use Prim.Native.Nat.{ℕ, zero, suc, _+_, _-_, _*_, _≤_, _<_}
+use Prim.Native.Nat.{ℕ, zero, suc, _+_, _-_, _≤_, _<_}
 use native.Mathlib.Omega.{arith}
 use lib.Dec.{eqb, leb}
 use lib.ListN.{length, getD, drop}
@@ -10,7 +10,7 @@ use lib.Seq.{drop-cons, drop-length}
 use borrow.Author.Tests.{eq-eqb, ne-eqb, le-leb, lt-leb}
 use Rattle.model.specs.Lists.{allOf}
 use Rattle.model.specs.Words.{anticommute}
-use Rattle.model.specs.Items.{rot, Item, rotation, barrier}
+use Rattle.model.specs.Items.{rotation, barrier}
 use Rattle.model.specs.Stream.{letsPass, canReach}
 use Rattle.layout.specs.Rows.{outRow}
 use Rattle.axes.specs.declared.Sizes.{Sizes}

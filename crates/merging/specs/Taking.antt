@@ -1,35 +1,33 @@
 -- A carried rotation: absorbed at once, merged where `last` names a place that it reaches, or put out. Assumes nothing.
 use mathlib.Core.Path.{_≡_, refl, sym, ap, ap₂, _∙_, subst}
-use mathlib.Core.Bool.{Bool, true, false, not, _&&_, true≢false, false≢true}
-use mathlib.Core.List.{List, [], _∷_, _++_}
-use Prim.Native.Nat.{ℕ, zero, suc, _+_, _-_, _*_, _/_, _%_, _≤_, _<_}
+use mathlib.Core.Bool.{Bool, true, false, not, _&&_, false≢true}
+use mathlib.Core.List.{List}
+use Prim.Native.Nat.{ℕ, zero, suc, _+_, _-_, _*_, _%_, _≤_, _<_}
 use native.Mathlib.Omega.{arith}
-use lib.Dec.{ltb, leb, eqb}
-use lib.ListN.{length, getD, set}
-use borrow.Author.Tests.{lt-ltb, le-ltb, ltb-true, ltb-false, eq-eqb, ne-eqb, eqb-true, eqb-false}
-use Rattle.store.specs.Row.{row}
+use lib.Dec.{ltb}
+use lib.ListN.{length}
+use borrow.Author.Tests.{lt-ltb, le-ltb, ltb-true, ltb-false, eq-eqb, ne-eqb, eqb-false}
 use Rattle.model.specs.Lists.{if_then_else_, allOf, anyOf, member, isEven, isOdd}
 use Rattle.model.specs.Rules.{Absorption, off, atOnce, lazy, isAtOnce, Rules}
-use Rattle.model.specs.Items.{rot, Item, rotation, barrier, isClifford, angleOf}
+use Rattle.model.specs.Items.{rot, Item, rotation, isClifford, angleOf}
 use Rattle.model.specs.Stream.{Place, nowhere, at, Pass, withLast, countMerge, setAngle, leaveZero, putOutRotation, absorb, angleAt, canReach}
 use Rattle.model.specs.Stream.{mergeAt, mergeOrPutOut, takeRotation}
-use Rattle.theory.specs.Cases.{if-true, if-false, and-left, and-right}
+use Rattle.theory.specs.Cases.{if-true, if-false, and-right}
 use Rattle.layout.specs.declared.Shape.{Shape}
-use Rattle.layout.specs.Rows.{rowCount, outRow, lastRow}
+use Rattle.layout.specs.Rows.{rowCount, outRow}
 use Rattle.layout.specs.Only.{only-of, only-then}
 use Rattle.layout.specs.Words.{kept-none}
-use Rattle.layout.specs.Shape.{Granted, longestRow}
+use Rattle.layout.specs.Shape.{longestRow}
 use Rattle.axes.specs.declared.Sizes.{Sizes}
 use Rattle.axes.specs.Held.{sizesOf}
-use Rattle.items.specs.declared.Tagged.{Tagged}
-use Rattle.items.specs.View.{taggedAt, itemSaid, itemAt, itemsIn, said-rotation}
+use Rattle.items.specs.View.{taggedAt, said-rotation}
 use Rattle.items.specs.Put.{EntryPre, ItemPut, taggedRotation}
 use Rattle.words_wellformed.specs.HeldImages.{IsQuarters}
 use Rattle.stream_states.specs.declared.State.{State}
 use Rattle.stream_states.specs.declared.Stepped.{Stepped}
 use Rattle.stream_states.specs.declared.Stepped.the-variants.{Next, ExpansionLimit}
 use Rattle.stream_states.specs.declared.StreamRules.{StreamRules}
-use Rattle.stream_states.specs.States.{placeSaid, lastIn, HoldsPass, FinePass, PassAt, SomePass, absorptionSaid, RulesAs, streamRows}
+use Rattle.stream_states.specs.States.{lastIn, HoldsPass, FinePass, PassAt, SomePass, absorptionSaid, RulesAs, streamRows}
 use Rattle.stream_states.specs.States.{LeftS, SteppedAs, as-next, as-limit, stepped-from}
 use Rattle.stream_states.specs.Output.{never, without-list, angle-waits, angle-set, place-here, place-none}
 use Rattle.stream_states.specs.Known.{out-long, out-few, axes-few, out-item, out-rotation, axes-stored, waiting-few}

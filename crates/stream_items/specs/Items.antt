@@ -3,7 +3,7 @@ use mathlib.Core.Path.{_≡_, refl, sym, ap, ap₂, _∙_, subst}
 use mathlib.Core.Logic.{_⊎_, inl, inr}
 use mathlib.Core.Bool.{Bool, true, false, true≢false}
 use mathlib.Core.List.{List, [], _∷_, _++_}
-use Prim.Native.Nat.{ℕ, suc, _+_, _-_, _*_, _%_, _≤_, _<_}
+use Prim.Native.Nat.{ℕ, _+_, _-_, _%_, _≤_, _<_}
 use native.Mathlib.Nat.{lt-of-lt-of-le}
 use native.Mathlib.Omega.{arith}
 use native.Mathlib.Decide.{ℕ-discrete}
@@ -14,23 +14,23 @@ use Rattle.model.specs.Lists.{if_then_else_, allOf, anyOf, member}
 use Rattle.model.specs.Rules.{Absorption, off, atOnce, lazy, Rules}
 use Rattle.model.specs.Words.{Value, wordOf, anticommute, idOf}
 use Rattle.model.specs.Items.{rot, Item, rotation, barrier, withSign}
-use Rattle.model.specs.Stream.{Place, nowhere, at, Pass, withLast, clearedLast, putOut, axisImage, imageId, carryAxis, absorbWaiting, absorbAllWaiting}
+use Rattle.model.specs.Stream.{at, Pass, withLast, clearedLast, putOut, axisImage, imageId, carryAxis, absorbWaiting, absorbAllWaiting}
 use Rattle.model.specs.Stream.{absorbBlocking, carryRotation, takeRotation, streamItem}
 use Rattle.theory.specs.Cases.{if-true, if-false}
 use Rattle.theory.specs.Ids.{id-word, id-in}
-use Rattle.theory.specs.Peak.{Rises, carryAxis-rises, absorbWaiting-rises, takeRotation-rises}
+use Rattle.theory.specs.Peak.{carryAxis-rises, absorbWaiting-rises, takeRotation-rises}
 use Rattle.theory.specs.StreamState.{axisImage-carried}
 use Rattle.layout.specs.declared.Shape.{Shape}
-use Rattle.layout.specs.Rows.{rowCount, outRow, lastRow, waitingRow}
+use Rattle.layout.specs.Rows.{outRow, lastRow, waitingRow}
 use Rattle.layout.specs.Only.{only-of}
 use Rattle.layout.specs.Words.{kept-none}
-use Rattle.layout.specs.Shape.{Granted, longestRow}
+use Rattle.layout.specs.Shape.{longestRow}
 use Rattle.waiting.specs.Places.{placeIn, Named, named-as}
 use Rattle.items.specs.declared.Tagged.{Tagged}
-use Rattle.items.specs.View.{taggedAt, itemSaid, itemAt, itemsIn, said-rotation, said-other}
+use Rattle.items.specs.View.{itemSaid, itemAt, itemsIn, said-other}
 use Rattle.items.specs.Put.{EntryPre, ItemPut, put-end-0}
-use Rattle.words_wellformed.specs.PassWords.{absorbBlocking-well, absorbAllWaiting-well}
-use Rattle.run_wellformed.specs.StreamSteps.{absorbBlocking-by, absorbAllWaiting-by}
+use Rattle.words_wellformed.specs.PassWords.{absorbBlocking-well}
+use Rattle.run_wellformed.specs.StreamSteps.{absorbBlocking-by}
 use Rattle.run_wellformed.specs.PassInside.{PassInside, inside-kept}
 use Rattle.clifford.specs.declared.CarriedAxis.{CarriedAxis}
 use Rattle.clifford.specs.declared.Carried.{Carried}
@@ -39,11 +39,11 @@ use Rattle.stream_states.specs.declared.State.{State}
 use Rattle.stream_states.specs.declared.Stepped.{Stepped}
 use Rattle.stream_states.specs.declared.Stepped.the-variants.{Next, ExpansionLimit}
 use Rattle.stream_states.specs.declared.StreamRules.{StreamRules}
-use Rattle.stream_states.specs.States.{withAxes, heldOf, placeSaid, lastIn, isWaiting, Waits, HoldsPass, FinePass, PassAt, SomePass, absorptionSaid, RulesAs, LeftS, left-none}
+use Rattle.stream_states.specs.States.{withAxes, lastIn, isWaiting, Waits, HoldsPass, FinePass, PassAt, absorptionSaid, RulesAs, LeftS}
 use Rattle.stream_states.specs.States.{left-then, granted-left, streamRows, SteppedAs, as-next, as-limit, stepped-from}
-use Rattle.stream_states.specs.Output.{never, holds-other, place-none}
+use Rattle.stream_states.specs.Output.{holds-other, place-none}
 use Rattle.stream_states.specs.Known.{axes-count, out-few}
-use Rattle.stream_states.specs.Carrying.{CarryPass, CarryLeft, carry-pre, carry-left, carry-refused, carried-at, carried-id, carried-in}
+use Rattle.stream_states.specs.Carrying.{CarryPass, CarryLeft, carry-left, carry-refused, carried-at, carried-id, carried-in}
 use Rattle.stream_states.specs.Carrying.{carried-turns}
 use Rattle.merging.specs.Carried.{CarryingAt}
 use Rattle.stream_items.specs.Waiting.{pickedBy, WaitAt, waitedAll}

@@ -1,25 +1,23 @@
 -- All items of a stream, one after the other. Assumes nothing.
-use mathlib.Core.Path.{_≡_, refl, sym, ap, ap₂, _∙_, subst}
-use mathlib.Core.Bool.{Bool, true, false}
-use mathlib.Core.List.{List, [], _∷_, _++_}
-use Prim.Native.Nat.{ℕ, zero, suc, _+_, _-_, _*_, _%_, _≤_, _<_}
+use mathlib.Core.Path.{_≡_, refl, sym, ap, _∙_, subst}
+use mathlib.Core.Bool.{Bool}
+use mathlib.Core.List.{List, [], _∷_}
+use Prim.Native.Nat.{ℕ, suc, _+_, _-_, _*_, _≤_, _<_}
 use native.Mathlib.Nat.{le-trans, lt-of-lt-of-le}
 use native.Mathlib.Omega.{arith}
-use lib.ListN.{length, getD}
+use lib.ListN.{length}
 use Rattle.model.specs.Lists.{allOf, anyOf, member}
 use Rattle.model.specs.Rules.{Absorption, off, atOnce, lazy, Rules}
 use Rattle.model.specs.Items.{rot, Item, rotation, barrier}
-use Rattle.model.specs.Stream.{Pass, carryAxis, absorbWaiting, absorbWaitingAt, absorbAllWaiting, streamItem}
-use Rattle.theory.specs.Every.{Every, every-at, every-weaken}
+use Rattle.model.specs.Stream.{Pass, absorbWaiting, absorbWaitingAt, absorbAllWaiting, streamItem}
+use Rattle.theory.specs.Every.{Every, every-at}
 use Rattle.theory.specs.Peak.{Rises, streamItem-rises}
 use Rattle.theory.specs.StreamState.{outside}
 use Rattle.layout.specs.declared.Shape.{Shape}
-use Rattle.layout.specs.Rows.{rowCount, itemsRow, outRow}
-use Rattle.layout.specs.Shape.{Granted}
+use Rattle.layout.specs.Rows.{itemsRow}
 use Rattle.items.specs.declared.Tagged.{Tagged}
 use Rattle.items.specs.View.{taggedAt, itemSaid, itemAt, itemsIn, said-rotation, said-other, view-length, view-next, view-at-0, tagged-other}
 use Rattle.items.specs.Put.{EntryPre}
-use Rattle.words_wellformed.specs.HeldImages.{IsSign}
 use Rattle.words_wellformed.specs.PassWords.{WellItem, afterItems, absorbAllWaiting-well, streamItem-well}
 use Rattle.run_wellformed.specs.CliffordAngles.{TurnsItem}
 use Rattle.run_wellformed.specs.StreamSteps.{absorbAllWaiting-by, streamItem-by}
@@ -28,10 +26,9 @@ use Rattle.stream_states.specs.declared.State.{State}
 use Rattle.stream_states.specs.declared.Stepped.{Stepped}
 use Rattle.stream_states.specs.declared.Stepped.the-variants.{Next, ExpansionLimit}
 use Rattle.stream_states.specs.declared.StreamRules.{StreamRules}
-use Rattle.stream_states.specs.States.{HoldsPass, FinePass, PassAt, SomePass, absorptionSaid, RulesAs, LeftS, left-none, left-then, granted-left, streamRows}
+use Rattle.stream_states.specs.States.{HoldsPass, PassAt, SomePass, absorptionSaid, RulesAs, LeftS, left-none, left-then, granted-left}
 use Rattle.stream_states.specs.States.{SteppedAs, as-limit, stepped-from}
 use Rattle.stream_states.specs.Known.{axes-count, out-long}
-use Rattle.stream_states.specs.Carrying.{CarryPass}
 use Rattle.stream_items.specs.Waiting.{step-long}
 use Rattle.stream_items.specs.Items.{RotationAt, AllAt, BarrierAt, barrierPut}
 

@@ -6,13 +6,12 @@ use mathlib.Core.List.{List, [], _∷_}
 use Prim.Native.Nat.{ℕ, zero, suc, _+_, _-_, _*_, _≤_, _<_}
 use native.Mathlib.Decide.{ℕ-discrete, decLt}
 use native.Mathlib.Omega.{arith}
-use lib.Dec.{eqb}
-use lib.ListN.{length, getD, drop, set, length-set}
+use lib.ListN.{length, getD, drop, length-set}
 use lib.Seq.{drop-cons, drop-length, getD-drop, drop-set-lt, getD-set-same, getD-set-other}
 use borrow.Author.Tests.{ne-eqb}
 use Rattle.store.specs.Row.{Written}
 use Rattle.model.specs.Lists.{if_then_else_, allOf, anyOf, member, isEven}
-use Rattle.model.specs.Rules.{Absorption, off, lazy}
+use Rattle.model.specs.Rules.{off, lazy}
 use Rattle.model.specs.Words.{anticommute}
 use Rattle.model.specs.Items.{rot, Item, rotation, barrier, isClifford}
 use Rattle.model.specs.Stream.{Pass, withLast, setAngle, leaveZero, absorb, absorbWaitingAt, absorbWaiting}
@@ -401,10 +400,10 @@ module _ {z : Shape} {st₀ : State} {n : ℕ} {all : Bool} {id : ℕ} {ws xs : 
       × (drop j (h .now .out) ≡ drop j (p .out))
   pass-to j b c long none = (
     h .whole
-    ∙ skip (z .l) (pickedBy all (z .l) (p .store .axes) id) (h .now) (h .place) (drop (h .place) (p .out)) (j - h .place)
-    (omega (arith, drop-long))
-    (λ v d. ap isWaiting (same-behind v) ∙ quiet-one j (h .place + v) c none (omega arith) (omega arith))
-    ∙ ap₂ (λ (x : ℕ) (is : List Item). absorbWaiting (z .l) (pickedBy all (z .l) (p .store .axes) id) (h .now) x is) there (drops (p .out)),
+        ∙ skip (z .l) (pickedBy all (z .l) (p .store .axes) id) (h .now) (h .place) (drop (h .place) (p .out)) (j - h .place)
+        (omega (arith, drop-long))
+        (λ v d. ap isWaiting (same-behind v) ∙ quiet-one j (h .place + v) c none (omega arith) (omega arith))
+        ∙ ap₂ (λ (x : ℕ) (is : List Item). absorbWaiting (z .l) (pickedBy all (z .l) (p .store .axes) id) (h .now) x is) there (drops (p .out)),
     sym (drops (h .now .out)) ∙ ap (drop (j - h .place)) (h .rest) ∙ drops (p .out),
   )
     where
@@ -528,10 +527,18 @@ module _ {z : Shape} {st₀ : State} {n : ℕ} {all : Bool} {id : ℕ} {ws₀ xs
         kept-next : TurnOf z st s xs i xs′ (waitedAt z all id (placeIn (z .u) xs i) xs (here h .now))
             → Rising (placeIn (z .u) xs′) 0 (s .waiting) (suc (placeIn (z .u) xs i))
         kept-next (inl g) = record {
-          below = λ v c d. omega (arith, step h .same v (inl (omega (arith, g .count))), here h .kept .below v c (omega (arith, g .count)),
-          here h .later i (omega arith) more);
-          rises = λ v w c d f. omega (arith, step h .same v (inl (omega (arith, g .count))), step h .same w (inl (omega (arith, g .count))),
-          here h .kept .rises v w c d (omega (arith, g .count)));
+          below = λ v c d. omega (
+            arith,
+            step h .same v (inl (omega (arith, g .count))),
+            here h .kept .below v c (omega (arith, g .count)),
+            here h .later i (omega arith) more,
+          );
+          rises = λ v w c d f. omega (
+            arith,
+            step h .same v (inl (omega (arith, g .count))),
+            step h .same w (inl (omega (arith, g .count))),
+            here h .kept .rises v w c d (omega (arith, g .count)),
+          );
         }
         kept-next (inr g) = record {
           below = λ v c d. low v d (ℕ-discrete v (st .waiting));
@@ -541,16 +548,29 @@ module _ {z : Shape} {st₀ : State} {n : ℕ} {all : Bool} {id : ℕ} {ws₀ xs
             low : (v : ℕ) → v < s .waiting → Dec (v ≡ st .waiting) → placeIn (z .u) xs′ v < suc (placeIn (z .u) xs i)
             low v d (yes f) = rw f (omega (arith, g .here))
             low v d (no f) =
-                omega (arith, step h .same v (inl (omega (arith, g .count))), here h .kept .below v (omega arith) (omega (arith, g .count)),
-                here h .later i (omega arith) more)
+                omega (
+                  arith,
+                  step h .same v (inl (omega (arith, g .count))),
+                  here h .kept .below v (omega arith) (omega (arith, g .count)),
+                  here h .later i (omega arith) more,
+                )
 
             up : (v w : ℕ) → v < w → w < s .waiting → Dec (w ≡ st .waiting) → placeIn (z .u) xs′ v < placeIn (z .u) xs′ w
             up v w d f (yes x) =
-                rw x (omega (arith, g .here, step h .same v (inl (omega arith)), here h .kept .below v (omega arith) (omega arith),
-                here h .later i (omega arith) more))
+                rw x (omega (
+                  arith,
+                  g .here,
+                  step h .same v (inl (omega arith)),
+                  here h .kept .below v (omega arith) (omega arith),
+                  here h .later i (omega arith) more,
+                ))
             up v w d f (no x) =
-                omega (arith, step h .same v (inl (omega (arith, g .count))), step h .same w (inl (omega (arith, g .count))),
-                here h .kept .rises v w (omega arith) d (omega (arith, g .count)))
+                omega (
+                  arith,
+                  step h .same v (inl (omega (arith, g .count))),
+                  step h .same w (inl (omega (arith, g .count))),
+                  here h .kept .rises v w (omega arith) d (omega (arith, g .count)),
+                )
 
         -- what waits behind it is named behind it
         named-next : (v : ℕ) → suc (placeIn (z .u) xs i) ≤ v → v < s .out

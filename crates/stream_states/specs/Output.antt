@@ -1,29 +1,27 @@
 -- The output and `last`: what writing them makes of the state that memory holds. Assumes nothing.
-use mathlib.Core.Path.{_≡_, refl, sym, ap, ap₂, _∙_, subst}
-use mathlib.Core.Logic.{_⊎_, inl, inr, _≢_}
-use mathlib.Core.Bool.{Bool, true, false, true≢false}
+use mathlib.Core.Path.{_≡_, refl, sym, ap, _∙_}
+use mathlib.Core.Logic.{_≢_}
+use mathlib.Core.Bool.{true, false, true≢false}
 use mathlib.Core.List.{List, [], _∷_, _++_}
-use Prim.Native.Nat.{ℕ, suc, _+_, _-_, _*_, _≤_, _<_}
+use Prim.Native.Nat.{ℕ, _+_, _-_, _*_, _≤_, _<_}
 use native.Mathlib.Decide.{ℕ-discrete}
 use native.Mathlib.Omega.{arith}
-use lib.Dec.{ltb, eqb}
 use lib.ListN.{length, getD, set}
 use borrow.Author.Tests.{lt-ltb, le-ltb, eq-eqb, ne-eqb}
 use Rattle.store.specs.Row.{row, Written}
 use Rattle.model.specs.Lists.{if_then_else_, allOf, anyOf, member}
-use Rattle.model.specs.Rules.{Absorption, off, atOnce, lazy}
-use Rattle.model.specs.Items.{rot, Item, rotation, barrier, isClifford}
+use Rattle.model.specs.Rules.{Absorption, off, lazy}
+use Rattle.model.specs.Items.{rot, Item, rotation, isClifford}
 use Rattle.model.specs.Clifford.{Touched}
-use Rattle.model.specs.Stream.{Place, nowhere, at, Pass, withLast, setAngle, putOut, setLast, leaveZero, putOutRotation}
+use Rattle.model.specs.Stream.{Place, nowhere, at, Pass, withLast, setAngle, putOut, setLast, putOutRotation}
 use Rattle.theory.specs.Cases.{if-true, if-false}
 use Rattle.layout.specs.declared.Shape.{Shape}
 use Rattle.layout.specs.Rows.{rowCount, outRow, lastRow, waitingRow, fSlot, fPhase, axesRows, written-row, entry-own, entry-other}
 use Rattle.layout.specs.Only.{Only, only-of, only-then, only-written}
-use Rattle.layout.specs.Shape.{Granted, longestRow}
 use Rattle.axes.specs.Held.{held-rows}
 use Rattle.items.specs.declared.Tagged.{Tagged}
 use Rattle.items.specs.View.{itemRows, taggedAt, itemSaid, itemAt, itemsIn, said-rotation, view-length, view-other, tagged-other}
-use Rattle.items.specs.Put.{EntryPre, ItemPut, taggedRotation, put-set-0, put-end-0}
+use Rattle.items.specs.Put.{ItemPut, taggedRotation, put-set-0, put-end-0}
 use Rattle.words_wellformed.specs.Conjugation.{value-eq}
 use Rattle.waiting.specs.Places.{placeIn, Rising, Named, rising-as, named-as}
 use Rattle.clifford.specs.Holds.{imageIn, Holds}

@@ -2,11 +2,11 @@
 use mathlib.Core.Path.{_≡_, refl, sym, ap, _∙_, subst}
 use mathlib.Core.Bool.{Bool, true, false}
 use mathlib.Core.List.{List, [], _∷_}
-use Prim.Native.Nat.{ℕ, zero, suc, _+_, _-_, _*_, _^_, _≤_, _<_}
+use Prim.Native.Nat.{ℕ, _+_, _-_, _*_, _^_, _≤_, _<_}
 use native.Mathlib.Decide.{ℕ-discrete, decLt}
 use native.Mathlib.Omega.{arith}
 use lib.Dec.{eqb}
-use lib.ListN.{length, getD}
+use lib.ListN.{length}
 use borrow.Author.Tests.{eq-eqb, ne-eqb, eqb-true, eqb-false}
 use Rattle.store.specs.Row.{Written}
 use Rattle.model.specs.Lists.{if_then_else_}
@@ -208,8 +208,12 @@ module _ {u n j : ℕ} {xs : List ℕ} (pre : InsertPre u n j xs) {at : ℕ} (up
         rises end h i k d g (no a) (yes b) (no c) (no m) =
             omega (arith, before i b, behind-as k (omega arith) g, lower end h i b, up .above (k - 1) (omega arith) (omega arith))
         rises end h i k d g (no a) (no b) c m =
-            omega (arith, behind-as i (omega arith) (omega arith), behind-as k (omega arith) g,
-            h .rises (i - 1) (k - 1) (omega arith) (omega arith) (omega arith))
+            omega (
+              arith,
+              behind-as i (omega arith) (omega arith),
+              behind-as k (omega arith) g,
+              h .rises (i - 1) (k - 1) (omega arith) (omega arith) (omega arith),
+            )
 
         other : (k : ℕ) (h : Named (placeIn u xs) 0 n k) → Dec (h .index < at) → Named (placeIn u xs₂) 0 (n + 1) k
         other k h (yes b) = record { index = h .index; low = omega arith; high = omega (arith, h .high); here = before (h .index) b ∙ h .here }

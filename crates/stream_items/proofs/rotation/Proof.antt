@@ -19,9 +19,11 @@ same-length-2 c = search needs
 returns : tie.Need-returns
 returns c =
     let carry-and-take = c .before .before .before .before in
-    let test = carry-and-take .before .before .before in
-    ( carry-and-take .carry-and-take .ensures .0, λ g n p rules h. rotation-off rules h (not-true _ (test .if1 .taken))
-    (carry-and-take .carry-and-take .ensures .1 g n p rules (h .carrying)), )
+    let test = carry-and-take .before .before .before in (
+      carry-and-take .carry-and-take .ensures .0,
+      λ g n p rules h. rotation-off rules h (not-true _ (test .if1 .taken))
+          (carry-and-take .carry-and-take .ensures .1 g n p rules (h .carrying)),
+    )
 
 carry-and-take-requires-2 : tie.Need-carry-and-take-requires-2
 carry-and-take-requires-2 c κs = search needs
@@ -36,17 +38,24 @@ returns-2 : tie.Need-returns-2
 returns-2 c =
     let carry-and-take2 = c .before .before .before .before in
     let test = carry-and-take2 .before .before .before in
-    let test′ = test .before .before in
-    ( carry-and-take2 .carry-and-take2 .ensures .0, λ g n p rules h. rotation-once rules h (not-false _ (test′ .if1 .left))
-    (not-true _ (test .if2 .taken)) (carry-and-take2 .carry-and-take2 .ensures .1 g n p rules (h .carrying)), )
+    let test′ = test .before .before in (
+      carry-and-take2 .carry-and-take2 .ensures .0,
+      λ g n p rules h. rotation-once rules h (not-false _ (test′ .if1 .left))
+          (not-true _ (test .if2 .taken)) (carry-and-take2 .carry-and-take2 .ensures .1 g n p rules (h .carrying)),
+    )
 
 absorb-blocking-requires : tie.Need-absorb-blocking-requires
 absorb-blocking-requires c κs =
     let test = c .before .before in
     let test′ = test .before .before in
     let start = test′ .before .before .before .before in
-    record { m = start .pre .m; n = start .pre .n; p = start .pre .p; it = blocking-there (start .pre .it)
-    (start .pre .it .carrying .mode ∙ said-lazy (start .args .rules) (not-false _ (test′ .if1 .left)) (not-false _ (test .if2 .left))); }
+    record {
+      m = start .pre .m;
+      n = start .pre .n;
+      p = start .pre .p;
+      it = blocking-there (start .pre .it)
+          (start .pre .it .carrying .mode ∙ said-lazy (start .args .rules) (not-false _ (test′ .if1 .left)) (not-false _ (test .if2 .left)));
+    }
 
 enum-known-t : tie.Need-enum-known-t
 enum-known-t c = search needs
@@ -65,11 +74,13 @@ returns-3 c =
     let absorb-blocking = c .before .before .before .before .before .before in
     let test = absorb-blocking .before .before .before in
     let test′ = test .before .before in
-    let start = test′ .before .before .before .before in
-    ( absorb-blocking .absorb-blocking .ensures .0, λ g n p rules h. let is-lazy = h .carrying .mode ∙ said-lazy (start .args .rules)
-    (not-false _ (test′ .if1 .left)) (not-false _ (test .if2 .left)) in rotation-limit (start .args .shape) (start .args .rules) g
-    (start .args .st) (start .args .a) (start .args .angle) p is-lazy
-    (absorb-blocking .absorb-blocking .ensures .1 n p (blocking-there h is-lazy)) (c .enum-told .given .1), )
+    let start = test′ .before .before .before .before in (
+      absorb-blocking .absorb-blocking .ensures .0,
+      λ g n p rules h. let is-lazy = h .carrying .mode ∙ said-lazy (start .args .rules)
+          (not-false _ (test′ .if1 .left)) (not-false _ (test .if2 .left)) in rotation-limit (start .args .shape) (start .args .rules) g
+          (start .args .st) (start .args .a) (start .args .angle) p is-lazy
+          (absorb-blocking .absorb-blocking .ensures .1 n p (blocking-there h is-lazy)) (c .enum-told .given .1),
+    )
 
 carry-and-take-requires-3 : tie.Need-carry-and-take-requires-3
 carry-and-take-requires-3 c κs =
@@ -95,12 +106,14 @@ returns-4 c =
     let absorb-blocking = t .before .before .before .before .before .before in
     let test = absorb-blocking .before .before .before in
     let test′ = test .before .before in
-    let start = test′ .before .before .before .before in
-    ( left-then (absorb-blocking .absorb-blocking .ensures .0) (carry-and-take3 .carry-and-take3 .ensures .0), λ g n p rules h. let is-lazy
-    = h .carrying .mode ∙ said-lazy (start .args .rules) (not-false _ (test′ .if1 .left)) (not-false _ (test .if2 .left)) in let first =
-    absorb-blocking .absorb-blocking .ensures .1 n p (blocking-there h is-lazy) in rotation-lazy (start .args .shape) (start .args .rules) g
-    (start .args .st) (start .args .a) (start .args .angle) p is-lazy first (t .t .given .1) (carry-and-take3 .carry-and-take3 .ensures .1 g
-    n _ rules (blocked-carrying h is-lazy (absorb-blocking .absorb-blocking .ensures .0) first (t .t .given .1))), )
+    let start = test′ .before .before .before .before in (
+      left-then (absorb-blocking .absorb-blocking .ensures .0) (carry-and-take3 .carry-and-take3 .ensures .0),
+      λ g n p rules h. let is-lazy
+          = h .carrying .mode ∙ said-lazy (start .args .rules) (not-false _ (test′ .if1 .left)) (not-false _ (test .if2 .left)) in let first =
+          absorb-blocking .absorb-blocking .ensures .1 n p (blocking-there h is-lazy) in rotation-lazy (start .args .shape) (start .args .rules) g
+          (start .args .st) (start .args .a) (start .args .angle) p is-lazy first (t .t .given .1) (carry-and-take3 .carry-and-take3 .ensures .1 g
+          n _ rules (blocked-carrying h is-lazy (absorb-blocking .absorb-blocking .ensures .0) first (t .t .given .1))),
+    )
 
 pub rotation-spec : {M : Type 1} → statement M
 rotation-spec =

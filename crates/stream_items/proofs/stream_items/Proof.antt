@@ -57,9 +57,11 @@ returns c =
     let stream-item = c .before .before .before .before .before .before in
     let item-at = stream-item .before .before .before in
     let turn = item-at .before .before in
-    let head = turn .before in
-    ( reading-left (head .loop .inv) (turn .loop-test .taken) (item-at .item-at .ensures) (stream-item .stream-item .ensures), reading-limit
-    (head .loop .inv) (turn .loop-test .taken) (item-at .item-at .ensures) (stream-item .stream-item .ensures) (c .enum-told .given .1), )
+    let head = turn .before in (
+      reading-left (head .loop .inv) (turn .loop-test .taken) (item-at .item-at .ensures) (stream-item .stream-item .ensures),
+      reading-limit
+          (head .loop .inv) (turn .loop-test .taken) (item-at .item-at .ensures) (stream-item .stream-item .ensures) (c .enum-told .given .1),
+    )
 
 add-i : tie.Need-add-i Inv-loop μ-loop
 add-i c =
