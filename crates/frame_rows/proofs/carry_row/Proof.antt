@@ -1,7 +1,8 @@
 -- A reference without an axis stays. Assumes nothing.
 use Rattle.stream_states.specs.States.{heldOf}
 use Rattle.stream_states.specs.Carrying.{carry-pre, carried-small}
-use Rattle.frame_rows.specs.FrameRows.{left-none-r, row-past, row-carry, row-sign, row-limit, row-small, row-next, row-left, row-put-left}
+use Rattle.frame_rows.specs.FrameRows.{left-none-r, row-past, row-carry, row-sign, row-limit, row-small, row-next, row-left}
+use Rattle.frame_rows.specs.FrameRows.{row-put-left}
 use native.Mathlib.Omega.{arith}
 use borrow.Author.Needs.{needs}
 use Rattle.frame_rows.proofs.carry_row.Statement.{statement}

@@ -66,8 +66,10 @@ returns-2 c =
     let start = carry .before .before .before .before .before in (
       left-then (carry-left (start .pre .it .carry) (carry .carry .ensures)) (take .take .ensures .0),
       λ g n p rules h. taken-as
-          (carry .carry .ensures) h (c′ .c .given .1) (with-axes .with-axes .ensures) (with-sign .with-sign .ensures) g _ (take .take .ensures .1
-          g n _ rules (taking-there (carry .carry .ensures) h (c′ .c .given .1) (with-axes .with-axes .ensures) (with-sign .with-sign .ensures))),
+          (carry .carry .ensures) h (c′ .c .given .1) (with-axes .with-axes .ensures) (with-sign .with-sign .ensures) g _
+          (take .take .ensures .1
+          g n _ rules (taking-there (carry .carry .ensures) h (c′ .c .given .1) (with-axes .with-axes .ensures)
+          (with-sign .with-sign .ensures))),
     )
 
 pub carry-and-take-spec : {M : Type 1} → statement M

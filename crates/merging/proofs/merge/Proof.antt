@@ -2,7 +2,8 @@
 use mathlib.Core.Path.{_∙_}
 use Rattle.model.specs.Stream.{countMerge}
 use Rattle.merging.specs.Steps.{absorbed-left}
-use Rattle.merging.specs.Taking.{merging-entry, merging-zero, merging-id, merge-to-zero, merged-there, merge-at-once, merge-name, merge-sets}
+use Rattle.merging.specs.Taking.{merging-entry, merging-zero, merging-id, merge-to-zero, merged-there, merge-at-once, merge-name}
+use Rattle.merging.specs.Taking.{merge-sets}
 use Rattle.merging.specs.Taking.{merge-left, zero-left-s}
 use native.Mathlib.Omega.{arith}
 use borrow.Author.Needs.{needs}
@@ -103,7 +104,8 @@ returns-3 c =
     let angle-at = test′ .before .before in (
       merge-left (put-rotation .put-rotation .ensures) (name-place .name-place .ensures),
       λ m n p h. merge-sets h
-          (angle-at .angle-at .ensures) (test′ .if1 .left) (at-once .at-once .ensures) (put-rotation .put-rotation .ensures) (test .if2 .left)
+          (angle-at .angle-at .ensures) (test′ .if1 .left) (at-once .at-once .ensures) (put-rotation .put-rotation .ensures)
+          (test .if2 .left)
           (name-place .name-place .ensures),
     )
 

@@ -1,7 +1,8 @@
 -- Absorbed at once; put out where nothing is named or the place is not reached; else merged. Assumes nothing.
 use borrow.Author.Tests.{not-true, not-false}
 use Rattle.merging.specs.Steps.{absorbed-left}
-use Rattle.merging.specs.Taking.{taking-put, taking-last, taking-absorbs, taking-reach, taking-merges, take-once, take-nowhere, take-far}
+use Rattle.merging.specs.Taking.{taking-put, taking-last, taking-absorbs, taking-reach, taking-merges, take-once, take-nowhere}
+use Rattle.merging.specs.Taking.{take-far}
 use Rattle.merging.specs.Taking.{take-merges, put-next, out-left, answer-is}
 use native.Mathlib.Omega.{arith}
 use borrow.Author.Needs.{needs}
@@ -99,7 +100,8 @@ returns-3 c =
     let at-once = test′′ .before in (
       out-left (put-out2 .put-out2 .ensures),
       λ g n p rules h. put-next (h .mode) (h .at .holds) (put-out2 .put-out2 .ensures) (take-far
-          rules h (at-once .at-once .ensures) (test′′ .if1 .left) (last-of .last-of .ensures) (test′ .if2 .left) (sizes-of .sizes-of .ensures)
+          rules h (at-once .at-once .ensures) (test′′ .if1 .left) (last-of .last-of .ensures) (test′ .if2 .left)
+          (sizes-of .sizes-of .ensures)
           (can-reach .can-reach .ensures) (not-true _ (test .if3 .taken))),
     )
 
@@ -137,7 +139,8 @@ returns-4 c =
     let at-once = test′′ .before in (
       merge .merge .ensures .0,
       λ g n p rules h. answer-is 1 1 (omega arith) (omega arith) (merge .merge .ensures .1 _ n p
-          (taking-merges h (last-of .last-of .ensures) (test′ .if2 .left))) (take-merges rules h (at-once .at-once .ensures) (test′′ .if1 .left)
+          (taking-merges h (last-of .last-of .ensures) (test′ .if2 .left)))
+          (take-merges rules h (at-once .at-once .ensures) (test′′ .if1 .left)
           (last-of .last-of .ensures) (test′ .if2 .left) (sizes-of .sizes-of .ensures) (can-reach .can-reach .ensures)
           (not-false _ (test .if3 .left))),
     )

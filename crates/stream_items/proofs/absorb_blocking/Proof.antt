@@ -64,7 +64,8 @@ returns-2 c =
     let start = carry .before .before .before .before .before in (
       left-then (carry-left (start .pre .it .carry) (carry .carry .ensures)) (absorb-waiting .absorb-waiting .ensures .0),
       λ n p h.
-          blocked-as (carry .carry .ensures) h (c′ .c .given .1) (with-axes .with-axes .ensures) (absorb-waiting .absorb-waiting .ensures .1 n _
+          blocked-as (carry .carry .ensures) h (c′ .c .given .1) (with-axes .with-axes .ensures)
+          (absorb-waiting .absorb-waiting .ensures .1 n _
           (wait-there (carry .carry .ensures) h (c′ .c .given .1) (with-axes .with-axes .ensures))),
     )
 

@@ -86,8 +86,10 @@ returns-3 c =
     let start = test .before .before .before .before in (
       left-then (absorb-all .absorb-all .ensures .0) (put-barrier .put-barrier .ensures .0),
       λ g n p rules h. let first =
-          absorb-all .absorb-all .ensures .1 _ n p (item-all h) in item-as-barrier (start .args .shape) (start .args .rules) g (start .args .st)
-          (start .args .x) p (test .if1 .left) first (t .t .given .1) (same-out h (absorb-all .absorb-all .ensures .0) first (t .t .given .1))
+          absorb-all .absorb-all .ensures .1 _ n p (item-all h) in item-as-barrier (start .args .shape) (start .args .rules) g
+          (start .args .st)
+          (start .args .x) p (test .if1 .left) first (t .t .given .1)
+          (same-out h (absorb-all .absorb-all .ensures .0) first (t .t .given .1))
           (put-barrier .put-barrier .ensures .1 _ n _
           (item-barrier h (absorb-all .absorb-all .ensures .0) first (t .t .given .1) (test .if1 .left))),
     )

@@ -3,7 +3,8 @@ use borrow.Author.Tests.{not-true, not-false}
 use Rattle.model.specs.Rules.{off}
 use Rattle.stream_states.specs.States.{left-none}
 use Rattle.merging.specs.Steps.{absorbed-left}
-use Rattle.stream_items.specs.Waiting.{turn-read, turn-entry, turn-small, turned-over, turn-picks, turned-left, left-kept, turn-merged, turned-absorbed}
+use Rattle.stream_items.specs.Waiting.{turn-read, turn-entry, turn-small, turned-over, turn-picks, turned-left, left-kept}
+use Rattle.stream_items.specs.Waiting.{turn-merged, turned-absorbed}
 use native.Mathlib.Omega.{arith}
 use borrow.Author.Needs.{needs}
 use Rattle.stream_items.proofs.waiting_turn.Statement.{statement}
@@ -64,7 +65,9 @@ write-requires c κs =
 
 add-with-waiting : tie.Need-add-with-waiting
 add-with-waiting c =
-    let start = c .before .before .before .before .before .before .before .before .before .before .before .before .before .before .before .before .before .before .before in
+    let write = c .before .before .before .before in
+    let test = write .before .before .before .before in
+    let start = test .before .before .before .before .before .before .before .before .before .before .before in
     omega (arith, start .pre .it .kept, start .pre .it .index, start .pre .it .at .granted .sized .u-small)
 
 with-waiting-requires : tie.Need-with-waiting-requires
