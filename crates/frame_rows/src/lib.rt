@@ -43,7 +43,8 @@ fn carry_rows(words: &mut [u64], numbers: &mut [u32], shape: Shape, first: State
     ensures { λ r. ⌜ LeftR shape (now (words .entry)) (now (numbers .entry)) (now (words .exit)) (now (numbers .exit))
         × ((m : Absorption) (n : ℕ) (p : Pass) → RowsAt shape first (now (words .entry)) (now (numbers .entry)) m n p
         → RowsAs shape m (now (numbers .entry)) r (now (words .exit)) (now (numbers .exit))
-        (carryRowsFrom (shape .l) p [] (rowsIn (now (numbers .entry)) (shape .u) (shape .operations) (rowsEnd shape - shape .operations)))) ⌝ }
+        (carryRowsFrom (shape .l) p []
+        (rowsIn (now (numbers .entry)) (shape .u) (shape .operations) (rowsEnd shape - shape .operations)))) ⌝ }
 {
     let mut st = first;
     let end = shape.operations + 2 * shape.qubits;
@@ -62,7 +63,8 @@ pub fn carry_frame(words: &mut [u64], numbers: &mut [u32], shape: Shape, st: Sta
     requires { ⌜ SomePass (λ m n p. RowsAt shape st (now words) (now numbers) m n p) ⌝ }
     ensures { λ r. ⌜ LeftR shape (now (words .entry)) (now (numbers .entry)) (now (words .exit)) (now (numbers .exit))
         × ((m : Absorption) (n : ℕ) (p : Pass) → RowsAt shape st (now (words .entry)) (now (numbers .entry)) m n p
-        → RowsAs shape m (now (numbers .entry)) r (now (words .exit)) (now (numbers .exit)) (rowsCarried shape (now (numbers .entry)) p)) ⌝ }
+        → RowsAs shape m (now (numbers .entry)) r (now (words .exit)) (now (numbers .exit))
+        (rowsCarried shape (now (numbers .entry)) p)) ⌝ }
 {
     if st.absorbed == 0 {
         return Stepped::Next(st);

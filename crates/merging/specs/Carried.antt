@@ -2,7 +2,7 @@
 use mathlib.Core.Path.{_≡_, ap, ap₂, _∙_, subst}
 use mathlib.Core.Bool.{Bool}
 use mathlib.Core.List.{List}
-use Prim.Native.Nat.{ℕ, _+_, _≤_, _<_}
+use Prim.Native.Nat.{ℕ, _≤_, _<_}
 use native.Mathlib.Omega.{arith}
 use Rattle.model.specs.Rules.{Absorption, Rules}
 use Rattle.model.specs.Items.{withSign}
@@ -24,7 +24,8 @@ use Rattle.stream_states.specs.States.{withAxes, heldOf, SomePass, absorptionSa
 use Rattle.stream_states.specs.Carrying.{CarryPass, CarryLeft, carry-pre, carry-refused, carried-at, carried-in, carried-id, carried-turns}
 use Rattle.merging.specs.Taking.{TakingAt}
 
-pub record CarryingAt (z : Shape) (c : StreamRules) (st : State) (a k : ℕ) (ws xs : List ℕ) (m : Absorption) (n : ℕ) (p : Pass) : Type 0 where
+pub record CarryingAt (z : Shape) (c : StreamRules) (st : State) (a k : ℕ) (ws xs : List ℕ) (m : Absorption) (n : ℕ)
+    (p : Pass) : Type 0 where
   pub carry : CarryPass z st a ws xs m n p
   pub some : 0 < k
   pub small : k ≤ 7
@@ -38,7 +39,8 @@ carrying-some s = record { state = heldOf (s .p); it = carry-pre (s .it .carry) 
 
 module _ {z : Shape} {c : StreamRules} {st : State} {a k : ℕ} {ws xs : List ℕ} {r : Carried} {ws′ xs′ : List ℕ}
     (call : CarryLeft z st a ws xs r ws′ xs′) {m : Absorption} {n : ℕ} {p : Pass} (h : CarryingAt z c st a k ws xs m n p) where
-  module _ {to : CarriedAxis} (e : r ≡ To to) {s : State} (with-axes : s ≡ withAxes (to .axes) st) {k′ : ℕ} (sign : k′ ≡ withSign (to .turns) k) where
+  module _ {to : CarriedAxis} (e : r ≡ To to) {s : State} (with-axes : s ≡ withAxes (to .axes) st) {k′ : ℕ}
+      (sign : k′ ≡ withSign (to .turns) k) where
     pub taking-there : TakingAt z c s (to .id) k′ ws′ xs′ m n (carryAxis (z .l) p a)
     taking-there =
         let w = withSign-turns (to .turns) k (h .some) (h .small) in
@@ -66,7 +68,8 @@ module _ {z : Shape} {c : StreamRules} {st : State} {a k : ℕ} {ws xs : List �
         (stepped-from 1 1 t (omega arith) (omega arith))
 
   -- the limit refuses the image
-  pub carried-limit : r ≡ Rattle.carrying.specs.declared.Carried.the-variants.ExpansionLimit → (g : Rules) (merging : Bool) {ws″ xs″ : List ℕ} (b k′ : ℕ)
+  pub carried-limit : r ≡ Rattle.carrying.specs.declared.Carried.the-variants.ExpansionLimit
+      → (g : Rules) (merging : Bool) {ws″ xs″ : List ℕ} (b k′ : ℕ)
       → SteppedAs z m 1 1 st ExpansionLimit ws″ xs″ (takeRotation (z .l) g merging (carryAxis (z .l) p a) b k′)
   carried-limit e g merging b k′ =
       as-limit (omega (arith, carry-refused (h .carry) call e, takeRotation-rises (z .l) g merging (carryAxis (z .l) p a) b k′))

@@ -2,7 +2,7 @@
 use mathlib.Core.Path.{_≡_, refl, sym, ap, ap₂, _∙_}
 use mathlib.Core.Bool.{Bool, true, false, not, _&&_, _||_, true≢false, false≢true}
 use mathlib.Core.List.{List, [], _∷_}
-use Prim.Native.Nat.{ℕ, zero, suc, _+_, _-_, _*_, _≤_, _<_}
+use Prim.Native.Nat.{ℕ, zero, suc, _+_, _-_, _≤_, _<_}
 use native.Mathlib.Omega.{arith}
 use lib.Dec.{eqb, leb}
 use lib.ListN.{length, getD, drop}
@@ -10,7 +10,7 @@ use lib.Seq.{drop-cons, drop-length}
 use borrow.Author.Tests.{eq-eqb, ne-eqb, le-leb, lt-leb}
 use Rattle.model.specs.Lists.{allOf}
 use Rattle.model.specs.Words.{anticommute}
-use Rattle.model.specs.Items.{rot, Item, rotation, barrier}
+use Rattle.model.specs.Items.{rotation, barrier}
 use Rattle.model.specs.Stream.{letsPass, canReach}
 use Rattle.layout.specs.Rows.{outRow}
 use Rattle.axes.specs.declared.Sizes.{Sizes}
@@ -133,7 +133,8 @@ module _ {z : Sizes} {out j id : ℕ} {ws xs : List ℕ} (pre : ReachPre z out j
       axis = pre .axis;
     }
 
-    item-is : letsPass (z .l) (storedAxes z ws) id (getD (itemsIn xs (z .u) outRow 0 out) (i - 1) (barrier 0 0 0)) ≡ passes z ws xs (i - 1) id
+    item-is : letsPass (z .l) (storedAxes z ws) id (getD (itemsIn xs (z .u) outRow 0 out) (i - 1) (barrier 0 0 0)) ≡ passes z ws xs
+        (i - 1) id
     unfolding passes
     item-is =
         ap (letsPass (z .l) (storedAxes z ws) id) (view-at-0 itemSaid xs (z .u) outRow out (i - 1) (barrier 0 0 0) (omega (arith, p .high)))
@@ -147,7 +148,8 @@ module _ {z : Sizes} {out j id : ℕ} {ws xs : List ℕ} (pre : ReachPre z out j
     not-false false r e f = absurd (false≢true (sym f ∙ e))
 
     -- it stops at i - 1
-    pub reach-blocked : (lookback : ℕ) {r : Bool} → r ≡ not (passes z ws xs (i - 1) id) → r ≡ true → false ≡ reaches z lookback out j id ws xs
+    pub reach-blocked : (lookback : ℕ) {r : Bool} → r ≡ not (passes z ws xs (i - 1) id) → r ≡ true
+        → false ≡ reaches z lookback out j id ws xs
     unfolding reaches canReach
     reach-blocked lookback {r} b e =
         sym (and-none (letsPass (z .l) (storedAxes z ws) id) (leb (length (itemsIn xs (z .u) outRow 0 out) - j - 1) lookback) _
@@ -160,12 +162,14 @@ module _ {z : Sizes} {out j id : ℕ} {ws xs : List ℕ} (pre : ReachPre z out j
       high = omega (arith, p .high);
       all =
           let next : suc (i - 1) ≡ i = omega arith in
-          all-next (letsPass (z .l) (storedAxes z ws) id) (itemsIn xs (z .u) outRow 0 out) (i - 1) (barrier 0 0 0) (omega (arith, list-long, p .high))
+          all-next (letsPass (z .l) (storedAxes z ws) id) (itemsIn xs (z .u) outRow 0 out) (i - 1) (barrier 0 0 0)
+          (omega (arith, list-long, p .high))
           ∙ ap₂ (λ (s t : Bool). s && t) (item-is ∙ not-false _ r b e)
           (ap (λ (k : ℕ). allOf (letsPass (z .l) (storedAxes z ws) id) (drop k (itemsIn xs (z .u) outRow 0 out))) next ∙ p .all);
     }
 
-  pub reach-all : {i : ℕ} (lookback : ℕ) → out - j - 1 ≤ lookback → Passed z out j id ws xs i → i ≤ j + 1 → true ≡ reaches z lookback out j id ws xs
+  pub reach-all : {i : ℕ} (lookback : ℕ) → out - j - 1 ≤ lookback → Passed z out j id ws xs i → i ≤ j + 1
+      → true ≡ reaches z lookback out j id ws xs
   unfolding reaches canReach
   reach-all {i} lookback h p e =
       let here : i ≡ suc j = omega (arith, p .low) in

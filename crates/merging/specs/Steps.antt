@@ -36,7 +36,8 @@ use Rattle.stream_states.specs.declared.Stepped.the-variants.{Next, ExpansionLi
 use Rattle.stream_states.specs.declared.StreamRules.{StreamRules}
 use Rattle.stream_states.specs.States.{withWaiting, heldOf, isWaiting, HoldsPass, PassAt, SomePass, absorptionSaid, streamRows}
 use Rattle.stream_states.specs.States.{LeftS, SteppedAs, as-next, as-limit}
-use Rattle.stream_states.specs.Output.{WaitsBut, but-quiet, pass-other, with-list, angle-set, last-cleared, withOut, put-waits, rotation-put}
+use Rattle.stream_states.specs.Output.{WaitsBut, but-quiet, pass-other, with-list, angle-set, last-cleared, withOut, put-waits}
+use Rattle.stream_states.specs.Output.{rotation-put}
 use Rattle.stream_states.specs.Known.{axes-count}
 
 -- ---- a place waits
@@ -102,7 +103,8 @@ module _ {z : Shape} {c : StreamRules} {st : State} {j k : ℕ} {xs : List ℕ} 
         (λ f. but-quiet (w f) (later-not c k (sym said ∙ e) (sym mode ∙ f)));
   }
 
-pub insert-pre : {z : Shape} {c : StreamRules} {st : State} {j : ℕ} (k : ℕ) {xs : List ℕ} {t : Bool} → t ≡ isLater c k → t ≡ true → NamePre z c st j xs
+pub insert-pre : {z : Shape} {c : StreamRules} {st : State} {j : ℕ} (k : ℕ) {xs : List ℕ} {t : Bool} → t ≡ isLater c k → t ≡ true
+    → NamePre z c st j xs
     → InsertPre (z .u) (st .waiting) j xs
 insert-pre {z} {c} k said e pre = record {
   numbers-long = pre .numbers-long;
@@ -203,7 +205,9 @@ pub zero-left : {z : Shape} {j id : ℕ} {xs xs₁ xs₂ : List ℕ} → ZeroPre
     → ItemPut xs₁ (z .u) outRow j (taggedRotation id 0) xs₂ → ZeroLeft z j id xs xs₂
 unfolding leaveZero allOf member anyOf
 zero-left {z} {j} {id} {xs} pre wrote put = record {
-  left = only-then (only-of absorbRows refl (only-written (pre .numbers-long) (omega arith) (pre .axis) wrote)) (only-of absorbRows refl (put .only));
+  left =
+      only-then (only-of absorbRows refl (only-written (pre .numbers-long) (omega arith) (pre .axis) wrote))
+      (only-of absorbRows refl (put .only));
   holds = λ m st ws p h b.
       angle-set (last-cleared h (pre .numbers-long) (pre .axis) wrote) put b (λ e. refl);
 }
@@ -228,7 +232,8 @@ pub record AbsorbingAt (z : Shape) (st : State) (id k : ℕ) (ws xs : List ℕ) 
   pub quarters : IsQuarters k
   pub few : st .absorbed < 9223372036854775808
 
-module _ {z : Shape} {st : State} {id k : ℕ} {ws xs : List ℕ} {m : Absorption} {n : ℕ} {p : Pass} (h : AbsorbingAt z st id k ws xs m n p) where
+module _ {z : Shape} {st : State} {id k : ℕ} {ws xs : List ℕ} {m : Absorption} {n : ℕ} {p : Pass}
+    (h : AbsorbingAt z st id k ws xs m n p) where
   pub absorb-there : AbsorbAt z (st .axes) (st .slots) id k ws xs (heldOf p)
   absorb-there = record {
     axis = record {

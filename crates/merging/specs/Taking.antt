@@ -1,35 +1,34 @@
 -- A carried rotation: absorbed at once, merged where `last` names a place that it reaches, or put out. Assumes nothing.
 use mathlib.Core.Path.{_≡_, refl, sym, ap, ap₂, _∙_, subst}
-use mathlib.Core.Bool.{Bool, true, false, not, _&&_, true≢false, false≢true}
-use mathlib.Core.List.{List, [], _∷_, _++_}
-use Prim.Native.Nat.{ℕ, zero, suc, _+_, _-_, _*_, _/_, _%_, _≤_, _<_}
+use mathlib.Core.Bool.{Bool, true, false, not, _&&_, false≢true}
+use mathlib.Core.List.{List}
+use Prim.Native.Nat.{ℕ, zero, suc, _+_, _-_, _*_, _%_, _≤_, _<_}
 use native.Mathlib.Omega.{arith}
-use lib.Dec.{ltb, leb, eqb}
-use lib.ListN.{length, getD, set}
-use borrow.Author.Tests.{lt-ltb, le-ltb, ltb-true, ltb-false, eq-eqb, ne-eqb, eqb-true, eqb-false}
-use Rattle.store.specs.Row.{row}
+use lib.Dec.{ltb}
+use lib.ListN.{length}
+use borrow.Author.Tests.{lt-ltb, le-ltb, ltb-true, ltb-false, eq-eqb, ne-eqb, eqb-false}
 use Rattle.model.specs.Lists.{if_then_else_, allOf, anyOf, member, isEven, isOdd}
 use Rattle.model.specs.Rules.{Absorption, off, atOnce, lazy, isAtOnce, Rules}
-use Rattle.model.specs.Items.{rot, Item, rotation, barrier, isClifford, angleOf}
-use Rattle.model.specs.Stream.{Place, nowhere, at, Pass, withLast, countMerge, setAngle, leaveZero, putOutRotation, absorb, angleAt, canReach}
+use Rattle.model.specs.Items.{rot, Item, rotation, isClifford, angleOf}
+use Rattle.model.specs.Stream.{Place, nowhere, at, Pass, withLast, countMerge, setAngle, leaveZero, putOutRotation, absorb, angleAt}
+use Rattle.model.specs.Stream.{canReach}
 use Rattle.model.specs.Stream.{mergeAt, mergeOrPutOut, takeRotation}
-use Rattle.theory.specs.Cases.{if-true, if-false, and-left, and-right}
+use Rattle.theory.specs.Cases.{if-true, if-false, and-right}
 use Rattle.layout.specs.declared.Shape.{Shape}
-use Rattle.layout.specs.Rows.{rowCount, outRow, lastRow}
+use Rattle.layout.specs.Rows.{rowCount, outRow}
 use Rattle.layout.specs.Only.{only-of, only-then}
 use Rattle.layout.specs.Words.{kept-none}
-use Rattle.layout.specs.Shape.{Granted, longestRow}
+use Rattle.layout.specs.Shape.{longestRow}
 use Rattle.axes.specs.declared.Sizes.{Sizes}
 use Rattle.axes.specs.Held.{sizesOf}
-use Rattle.items.specs.declared.Tagged.{Tagged}
-use Rattle.items.specs.View.{taggedAt, itemSaid, itemAt, itemsIn, said-rotation}
+use Rattle.items.specs.View.{taggedAt, said-rotation}
 use Rattle.items.specs.Put.{EntryPre, ItemPut, taggedRotation}
 use Rattle.words_wellformed.specs.HeldImages.{IsQuarters}
 use Rattle.stream_states.specs.declared.State.{State}
 use Rattle.stream_states.specs.declared.Stepped.{Stepped}
 use Rattle.stream_states.specs.declared.Stepped.the-variants.{Next, ExpansionLimit}
 use Rattle.stream_states.specs.declared.StreamRules.{StreamRules}
-use Rattle.stream_states.specs.States.{placeSaid, lastIn, HoldsPass, FinePass, PassAt, SomePass, absorptionSaid, RulesAs, streamRows}
+use Rattle.stream_states.specs.States.{lastIn, HoldsPass, FinePass, PassAt, SomePass, absorptionSaid, RulesAs, streamRows}
 use Rattle.stream_states.specs.States.{LeftS, SteppedAs, as-next, as-limit, stepped-from}
 use Rattle.stream_states.specs.Output.{never, without-list, angle-waits, angle-set, place-here, place-none}
 use Rattle.stream_states.specs.Known.{out-long, out-few, axes-few, out-item, out-rotation, axes-stored, waiting-few}
@@ -108,7 +107,8 @@ pub once-even : (c : StreamRules) (k : ℕ) → c .«to_frame» ≡ true → c .
 unfolding absorptionSaid
 once-even c k e f = rw (if-true {A = Absorption} _ off e, if-false {A = Absorption} lazy atOnce f) refl
 
-pub record MergingAt (z : Shape) (c : StreamRules) (st : State) (j id k : ℕ) (ws xs : List ℕ) (m : Absorption) (n : ℕ) (p : Pass) : Type 0 where
+pub record MergingAt (z : Shape) (c : StreamRules) (st : State) (j id k : ℕ) (ws xs : List ℕ) (m : Absorption) (n : ℕ)
+    (p : Pass) : Type 0 where
   pub at : PassAt z m n st ws xs p
   pub id-in : id < st .axes
   pub place : j < st .out
@@ -267,10 +267,12 @@ module _ {z : Shape} {c : StreamRules} {st : State} {j id k : ℕ} {ws xs : List
             let b = ap (λ (x : State). x .absorbed) (name .state) in
             result (subst (SteppedAs z m 1 1 st (Next s) ws xs₂) (sym (merge-stays (z .l) m (countMerge p) j id _ (sym once ∙ e) n0))
             (as-next (name .holds m ws (setAngle j id ((old % 8 + k) % 8) (countMerge p)) (h .mode)
-            (angle-set (without-list (st .waiting) counted) put (h .place) (λ f. absurd (never f))) (h .place) (angle-waits counted put (h .place)))
+            (angle-set (without-list (st .waiting) counted) put (h .place) (λ f. absurd (never f))) (h .place)
+            (angle-waits counted put (h .place)))
             (omega arith) (omega arith)))
 
-pub merge-left : {z : Shape} {c : StreamRules} {st s : State} {ws xs xs₁ xs₂ : List ℕ} {j id k : ℕ} → ItemPut xs (z .u) outRow j (taggedRotation id k) xs₁
+pub merge-left : {z : Shape} {c : StreamRules} {st s : State} {ws xs xs₁ xs₂ : List ℕ} {j id k : ℕ}
+    → ItemPut xs (z .u) outRow j (taggedRotation id k) xs₁
     → PlaceNamed z c st j k xs₁ xs₂ s → LeftS z ws xs ws xs₂
 unfolding allOf member anyOf
 merge-left {ws = ws} put name = record {
@@ -310,7 +312,8 @@ unfoldable placeNamed : ℕ → Place
 placeNamed zero = nowhere
 placeNamed (suc j) = at j
 
-place-is : {z : Shape} {m : Absorption} {st : State} {ws xs : List ℕ} {p : Pass} (merging : Bool) (id : ℕ) → HoldsPass z m st ws xs p → id < z .u
+place-is : {z : Shape} {m : Absorption} {st : State} {ws xs : List ℕ} {p : Pass} (merging : Bool) (id : ℕ) → HoldsPass z m st ws xs p
+    → id < z .u
     → (if merging then p .last id else nowhere) ≡ placeNamed (lastSaid z merging (st .start) id xs)
 unfolding lastSaid placeNamed
 place-is {z} {st = st} {xs = xs} {p} merging id h b = go merging refl
@@ -319,7 +322,8 @@ place-is {z} {st = st} {xs = xs} {p} merging id h b = go merging refl
     inner true e =
         let less = ltb-true (st .start) (lastIn z xs id) e in
         let one : suc (lastIn z xs id - 1) ≡ lastIn z xs id = omega arith in
-        h .last-is id b ∙ place-here (st .start) (lastIn z xs id) less ∙ ap placeNamed one ∙ ap placeNamed (sym (if-true {A = ℕ} (lastIn z xs id) 0 refl))
+        h .last-is id b ∙ place-here (st .start) (lastIn z xs id) less ∙ ap placeNamed one
+        ∙ ap placeNamed (sym (if-true {A = ℕ} (lastIn z xs id) 0 refl))
     inner false e =
         h .last-is id b ∙ place-none (st .start) (lastIn z xs id) (ltb-false (st .start) (lastIn z xs id) e)
         ∙ ap placeNamed (sym (if-false {A = ℕ} (lastIn z xs id) 0 refl))
@@ -327,7 +331,8 @@ place-is {z} {st = st} {xs = xs} {p} merging id h b = go merging refl
     go : (t : Bool) → merging ≡ t → (if t then p .last id else nowhere)
         ≡ placeNamed (if t then if ltb (st .start) (lastIn z xs id) then lastIn z xs id else 0 else 0)
     go true e = if-true _ _ refl ∙ inner (ltb (st .start) (lastIn z xs id)) refl ∙ ap placeNamed (sym (if-true {A = ℕ} _ 0 refl))
-    go false e = if-false _ _ refl ∙ ap placeNamed (sym (if-false {A = ℕ} (if ltb (st .start) (lastIn z xs id) then lastIn z xs id else 0) 0 refl))
+    go false e =
+        if-false _ _ refl ∙ ap placeNamed (sym (if-false {A = ℕ} (if ltb (st .start) (lastIn z xs id) then lastIn z xs id else 0) 0 refl))
 
 -- a place that is named lies in the segment
 named-in : (z : Shape) (merging : Bool) (start id : ℕ) (xs : List ℕ) {v : ℕ} → v ≡ lastSaid z merging start id xs → (v ≡ 0 → ⊥)
@@ -345,7 +350,8 @@ named-in z merging start id xs {v} e n = go merging refl
 
 -- ---- taking a rotation
 
-pub record TakingAt (z : Shape) (c : StreamRules) (st : State) (id k : ℕ) (ws xs : List ℕ) (m : Absorption) (n : ℕ) (p : Pass) : Type 0 where
+pub record TakingAt (z : Shape) (c : StreamRules) (st : State) (id k : ℕ) (ws xs : List ℕ) (m : Absorption) (n : ℕ)
+    (p : Pass) : Type 0 where
   pub at : PassAt z m n st ws xs p
   pub id-in : id < st .axes
   pub some : 0 < k
@@ -449,23 +455,27 @@ module _ {z : Shape} {c : StreamRules} {g : Rules} (rules : RulesAs c g) {st : S
           take-place ∙ ap (λ (x : ℕ). mergeOrPutOut (z .l) g p id k (placeNamed x)) one ∙ if-false _ _ (sym reach-is ∙ f)
 
       pub take-merges : s ≡ true
-          → takeRotation (z .l) g (c .merge) p id k ≡ mergeAt (z .l) (g .absorption) (countMerge p) (v - 1) id ((angleAt (p .out) (v - 1) + k) % 8)
+          → takeRotation (z .l) g (c .merge) p id k ≡ mergeAt (z .l) (g .absorption) (countMerge p) (v - 1) id
+          ((angleAt (p .out) (v - 1) + k) % 8)
       unfolding placeNamed mergeOrPutOut
       take-merges f =
           take-place ∙ ap (λ (x : ℕ). mergeOrPutOut (z .l) g p id k (placeNamed x)) one ∙ if-true _ _ (sym reach-is ∙ f)
 
 -- ---- the answers
 
-pub put-next : {z : Shape} {c : StreamRules} {m : Absorption} {st r : State} {id k : ℕ} {ws xs xs′ : List ℕ} {p q : Pass} → m ≡ absorptionSaid c
+pub put-next : {z : Shape} {c : StreamRules} {m : Absorption} {st r : State} {id k : ℕ} {ws xs xs′ : List ℕ} {p q : Pass}
+    → m ≡ absorptionSaid c
     → HoldsPass z m st ws xs p → OutPut z c st id k xs xs′ r → q ≡ putOutRotation p id k → SteppedAs z m 1 1 st (Next r) ws xs′ q
 put-next {z} {c} {m} {st} {r} {id} {k} {ws} {xs} {xs′} {p} mode h o e =
     let a = ap (λ (s : State). s .merges) (o .state) in
     let b = ap (λ (s : State). s .absorbed) (o .state) in
     subst (SteppedAs z m 1 1 st (Next r) ws xs′) (sym e) (as-next (o .holds m ws p mode h) (omega arith) (omega arith))
 
-pub out-left : {z : Shape} {c : StreamRules} {st r : State} {id k : ℕ} {ws xs xs′ : List ℕ} → OutPut z c st id k xs xs′ r → LeftS z ws xs ws xs′
+pub out-left : {z : Shape} {c : StreamRules} {st r : State} {id k : ℕ} {ws xs xs′ : List ℕ} → OutPut z c st id k xs xs′ r
+    → LeftS z ws xs ws xs′
 out-left {ws = ws} o = record { words = kept-none _ ws; numbers = o .left }
 
 pub answer-is : {z : Shape} {m : Absorption} (c d : ℕ) {st : State} {r : Stepped} {ws xs : List ℕ} {p q : Pass} → c ≤ 1 → d ≤ 1
     → SteppedAs z m c d st r ws xs p → q ≡ p → SteppedAs z m 1 1 st r ws xs q
-answer-is {z} {m} c d {st} {r} {ws} {xs} a b s e = subst (SteppedAs z m 1 1 st r ws xs) (sym e) (stepped-from 1 1 s (omega arith) (omega arith))
+answer-is {z} {m} c d {st} {r} {ws} {xs} a b s e =
+    subst (SteppedAs z m 1 1 st r ws xs) (sym e) (stepped-from 1 1 s (omega arith) (omega arith))

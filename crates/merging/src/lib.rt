@@ -269,15 +269,7 @@ fn take(
     }
     let z = axes::sizes_of(shape, st.axes);
     let lookback = rules.lookback;
-    if !can_reach(
-        &words[..],
-        &numbers[..],
-        z,
-        lookback,
-        st.out,
-        last - 1,
-        id,
-    ) {
+    if !can_reach(&words[..], &numbers[..], z, lookback, st.out, last - 1, id) {
         return Stepped::Next(put_out(numbers, shape, rules, st, id, k));
     }
     merge(words, numbers, shape, rules, st, last - 1, id, k)

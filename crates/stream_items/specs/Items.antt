@@ -3,7 +3,7 @@ use mathlib.Core.Path.{_≡_, refl, sym, ap, ap₂, _∙_, subst}
 use mathlib.Core.Logic.{_⊎_, inl, inr}
 use mathlib.Core.Bool.{Bool, true, false, true≢false}
 use mathlib.Core.List.{List, [], _∷_, _++_}
-use Prim.Native.Nat.{ℕ, suc, _+_, _-_, _*_, _%_, _≤_, _<_}
+use Prim.Native.Nat.{ℕ, _+_, _-_, _%_, _≤_, _<_}
 use native.Mathlib.Nat.{lt-of-lt-of-le}
 use native.Mathlib.Omega.{arith}
 use native.Mathlib.Decide.{ℕ-discrete}
@@ -14,23 +14,23 @@ use Rattle.model.specs.Lists.{if_then_else_, allOf, anyOf, member}
 use Rattle.model.specs.Rules.{Absorption, off, atOnce, lazy, Rules}
 use Rattle.model.specs.Words.{Value, wordOf, anticommute, idOf}
 use Rattle.model.specs.Items.{rot, Item, rotation, barrier, withSign}
-use Rattle.model.specs.Stream.{Place, nowhere, at, Pass, withLast, clearedLast, putOut, axisImage, imageId, carryAxis, absorbWaiting, absorbAllWaiting}
+use Rattle.model.specs.Stream.{at, Pass, withLast, clearedLast, putOut, axisImage, imageId, carryAxis, absorbWaiting, absorbAllWaiting}
 use Rattle.model.specs.Stream.{absorbBlocking, carryRotation, takeRotation, streamItem}
 use Rattle.theory.specs.Cases.{if-true, if-false}
 use Rattle.theory.specs.Ids.{id-word, id-in}
-use Rattle.theory.specs.Peak.{Rises, carryAxis-rises, absorbWaiting-rises, takeRotation-rises}
+use Rattle.theory.specs.Peak.{carryAxis-rises, absorbWaiting-rises, takeRotation-rises}
 use Rattle.theory.specs.StreamState.{axisImage-carried}
 use Rattle.layout.specs.declared.Shape.{Shape}
-use Rattle.layout.specs.Rows.{rowCount, outRow, lastRow, waitingRow}
+use Rattle.layout.specs.Rows.{outRow, lastRow, waitingRow}
 use Rattle.layout.specs.Only.{only-of}
 use Rattle.layout.specs.Words.{kept-none}
-use Rattle.layout.specs.Shape.{Granted, longestRow}
+use Rattle.layout.specs.Shape.{longestRow}
 use Rattle.waiting.specs.Places.{placeIn, Named, named-as}
 use Rattle.items.specs.declared.Tagged.{Tagged}
-use Rattle.items.specs.View.{taggedAt, itemSaid, itemAt, itemsIn, said-rotation, said-other}
+use Rattle.items.specs.View.{itemSaid, itemAt, itemsIn, said-other}
 use Rattle.items.specs.Put.{EntryPre, ItemPut, put-end-0}
-use Rattle.words_wellformed.specs.PassWords.{absorbBlocking-well, absorbAllWaiting-well}
-use Rattle.run_wellformed.specs.StreamSteps.{absorbBlocking-by, absorbAllWaiting-by}
+use Rattle.words_wellformed.specs.PassWords.{absorbBlocking-well}
+use Rattle.run_wellformed.specs.StreamSteps.{absorbBlocking-by}
 use Rattle.run_wellformed.specs.PassInside.{PassInside, inside-kept}
 use Rattle.carrying.specs.declared.CarriedAxis.{CarriedAxis}
 use Rattle.carrying.specs.declared.Carried.{Carried}
@@ -39,11 +39,11 @@ use Rattle.stream_states.specs.declared.State.{State}
 use Rattle.stream_states.specs.declared.Stepped.{Stepped}
 use Rattle.stream_states.specs.declared.Stepped.the-variants.{Next, ExpansionLimit}
 use Rattle.stream_states.specs.declared.StreamRules.{StreamRules}
-use Rattle.stream_states.specs.States.{withAxes, heldOf, placeSaid, lastIn, isWaiting, Waits, HoldsPass, FinePass, PassAt, SomePass, absorptionSaid, RulesAs, LeftS, left-none}
+use Rattle.stream_states.specs.States.{withAxes, lastIn, isWaiting, Waits, HoldsPass, FinePass, PassAt, absorptionSaid, RulesAs, LeftS}
 use Rattle.stream_states.specs.States.{left-then, granted-left, streamRows, SteppedAs, as-next, as-limit, stepped-from}
-use Rattle.stream_states.specs.Output.{never, holds-other, place-none}
+use Rattle.stream_states.specs.Output.{holds-other, place-none}
 use Rattle.stream_states.specs.Known.{axes-count, out-few}
-use Rattle.stream_states.specs.Carrying.{CarryPass, CarryLeft, carry-pre, carry-left, carry-refused, carried-at, carried-id, carried-in}
+use Rattle.stream_states.specs.Carrying.{CarryPass, CarryLeft, carry-left, carry-refused, carried-at, carried-id, carried-in}
 use Rattle.stream_states.specs.Carrying.{carried-turns}
 use Rattle.merging.specs.Carried.{CarryingAt}
 use Rattle.stream_items.specs.Waiting.{pickedBy, WaitAt, waitedAll}
@@ -69,7 +69,8 @@ blocking-is : (l : ℕ) (p : Pass) (a id : ℕ) → a < length (p .store .axes) 
     → absorbBlocking l p a ≡ absorbWaiting l (pickedBy false l (carryAxis l p a .store .axes) id) (carryAxis l p a) 0 (carryAxis l p a .out)
 unfolding absorbBlocking pickedBy anticommute
 blocking-is l p a id h e =
-    ap (λ (w : List ℕ). absorbWaiting l (λ b. anticommutes l (wordOf (carryAxis l p a .store .axes) b) w) (carryAxis l p a) 0 (carryAxis l p a .out))
+    ap (λ (w : List ℕ). absorbWaiting l (λ b. anticommutes l (wordOf (carryAxis l p a .store .axes) b) w) (carryAxis l p a) 0
+    (carryAxis l p a .out))
     (sym (ap (wordOf (carryAxis l p a .store .axes)) (e ∙ id-as l p a h) ∙ its-word l p a))
 
 module _ {z : Shape} {st : State} {a : ℕ} {ws xs : List ℕ} {r : Carried} {ws′ xs′ : List ℕ}
@@ -105,7 +106,8 @@ module _ {z : Shape} {st : State} {a : ℕ} {ws xs : List ℕ} {r : Carried} {ws
 
 -- ---- a rotation
 
-pub record RotationAt (z : Shape) (c : StreamRules) (st : State) (a k : ℕ) (ws xs : List ℕ) (m : Absorption) (n : ℕ) (p : Pass) : Type 0 where
+pub record RotationAt (z : Shape) (c : StreamRules) (st : State) (a k : ℕ) (ws xs : List ℕ) (m : Absorption) (n : ℕ)
+    (p : Pass) : Type 0 where
   pub carrying : CarryingAt z c st a k ws xs m n p
   pub few-all : st .absorbed + st .out < 9223372036854775808
 
@@ -151,7 +153,8 @@ module _ {z : Shape} {c : StreamRules} {g : Rules} (rules : RulesAs c g) {st : S
     (h : RotationAt z c st a k ws xs (g .absorption) n p) where
   -- taken as it is
   pub rotation-off : {r : Stepped} {ws′ xs′ : List ℕ} → c .«to_frame» ≡ false
-      → SteppedAs z (g .absorption) 1 1 st r ws′ xs′ (takeRotation (z .l) g (c .merge) (carryAxis (z .l) p a) (imageId (z .l) (carryAxis (z .l) p a) a)
+      → SteppedAs z (g .absorption) 1 1 st r ws′ xs′
+      (takeRotation (z .l) g (c .merge) (carryAxis (z .l) p a) (imageId (z .l) (carryAxis (z .l) p a) a)
       (withSign (axisImage (z .l) (carryAxis (z .l) p a) a .turns) k))
       → SteppedAs z (g .absorption) 1 (st .out + 1) st r ws′ xs′ (streamItem (z .l) g (c .merge) p (rotation (rot a k)))
   rotation-off {r} {ws′} {xs′} e s =
@@ -159,7 +162,8 @@ module _ {z : Shape} {c : StreamRules} {g : Rules} (rules : RulesAs c g) {st : S
       (sym (plain-is (z .l) g (c .merge) p a k (inl (sym (rules .absorption) ∙ said-off c e)))) (more-absorbed s)
 
   pub rotation-once : {r : Stepped} {ws′ xs′ : List ℕ} → c .«to_frame» ≡ true → c .lazy ≡ false
-      → SteppedAs z (g .absorption) 1 1 st r ws′ xs′ (takeRotation (z .l) g (c .merge) (carryAxis (z .l) p a) (imageId (z .l) (carryAxis (z .l) p a) a)
+      → SteppedAs z (g .absorption) 1 1 st r ws′ xs′
+      (takeRotation (z .l) g (c .merge) (carryAxis (z .l) p a) (imageId (z .l) (carryAxis (z .l) p a) a)
       (withSign (axisImage (z .l) (carryAxis (z .l) p a) a .turns) k))
       → SteppedAs z (g .absorption) 1 (st .out + 1) st r ws′ xs′ (streamItem (z .l) g (c .merge) p (rotation (rot a k)))
   rotation-once {r} {ws′} {xs′} e f s =
@@ -180,7 +184,9 @@ module _ {z : Shape} {c : StreamRules} {st : State} {a k : ℕ} {ws xs : List �
     blocked-fine : FinePass z n (absorbBlocking (z .l) p a)
     blocked-fine = record {
       well = absorbBlocking-well (z .l) (Unit {0}) p a (h .carrying .carry .at .fine .well) .well;
-      inside = absorbBlocking-by (z .l) (PassInside (z .l) (z .qubits)) (inside-kept (z .l) (z .qubits) (h .carrying .carry .at .granted .sized .bits))
+      inside =
+          absorbBlocking-by (z .l) (PassInside (z .l) (z .qubits))
+          (inside-kept (z .l) (z .qubits) (h .carrying .carry .at .granted .sized .bits))
           (λ i q f. f .small) n p a (h .carrying .carry .at .fine .inside);
     }
 
@@ -249,7 +255,8 @@ unfolding absorbAllWaiting
 all-off l m p (inl e) = ap (λ (x : Absorption). absorbAllWaiting l x p) e
 all-off l m p (inr e) = ap (λ (x : Absorption). absorbAllWaiting l x p) e
 
-module _ {z : Shape} {c : StreamRules} {st : State} {ws xs : List ℕ} {m : Absorption} {n : ℕ} {p : Pass} (h : AllAt z c st ws xs m n p) where
+module _ {z : Shape} {c : StreamRules} {st : State} {ws xs : List ℕ} {m : Absorption} {n : ℕ} {p : Pass}
+    (h : AllAt z c st ws xs m n p) where
   none-waits : (m ≡ off) ⊎ (m ≡ atOnce) → SteppedAs z m 0 (st .out) st (Next st) ws xs (absorbAllWaiting (z .l) m p)
   none-waits e =
       subst (SteppedAs z m 0 (st .out) st (Next st) ws xs) (sym (all-off (z .l) m p e))
@@ -275,7 +282,8 @@ module _ {z : Shape} {c : StreamRules} {st : State} {ws xs : List ℕ} {m : Abso
     pub all-as : {r : Stepped} {ws′ xs′ : List ℕ} → SteppedAs z lazy 0 (st .out) st r ws′ xs′ (waitedAll z true 0 p)
         → SteppedAs z m 0 (st .out) st r ws′ xs′ (absorbAllWaiting (z .l) m p)
     unfolding absorbAllWaiting pickedBy
-    all-as {r} {ws′} {xs′} s = subst (λ (x : Absorption). SteppedAs z x 0 (st .out) st r ws′ xs′ (absorbAllWaiting (z .l) x p)) (sym is-lazy) s
+    all-as {r} {ws′} {xs′} s =
+        subst (λ (x : Absorption). SteppedAs z x 0 (st .out) st r ws′ xs′ (absorbAllWaiting (z .l) x p)) (sym is-lazy) s
 
 -- ---- a barrier, once none waits
 
@@ -298,7 +306,8 @@ movedBarrier x id turns = record { tag = x .tag; axis = id; angle = (turns + x .
 -- the model's state behind it
 unfoldable pub barrierPut : ℕ → Pass → ℕ → ℕ → ℕ → Pass
 barrierPut l p o a s =
-    putOut (barrier o (imageId l (carryAxis l p a) a) ((axisImage l (carryAxis l p a) a .turns + s) % 4)) (withLast clearedLast (carryAxis l p a))
+    putOut (barrier o (imageId l (carryAxis l p a) a) ((axisImage l (carryAxis l p a) a .turns + s) % 4))
+    (withLast clearedLast (carryAxis l p a))
 
 pub record BarrierAt (z : Shape) (st : State) (x : Tagged) (ws xs : List ℕ) (m : Absorption) (n : ℕ) (p : Pass) : Type 0 where
   pub carry : CarryPass z st (x .axis) ws xs m n p
@@ -314,7 +323,13 @@ module _ {z : Shape} {st : State} {x : Tagged} {ws xs : List ℕ} {r : Carried} 
 
   module _ {to : CarriedAxis} (e : r ≡ To to) where
     pub barrier-entry : EntryPre xs′ (z .u) outRow (st .out)
-    barrier-entry = record { long = omega (arith, h .carry .at .granted .numbers-long, call .0 .numbers .long); rows = omega arith; here = out-few (h .carry .at) }
+    barrier-entry =
+        record {
+          long = omega (arith, h .carry .at .granted .numbers-long, call .0 .numbers .long);
+          rows = omega arith;
+          here = out-few
+              (h .carry .at);
+        }
 
     pub barrier-small : (to .id < longestRow) × (st .out < longestRow)
     barrier-small =
@@ -327,7 +342,8 @@ module _ {z : Shape} {st : State} {x : Tagged} {ws xs : List ℕ} {r : Carried} 
     module _ {xs″ : List ℕ} (put : ItemPut xs′ (z .u) outRow (st .out) (movedBarrier x (to .id) (to .turns)) xs″) where
       pub barrier-left : LeftS z ws xs ws′ xs″
       unfolding allOf member anyOf
-      barrier-left = left-then (carry-left (h .carry) call) (record { words = kept-none _ ws′; numbers = only-of streamRows refl (put .only) })
+      barrier-left =
+          left-then (carry-left (h .carry) call) (record { words = kept-none _ ws′; numbers = only-of streamRows refl (put .only) })
 
       its-item : itemSaid (movedBarrier x (to .id) (to .turns))
           ≡ barrier (x .tag - 1) (imageId (z .l) (carryAxis (z .l) p (x .axis)) (x .axis))

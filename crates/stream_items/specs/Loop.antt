@@ -1,25 +1,24 @@
 -- All items of a stream, one after the other. Assumes nothing.
-use mathlib.Core.Path.{_≡_, refl, sym, ap, ap₂, _∙_, subst}
-use mathlib.Core.Bool.{Bool, true, false}
-use mathlib.Core.List.{List, [], _∷_, _++_}
-use Prim.Native.Nat.{ℕ, zero, suc, _+_, _-_, _*_, _%_, _≤_, _<_}
+use mathlib.Core.Path.{_≡_, refl, sym, ap, _∙_, subst}
+use mathlib.Core.Bool.{Bool}
+use mathlib.Core.List.{List, [], _∷_}
+use Prim.Native.Nat.{ℕ, suc, _+_, _-_, _*_, _≤_, _<_}
 use native.Mathlib.Nat.{le-trans, lt-of-lt-of-le}
 use native.Mathlib.Omega.{arith}
-use lib.ListN.{length, getD}
+use lib.ListN.{length}
 use Rattle.model.specs.Lists.{allOf, anyOf, member}
 use Rattle.model.specs.Rules.{Absorption, off, atOnce, lazy, Rules}
 use Rattle.model.specs.Items.{rot, Item, rotation, barrier}
-use Rattle.model.specs.Stream.{Pass, carryAxis, absorbWaiting, absorbWaitingAt, absorbAllWaiting, streamItem}
-use Rattle.theory.specs.Every.{Every, every-at, every-weaken}
+use Rattle.model.specs.Stream.{Pass, absorbWaiting, absorbWaitingAt, absorbAllWaiting, streamItem}
+use Rattle.theory.specs.Every.{Every, every-at}
 use Rattle.theory.specs.Peak.{Rises, streamItem-rises}
 use Rattle.theory.specs.StreamState.{outside}
 use Rattle.layout.specs.declared.Shape.{Shape}
-use Rattle.layout.specs.Rows.{rowCount, itemsRow, outRow}
-use Rattle.layout.specs.Shape.{Granted}
+use Rattle.layout.specs.Rows.{itemsRow}
 use Rattle.items.specs.declared.Tagged.{Tagged}
-use Rattle.items.specs.View.{taggedAt, itemSaid, itemAt, itemsIn, said-rotation, said-other, view-length, view-next, view-at-0, tagged-other}
+use Rattle.items.specs.View.{taggedAt, itemSaid, itemAt, itemsIn, said-rotation, said-other, view-length, view-next, view-at-0}
+use Rattle.items.specs.View.{tagged-other}
 use Rattle.items.specs.Put.{EntryPre}
-use Rattle.words_wellformed.specs.HeldImages.{IsSign}
 use Rattle.words_wellformed.specs.PassWords.{WellItem, afterItems, absorbAllWaiting-well, streamItem-well}
 use Rattle.run_wellformed.specs.CliffordAngles.{TurnsItem}
 use Rattle.run_wellformed.specs.StreamSteps.{absorbAllWaiting-by, streamItem-by}
@@ -28,16 +27,16 @@ use Rattle.stream_states.specs.declared.State.{State}
 use Rattle.stream_states.specs.declared.Stepped.{Stepped}
 use Rattle.stream_states.specs.declared.Stepped.the-variants.{Next, ExpansionLimit}
 use Rattle.stream_states.specs.declared.StreamRules.{StreamRules}
-use Rattle.stream_states.specs.States.{HoldsPass, FinePass, PassAt, SomePass, absorptionSaid, RulesAs, LeftS, left-none, left-then, granted-left, streamRows}
+use Rattle.stream_states.specs.States.{HoldsPass, PassAt, SomePass, absorptionSaid, RulesAs, LeftS, left-none, left-then, granted-left}
 use Rattle.stream_states.specs.States.{SteppedAs, as-limit, stepped-from}
 use Rattle.stream_states.specs.Known.{axes-count, out-long}
-use Rattle.stream_states.specs.Carrying.{CarryPass}
 use Rattle.stream_items.specs.Waiting.{step-long}
 use Rattle.stream_items.specs.Items.{RotationAt, AllAt, BarrierAt, barrierPut}
 
 -- ---- one item
 
-pub record ItemAt (z : Shape) (c : StreamRules) (st : State) (x : Tagged) (ws xs : List ℕ) (m : Absorption) (n : ℕ) (p : Pass) : Type 0 where
+pub record ItemAt (z : Shape) (c : StreamRules) (st : State) (x : Tagged) (ws xs : List ℕ) (m : Absorption) (n : ℕ)
+    (p : Pass) : Type 0 where
   pub at : PassAt z m n st ws xs p
   pub axis : x .axis < st .axes
   pub turns : x .tag ≡ 0 → (0 < x .angle) × (x .angle ≤ 7)
@@ -66,7 +65,8 @@ module _ {z : Shape} {c : StreamRules} {st : State} {x : Tagged} {ws xs : List �
   pub item-all : AllAt z c st ws xs m n p
   item-all = record { at = h .at; mode = h .mode; few = h .few }
 
-  waiting-long : (l : ℕ) (picks : ℕ → Bool) (q : Pass) (j : ℕ) (is : List Item) → length (absorbWaiting l picks q j is .out) ≡ length (q .out)
+  waiting-long : (l : ℕ) (picks : ℕ → Bool) (q : Pass) (j : ℕ) (is : List Item)
+      → length (absorbWaiting l picks q j is .out) ≡ length (q .out)
   unfolding absorbWaiting
   waiting-long l picks q j [] = refl
   waiting-long l picks q j (i ∷ is) = waiting-long l picks (absorbWaitingAt l picks q j i) (suc j) is ∙ step-long l picks q j i
@@ -100,7 +100,8 @@ module _ {z : Shape} {c : StreamRules} {st : State} {x : Tagged} {ws xs : List �
           holds = call .next s e;
           fine = record {
             well = absorbAllWaiting-well (z .l) (Unit {0}) m p (h .at .fine .well) .well;
-            inside = absorbAllWaiting-by (z .l) (PassInside (z .l) (z .qubits)) (inside-kept (z .l) (z .qubits) (h .at .granted .sized .bits))
+            inside =
+                absorbAllWaiting-by (z .l) (PassInside (z .l) (z .qubits)) (inside-kept (z .l) (z .qubits) (h .at .granted .sized .bits))
                 (λ i q f. f .small) n m p (h .at .fine .inside);
           };
           space = h .at .space;
@@ -306,7 +307,16 @@ module _ {z : Shape} {c : StreamRules} {k : ℕ} {st₀ : State} {ws₀ xs₀ ws
       index = omega arith;
       left = reading-left;
       merges = omega (arith, b .merges, step (some .it) .merges s e);
-      absorbed = omega (arith, b .absorbed, step (some .it) .absorbed s e, out-few (some .it), some .it .fits, some .it .at .granted .sized .operations);
+      absorbed =
+          omega (
+            arith,
+            b .absorbed,
+            step (some .it) .absorbed s e,
+            out-few
+                (some .it),
+            some .it .fits,
+            some .it .at .granted .sized .operations,
+          );
       at = λ g p h. next h;
     }
       where
@@ -330,7 +340,8 @@ module _ {z : Shape} {c : StreamRules} {k : ℕ} {st₀ : State} {ws₀ xs₀ ws
                 fine = record {
                   well = goes .well;
                   inside = subst (λ (j : ℕ). PassInside (z .l) (z .qubits) j q) one
-                      (streamItem-by (z .l) (PassInside (z .l) (z .qubits)) (inside-kept (z .l) (z .qubits) (h .at .granted .sized .bits)) (λ j t f. f .small)
+                      (streamItem-by (z .l) (PassInside (z .l) (z .qubits)) (inside-kept (z .l) (z .qubits) (h .at .granted .sized .bits))
+                      (λ j t f. f .small)
                       i g (c .merge) (n .now) (itemSaid x) turning (n .at .fine .inside));
                 };
                 space = omega (arith, h .fits, h .at .granted .sized .row);
@@ -362,7 +373,8 @@ unfolding afterItems
 reading-end {z} {c} {k} {st₀} {ws₀} {xs₀} {ws} {xs} {st} {i} b e g p h =
     let n = b .at g p h in
     let is-now : afterItems (z .l) g (c .merge) p (itemsIn xs₀ (z .u) itemsRow 0 k) ≡ n .now =
-    n .whole ∙ ap (afterItems (z .l) g (c .merge) (n .now)) (Rattle.items.specs.View.view-none itemSaid xs₀ (z .u) itemsRow i (k - i) (omega arith)) in
+    n .whole ∙ ap (afterItems (z .l) g (c .merge) (n .now))
+    (Rattle.items.specs.View.view-none itemSaid xs₀ (z .u) itemsRow i (k - i) (omega arith)) in
     record {
       next = λ s f. let o : st ≡ s = cc in
           subst (λ (t : State). HoldsPass z (g .absorption) t ws xs (afterItems (z .l) g (c .merge) p (itemsIn xs₀ (z .u) itemsRow 0 k))) o

@@ -6,13 +6,12 @@ use mathlib.Core.List.{List, [], _∷_}
 use Prim.Native.Nat.{ℕ, zero, suc, _+_, _-_, _*_, _≤_, _<_}
 use native.Mathlib.Decide.{ℕ-discrete, decLt}
 use native.Mathlib.Omega.{arith}
-use lib.Dec.{eqb}
-use lib.ListN.{length, getD, drop, set, length-set}
+use lib.ListN.{length, getD, drop, length-set}
 use lib.Seq.{drop-cons, drop-length, getD-drop, drop-set-lt, getD-set-same, getD-set-other}
 use borrow.Author.Tests.{ne-eqb}
 use Rattle.store.specs.Row.{Written}
 use Rattle.model.specs.Lists.{if_then_else_, allOf, anyOf, member, isEven}
-use Rattle.model.specs.Rules.{Absorption, off, lazy}
+use Rattle.model.specs.Rules.{off, lazy}
 use Rattle.model.specs.Words.{anticommute}
 use Rattle.model.specs.Items.{rot, Item, rotation, barrier, isClifford}
 use Rattle.model.specs.Stream.{Pass, withLast, setAngle, leaveZero, absorb, absorbWaitingAt, absorbWaiting}
@@ -38,7 +37,8 @@ use Rattle.run_wellformed.specs.PassInside.{PassInside, inside-kept}
 use Rattle.stream_states.specs.declared.State.{State}
 use Rattle.stream_states.specs.declared.Stepped.{Stepped}
 use Rattle.stream_states.specs.declared.Stepped.the-variants.{Next, ExpansionLimit}
-use Rattle.stream_states.specs.States.{withWaiting, isWaiting, Waits, HoldsPass, FinePass, PassAt, SomePass, streamRows, LeftS, left-none, left-then}
+use Rattle.stream_states.specs.States.{withWaiting, isWaiting, Waits, HoldsPass, FinePass, PassAt, SomePass, streamRows, LeftS, left-none}
+use Rattle.stream_states.specs.States.{left-then}
 use Rattle.stream_states.specs.States.{granted-left, SteppedAs, as-next, as-limit, stepped-from}
 use Rattle.stream_states.specs.Output.{never, without-list, with-list}
 use Rattle.stream_states.specs.Known.{axes-count, out-long, out-few, out-item, out-rotation, axes-stored}
@@ -54,7 +54,9 @@ pub waits-zero : (x : Tagged) → x .tag ≡ 0 → x .angle ≡ 0 → false ≡ 
 waits-zero x e f = sym (ap isWaiting (said-rotation x e) ∙ ap isClifford f)
 
 pub waits-even : (x : Tagged) → x .tag ≡ 0 → (x .angle ≡ 0 → ⊥) → isEven (x .angle) ≡ isWaiting (itemSaid x)
-waits-even x e n = sym (ap isWaiting (said-rotation x e) ∙ ap (λ (t : Bool). isEven (x .angle) && not t) (ne-eqb (x .angle) 0 n) ∙ same (isEven (x .angle)))
+waits-even x e n =
+    sym (ap isWaiting (said-rotation x e) ∙ ap (λ (t : Bool). isEven (x .angle) && not t) (ne-eqb (x .angle) 0 n)
+    ∙ same (isEven (x .angle)))
   where
     same : (t : Bool) → t && true ≡ t
     same true = refl
@@ -122,7 +124,8 @@ abbrev pub TurnOf : Shape → State → State → List ℕ → ℕ → List ℕ 
 TurnOf z st s xs i xs′ q = GoneFrom z st s xs i q ⊎ KeptIn z st s xs i xs′
 
 -- of the list: places behind i and those that are kept are as they were; place i does not wait any more, or is kept
-pub record TurnedAs (z : Shape) (st : State) (all : Bool) (id i : ℕ) (xs : List ℕ) (p : Pass) (r : Stepped) (ws′ xs′ : List ℕ) : Type 0 where
+pub record TurnedAs (z : Shape) (st : State) (all : Bool) (id i : ℕ) (xs : List ℕ) (p : Pass) (r : Stepped)
+    (ws′ xs′ : List ℕ) : Type 0 where
   pub stepped : SteppedAs z off 0 1 st r ws′ xs′ (waitedAt z all id (placeIn (z .u) xs i) xs p)
   pub same : (k : ℕ) → (k < st .waiting) ⊎ (i < k) → placeIn (z .u) xs′ k ≡ placeIn (z .u) xs k
   pub turned : (s : State) → r ≡ Next s → TurnOf z st s xs i xs′ (waitedAt z all id (placeIn (z .u) xs i) xs p)
@@ -200,7 +203,8 @@ module _ {z : Shape} {st : State} {all : Bool} {id i : ℕ} {ws xs : List ℕ} {
         turn-picks = rw sizes (record { held = axes-stored (h .at); there = x-rotation .0; axis = h .id-in })
 
         -- what the test says of the model's
-        picks-is : {s : Bool} → s ≡ pickedBy all (y .l) (storedAxes y ws) id (x .axis) → s ≡ pickedBy all (z .l) (p .store .axes) id (x .axis)
+        picks-is : {s : Bool} → s ≡ pickedBy all (y .l) (storedAxes y ws) id (x .axis)
+            → s ≡ pickedBy all (z .l) (p .store .axes) id (x .axis)
         picks-is k =
             k ∙ ap (λ (v : Sizes). pickedBy all (v .l) (storedAxes v ws) id (x .axis)) sizes
             ∙ ap (λ (axes : List (List ℕ)). pickedBy all (z .l) axes id (x .axis)) (h .at .holds .f .axes .are)
@@ -233,10 +237,12 @@ module _ {z : Shape} {st : State} {all : Bool} {id i : ℕ} {ws xs : List ℕ} {
           words = kept-none _ ws;
           numbers =
               only-of streamRows refl
-              (only-written (h .at .granted .numbers-long) (omega arith) (let b : st .waiting < z .u = omega (arith, h .kept, h .index) in b) wrote);
+              (only-written (h .at .granted .numbers-long) (omega arith)
+              (let b : st .waiting < z .u = omega (arith, h .kept, h .index) in b) wrote);
         }
 
-        pub turned-absorbed : {s : Bool} {r : Stepped} {ws′ xs′ : List ℕ} → s ≡ pickedBy all (y .l) (storedAxes y ws) id (x .axis) → s ≡ true
+        pub turned-absorbed : {s : Bool} {r : Stepped} {ws′ xs′ : List ℕ} → s ≡ pickedBy all (y .l) (storedAxes y ws) id (x .axis)
+            → s ≡ true
             → LeftAbsorbed z st ws xs r ws′ xs′
             → SteppedAs z off 0 1 st r ws′ xs′ (leaveZero j (x .axis) (absorb (z .l) p (x .axis) (x .angle)))
             → TurnedAs z st all id i xs p r ws′ xs′
@@ -256,7 +262,8 @@ module _ {z : Shape} {st : State} {all : Bool} {id i : ℕ} {ws xs : List ℕ} {
             zero-quiet : isWaiting (getD (leaveZero j (x .axis) (absorb (z .l) p (x .axis) (x .angle)) .out) j outside) ≡ false
             zero-quiet =
                 unfold leaveZero setAngle withLast absorb in
-                (ap isWaiting (getD-set-same (p .out) j (rotation (rot (x .axis) 0)) outside (omega (arith, j-in, out-long (h .at .holds)))))
+                (ap isWaiting (getD-set-same (p .out) j (rotation (rot (x .axis) 0)) outside
+                (omega (arith, j-in, out-long (h .at .holds)))))
 
       pub turn-merged : MergedAt z st j (x .axis) (x .angle) ws xs off n p
       turn-merged = record {
@@ -264,7 +271,8 @@ module _ {z : Shape} {st : State} {all : Bool} {id i : ℕ} {ws xs : List ℕ} {
           at = h .at;
           id-in = x-rotation .0;
           quarters =
-              even-quarters (x .angle) (and-left (isEven (x .angle)) _ (waiting-angle x x-waits)) (clifford-some (x .angle) (waiting-angle x x-waits))
+              even-quarters (x .angle) (and-left (isEven (x .angle)) _ (waiting-angle x x-waits))
+              (clifford-some (x .angle) (waiting-angle x x-waits))
               (x-rotation .1);
           few = h .few;
         };
@@ -301,7 +309,8 @@ module _ (l : ℕ) (picks : ℕ → Bool) (p : Pass) (j : ℕ) where
   step-axes : (i : Item) → absorbWaitingAt l picks p j i .store .axes ≡ p .store .axes
   unfolding absorbWaitingAt
   step-axes (rotation r) =
-      by-if (λ (q : Pass). q .store .axes ≡ p .store .axes) _ _ _ (unfold leaveZero setAngle withLast in (absorb-axes l p (r .axis) (r .angle))) refl
+      by-if (λ (q : Pass). q .store .axes ≡ p .store .axes) _ _ _
+      (unfold leaveZero setAngle withLast in (absorb-axes l p (r .axis) (r .angle))) refl
   step-axes (barrier o a s) = refl
 
   pub step-long : (i : Item) → length (absorbWaitingAt l picks p j i .out) ≡ length (p .out)
@@ -350,7 +359,8 @@ pub record Scan (z : Shape) (st₀ : State) (n : ℕ) (all : Bool) (id : ℕ) (w
   pub absorbed : st .absorbed ≤ st₀ .absorbed + i
   pub at : (k : ℕ) (p : Pass) → ListedAt z st₀ n all id ws₀ xs₀ k p → WaitNow z st₀ n all id ws xs st i k p
 
-pub scan-first : {z : Shape} {st : State} {n : ℕ} {all : Bool} {id : ℕ} {ws xs : List ℕ} → SomePass (λ m k p. ListedAt z st n all id ws xs k p)
+pub scan-first : {z : Shape} {st : State} {n : ℕ} {all : Bool} {id : ℕ} {ws xs : List ℕ}
+    → SomePass (λ m k p. ListedAt z st n all id ws xs k p)
     → Scan z st n all id ws xs ws xs st 0
 scan-first {z} {st} {n} {all} {id} {ws} {xs} some = record {
   index = omega arith;
@@ -401,10 +411,11 @@ module _ {z : Shape} {st₀ : State} {n : ℕ} {all : Bool} {id : ℕ} {ws xs : 
       × (drop j (h .now .out) ≡ drop j (p .out))
   pass-to j b c long none = (
     h .whole
-    ∙ skip (z .l) (pickedBy all (z .l) (p .store .axes) id) (h .now) (h .place) (drop (h .place) (p .out)) (j - h .place)
-    (omega (arith, drop-long))
-    (λ v d. ap isWaiting (same-behind v) ∙ quiet-one j (h .place + v) c none (omega arith) (omega arith))
-    ∙ ap₂ (λ (x : ℕ) (is : List Item). absorbWaiting (z .l) (pickedBy all (z .l) (p .store .axes) id) (h .now) x is) there (drops (p .out)),
+        ∙ skip (z .l) (pickedBy all (z .l) (p .store .axes) id) (h .now) (h .place) (drop (h .place) (p .out)) (j - h .place)
+        (omega (arith, drop-long))
+        (λ v d. ap isWaiting (same-behind v) ∙ quiet-one j (h .place + v) c none (omega arith) (omega arith))
+        ∙ ap₂ (λ (x : ℕ) (is : List Item). absorbWaiting (z .l) (pickedBy all (z .l) (p .store .axes) id) (h .now) x is) there
+        (drops (p .out)),
     sym (drops (h .now .out)) ∙ ap (drop (j - h .place)) (h .rest) ∙ drops (p .out),
   )
     where
@@ -444,10 +455,6 @@ module _ {z : Shape} {st₀ : State} {n : ℕ} {all : Bool} {id : ℕ} {ws₀ xs
           omega (arith, axes-count (here .at .holds), axes-count (h .at .holds), ap length (here .axes), h .id-in e);
       few = omega (arith, b .absorbed, more, few-places, h .few);
     }
-
-    -- the place that has its turn
-    turn : ℕ
-    turn = placeIn (z .u) xs i
 
     from-turn : (x : ℕ) → i ≤ x → x < n → placeIn (z .u) xs i ≤ placeIn (z .u) xs x
     from-turn x c d = go (ℕ-discrete x i)
@@ -508,9 +515,6 @@ module _ {z : Shape} {st₀ : State} {n : ℕ} {all : Bool} {id : ℕ} {ws₀ xs
 
     module _ {s : State} (e : r ≡ Next s) where
       module _ {k : ℕ} {p : Pass} (h : ListedAt z st₀ n all id ws₀ xs₀ k p) where
-        next : Pass
-        next = waitedAt z all id (placeIn (z .u) xs i) xs (here h .now)
-
         held : HoldsPass z off s ws′ xs′ (waitedAt z all id (placeIn (z .u) xs i) xs (here h .now))
         held = step h .stepped .next s e
 
@@ -521,17 +525,27 @@ module _ {z : Shape} {st₀ : State} {n : ℕ} {all : Bool} {id : ℕ} {ws₀ xs
 
         -- outputs that have no turn
         same-item : (v : ℕ) → (v ≡ placeIn (z .u) xs i → ⊥)
-            → isWaiting (getD (waitedAt z all id (placeIn (z .u) xs i) xs (here h .now) .out) v outside) ≡ isWaiting (getD (here h .now .out) v outside)
-        same-item v d = ap isWaiting (step-other (z .l) _ (here h .now) (placeIn (z .u) xs i) (itemAt xs (z .u) outRow (placeIn (z .u) xs i)) v d)
+            → isWaiting (getD (waitedAt z all id (placeIn (z .u) xs i) xs (here h .now) .out) v outside) ≡ isWaiting
+            (getD (here h .now .out) v outside)
+        same-item v d =
+            ap isWaiting (step-other (z .l) _ (here h .now) (placeIn (z .u) xs i) (itemAt xs (z .u) outRow (placeIn (z .u) xs i)) v d)
 
         -- the places that are kept
         kept-next : TurnOf z st s xs i xs′ (waitedAt z all id (placeIn (z .u) xs i) xs (here h .now))
             → Rising (placeIn (z .u) xs′) 0 (s .waiting) (suc (placeIn (z .u) xs i))
         kept-next (inl g) = record {
-          below = λ v c d. omega (arith, step h .same v (inl (omega (arith, g .count))), here h .kept .below v c (omega (arith, g .count)),
-          here h .later i (omega arith) more);
-          rises = λ v w c d f. omega (arith, step h .same v (inl (omega (arith, g .count))), step h .same w (inl (omega (arith, g .count))),
-          here h .kept .rises v w c d (omega (arith, g .count)));
+          below = λ v c d. omega (
+            arith,
+            step h .same v (inl (omega (arith, g .count))),
+            here h .kept .below v c (omega (arith, g .count)),
+            here h .later i (omega arith) more,
+          );
+          rises = λ v w c d f. omega (
+            arith,
+            step h .same v (inl (omega (arith, g .count))),
+            step h .same w (inl (omega (arith, g .count))),
+            here h .kept .rises v w c d (omega (arith, g .count)),
+          );
         }
         kept-next (inr g) = record {
           below = λ v c d. low v d (ℕ-discrete v (st .waiting));
@@ -541,20 +555,34 @@ module _ {z : Shape} {st₀ : State} {n : ℕ} {all : Bool} {id : ℕ} {ws₀ xs
             low : (v : ℕ) → v < s .waiting → Dec (v ≡ st .waiting) → placeIn (z .u) xs′ v < suc (placeIn (z .u) xs i)
             low v d (yes f) = rw f (omega (arith, g .here))
             low v d (no f) =
-                omega (arith, step h .same v (inl (omega (arith, g .count))), here h .kept .below v (omega arith) (omega (arith, g .count)),
-                here h .later i (omega arith) more)
+                omega (
+                  arith,
+                  step h .same v (inl (omega (arith, g .count))),
+                  here h .kept .below v (omega arith) (omega (arith, g .count)),
+                  here h .later i (omega arith) more,
+                )
 
             up : (v w : ℕ) → v < w → w < s .waiting → Dec (w ≡ st .waiting) → placeIn (z .u) xs′ v < placeIn (z .u) xs′ w
             up v w d f (yes x) =
-                rw x (omega (arith, g .here, step h .same v (inl (omega arith)), here h .kept .below v (omega arith) (omega arith),
-                here h .later i (omega arith) more))
+                rw x (omega (
+                  arith,
+                  g .here,
+                  step h .same v (inl (omega arith)),
+                  here h .kept .below v (omega arith) (omega arith),
+                  here h .later i (omega arith) more,
+                ))
             up v w d f (no x) =
-                omega (arith, step h .same v (inl (omega (arith, g .count))), step h .same w (inl (omega (arith, g .count))),
-                here h .kept .rises v w (omega arith) d (omega (arith, g .count)))
+                omega (
+                  arith,
+                  step h .same v (inl (omega (arith, g .count))),
+                  step h .same w (inl (omega (arith, g .count))),
+                  here h .kept .rises v w (omega arith) d (omega (arith, g .count)),
+                )
 
         -- what waits behind it is named behind it
         named-next : (v : ℕ) → suc (placeIn (z .u) xs i) ≤ v → v < s .out
-            → isWaiting (getD (waitedAt z all id (placeIn (z .u) xs i) xs (here h .now) .out) v outside) ≡ true → Named (placeIn (z .u) xs′) (i + 1) n v
+            → isWaiting (getD (waitedAt z all id (placeIn (z .u) xs i) xs (here h .now) .out) v outside) ≡ true
+            → Named (placeIn (z .u) xs′) (i + 1) n v
         named-next v c d f =
             let x = here h .named v (let g = here h .later i (omega arith) more in omega arith) (omega (arith, same-out))
             (sym (same-item v (omega arith)) ∙ f) in
@@ -570,11 +598,13 @@ module _ {z : Shape} {st₀ : State} {n : ℕ} {all : Bool} {id : ℕ} {ws₀ xs
             }
 
         -- what waits before it is kept
-        waits-next : TurnOf z st s xs i xs′ (waitedAt z all id (placeIn (z .u) xs i) xs (here h .now)) → (v : ℕ) → v < suc (placeIn (z .u) xs i)
+        waits-next : TurnOf z st s xs i xs′ (waitedAt z all id (placeIn (z .u) xs i) xs (here h .now)) → (v : ℕ)
+            → v < suc (placeIn (z .u) xs i)
             → isWaiting (getD (waitedAt z all id (placeIn (z .u) xs i) xs (here h .now) .out) v outside) ≡ true
             → Dec (v ≡ placeIn (z .u) xs i) → Dec (v < here h .place) → Named (placeIn (z .u) xs′) 0 (s .waiting) v
         waits-next (inl g) v c f (yes x) y =
-            absurd (true≢false (sym f ∙ ap (λ (w : ℕ). isWaiting (getD (waitedAt z all id (placeIn (z .u) xs i) xs (here h .now) .out) w outside)) x
+            absurd (true≢false (sym f ∙ ap
+            (λ (w : ℕ). isWaiting (getD (waitedAt z all id (placeIn (z .u) xs i) xs (here h .now) .out) w outside)) x
             ∙ g .quiet))
         waits-next (inr g) v c f (yes x) y = record {
           index = st .waiting;
@@ -596,19 +626,24 @@ module _ {z : Shape} {st₀ : State} {n : ℕ} {all : Bool} {id : ℕ} {ws₀ xs
             count-up (inr o) = omega (arith, o .count)
         waits-next g v c f (no x) (no y) =
             absurd (true≢false (sym f ∙ same-item v x
-            ∙ quiet-one (here h) (placeIn (z .u) xs i) v (let o = turn-at h .place in omega arith) (from-turn h) (omega arith) (omega arith)))
+            ∙ quiet-one (here h) (placeIn (z .u) xs i) v (let o = turn-at h .place in omega arith) (from-turn h) (omega arith)
+            (omega arith)))
 
         fine-next : FinePass z k (waitedAt z all id (placeIn (z .u) xs i) xs (here h .now))
         fine-next =
             let inside : placeIn (z .u) xs i < length (here h .now .out) = omega (arith, turn-at h .place, out-long (here h .at .holds)) in
             record {
-              well = absorbWaitingAt-well (z .l) (Unit {0}) _ (here h .now) (placeIn (z .u) xs i) (itemAt xs (z .u) outRow (placeIn (z .u) xs i))
+              well =
+                  absorbWaitingAt-well (z .l) (Unit {0}) _ (here h .now) (placeIn (z .u) xs i)
+                  (itemAt xs (z .u) outRow (placeIn (z .u) xs i))
                   (here h .at .fine .well)
                   (subst (WellPut (Unit {0}) (length (here h .now .store .axes)))
                   (out-item (here h .at) (placeIn (z .u) xs i) (turn-at h .place) outside)
                   (every-at (WellPut (Unit {0}) (length (here h .now .store .axes))) (here h .now .out) outside (placeIn (z .u) xs i)
                   (here h .at .fine .well .output) inside)) .well;
-              inside = absorbWaitingAt-by (z .l) (PassInside (z .l) (z .qubits)) (inside-kept (z .l) (z .qubits) (h .at .granted .sized .bits)) k _
+              inside =
+                  absorbWaitingAt-by (z .l) (PassInside (z .l) (z .qubits))
+                  (inside-kept (z .l) (z .qubits) (h .at .granted .sized .bits)) k _
                   (here h .now) (placeIn (z .u) xs i) (itemAt xs (z .u) outRow (placeIn (z .u) xs i))
                   (subst SmallItem (out-item (here h .at) (placeIn (z .u) xs i) (turn-at h .place) outside)
                   (every-at SmallItem (here h .now .out) outside (placeIn (z .u) xs i) (here h .at .fine .inside .small) inside))
@@ -644,7 +679,13 @@ module _ {z : Shape} {st₀ : State} {n : ℕ} {all : Bool} {id : ℕ} {ws₀ xs
           ahead = record {
             below = λ v c d. omega (arith, step h .same v (inr (omega arith)), here h .ahead .below v (omega arith) d, same-out);
             rises = λ v w c d f.
-                omega (arith, step h .same v (inr (omega arith)), step h .same w (inr (omega arith)), here h .ahead .rises v w (omega arith) d f);
+                omega (
+                  arith,
+                  step h .same v (inr (omega arith)),
+                  step h .same w (inr (omega arith)),
+                  here h .ahead .rises v w
+                      (omega arith) d f,
+                );
           };
           later = λ v c d. omega (arith, step h .same v (inr (omega arith)), here h .ahead .rises i v (omega arith) (omega arith) d);
           kept = kept-next (step h .turned s e);
@@ -684,7 +725,8 @@ scan-end {z} {st₀} {n} {all} {id} {ws₀} {xs₀} {ws} {xs} {st} {i} b e k p h
       all = λ j c f. go t j c (ap isWaiting (out-item (t .at) j c outside) ∙ f) (decLt j (t .place));
     })) (omega (arith, b .merges)) (omega (arith, b .absorbed, b .index)))
   where
-    go : (t : WaitNow z st₀ n all id ws xs st i k p) (j : ℕ) → j < st .out → isWaiting (getD (t .now .out) j outside) ≡ true → Dec (j < t .place)
+    go : (t : WaitNow z st₀ n all id ws xs st i k p) (j : ℕ) → j < st .out → isWaiting (getD (t .now .out) j outside) ≡ true
+        → Dec (j < t .place)
         → Named (placeIn (z .u) xs) 0 (st .waiting) j
     go t j c f (yes d) = t .waits j d f
     go t j c f (no d) = let x = t .named j (omega arith) c f in absurd (omega (arith, x .low, x .high))

@@ -47,8 +47,8 @@ fn picks(words: &[u64], numbers: &[u32], z: Sizes, all: bool, b: usize, id: usiz
     axes::anticommute(words, numbers, z, b, id)
 }
 
-// Place j of the list: what is there is passed over if it does not wait, left to wait if it is not picked, else absorbed. What is left
-// to wait comes behind the places that are kept.
+// Place i of the list has its turn: the output there is passed over if it does not wait, left to wait if it is not picked, else absorbed.
+// What is left to wait comes behind the places that are kept.
 fn waiting_turn(
     words: &mut [u64],
     numbers: &mut [u32],

@@ -1,7 +1,7 @@
 -- An axis is carried: the state after it, and what its image is to the model. Assumes nothing.
 use mathlib.Core.Path.{_≡_, refl, sym, ap, _∙_}
 use mathlib.Core.List.{List}
-use Prim.Native.Nat.{ℕ, _≤_, _<_}
+use Prim.Native.Nat.{ℕ, _<_}
 use native.Mathlib.Omega.{arith}
 use lib.ListN.{length}
 use Rattle.model.specs.Lists.{allOf, anyOf, member}
@@ -51,7 +51,8 @@ module _ {z : Shape} {st : State} {a : ℕ} {ws xs : List ℕ} {m : Absorption} 
     unfolding allOf member anyOf
     carry-left = record { words = kept-later (omega arith) (call .0 .words); numbers = only-of streamRows refl (call .0 .numbers) }
 
-    pub carry-refused : r ≡ Rattle.carrying.specs.declared.Carried.the-variants.ExpansionLimit → z .limit < carryAxis (z .l) p a .store .peak
+    pub carry-refused : r ≡ Rattle.carrying.specs.declared.Carried.the-variants.ExpansionLimit
+        → z .limit < carryAxis (z .l) p a .store .peak
     unfolding carryAxis axisImage
     carry-refused e = unfold carriedStore imageOfAxis in (call .1 (heldOf p) carry-pre .refused e)
 
@@ -62,7 +63,8 @@ module _ {z : Shape} {st : State} {a : ℕ} {ws xs : List ℕ} {m : Absorption} 
       pub carried-holds : HoldsPass z m (withAxes (c .axes) st) ws′ xs′ (carryAxis (z .l) p a)
       unfolding carryAxis axisImage member anyOf
       carried-holds =
-          pass-other (call .0 .numbers) refl refl refl (h .at .holds) (carryAxis (z .l) p a) (unfold carriedStore imageOfAxis in (to .holds)) refl refl
+          pass-other (call .0 .numbers) refl refl refl (h .at .holds) (carryAxis (z .l) p a)
+          (unfold carriedStore imageOfAxis in (to .holds)) refl refl
           (h .at .holds .merges-are) (h .at .holds .absorbed-are)
 
       pub carried-fine : FinePass z n (carryAxis (z .l) p a)
@@ -86,7 +88,8 @@ module _ {z : Shape} {st : State} {a : ℕ} {ws xs : List ℕ} {m : Absorption} 
       carried-id =
           to .id-is
           ∙ unfold carriedStore imageOfAxis imageId carryAxis axisImage in refl
-          ∙ unfold imageId in (ap (λ (v : Value). idOf (carryAxis (z .l) p a .store .axes) (v .word)) (sym (axisImage-carried (z .l) p a a-stored)))
+          ∙ unfold imageId in (ap (λ (v : Value). idOf (carryAxis (z .l) p a .store .axes) (v .word))
+          (sym (axisImage-carried (z .l) p a a-stored)))
 
       pub carried-turns : c .turns ≡ axisImage (z .l) (carryAxis (z .l) p a) a .turns
       carried-turns =

@@ -1,7 +1,7 @@
 -- What is known of a stream's output and axes where memory holds it. Assumes nothing.
-use mathlib.Core.Path.{_≡_, sym, ap, _∙_, subst}
+use mathlib.Core.Path.{_≡_, ap, _∙_, subst}
 use mathlib.Core.List.{List}
-use Prim.Native.Nat.{ℕ, _+_, _*_, _≤_, _<_}
+use Prim.Native.Nat.{ℕ, _≤_, _<_}
 use native.Mathlib.Omega.{arith}
 use lib.ListN.{length, getD}
 use Rattle.model.specs.Rules.{Absorption, lazy}
@@ -39,8 +39,10 @@ module _ {z : Shape} {m : Absorption} {n : ℕ} {st : State} {ws xs : List ℕ} 
   pub out-rotation : (i : ℕ) → i < st .out → taggedAt xs (z .u) outRow i .tag ≡ 0
       → (taggedAt xs (z .u) outRow i .axis < st .axes) × (taggedAt xs (z .u) outRow i .angle ≤ 7)
   out-rotation i b e =
-      let w = subst (WellPut (Unit {0}) (length (p .store .axes))) (out-item i b (barrier 0 0 0) ∙ said-rotation (taggedAt xs (z .u) outRow i) e)
-      (every-at (WellPut (Unit {0}) (length (p .store .axes))) (p .out) (barrier 0 0 0) i (h .fine .well .output) (omega (arith, out-long (h .holds)))) in
+      let w = subst (WellPut (Unit {0}) (length (p .store .axes)))
+      (out-item i b (barrier 0 0 0) ∙ said-rotation (taggedAt xs (z .u) outRow i) e)
+      (every-at (WellPut (Unit {0}) (length (p .store .axes))) (p .out) (barrier 0 0 0) i (h .fine .well .output)
+      (omega (arith, out-long (h .holds)))) in
       (omega (arith, w .0, axes-count (h .holds)), w .1 tt)
 
   -- both stores hold the axes

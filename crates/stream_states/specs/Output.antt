@@ -1,34 +1,32 @@
 -- The output and `last`: what writing them makes of the state that memory holds. Assumes nothing.
-use mathlib.Core.Path.{_≡_, refl, sym, ap, ap₂, _∙_, subst}
-use mathlib.Core.Logic.{_⊎_, inl, inr, _≢_}
-use mathlib.Core.Bool.{Bool, true, false, true≢false}
+use mathlib.Core.Path.{_≡_, refl, sym, ap, _∙_}
+use mathlib.Core.Logic.{_≢_}
+use mathlib.Core.Bool.{true, false, true≢false}
 use mathlib.Core.List.{List, [], _∷_, _++_}
-use Prim.Native.Nat.{ℕ, suc, _+_, _-_, _*_, _≤_, _<_}
+use Prim.Native.Nat.{ℕ, _+_, _-_, _*_, _≤_, _<_}
 use native.Mathlib.Decide.{ℕ-discrete}
 use native.Mathlib.Omega.{arith}
-use lib.Dec.{ltb, eqb}
 use lib.ListN.{length, getD, set}
 use borrow.Author.Tests.{lt-ltb, le-ltb, eq-eqb, ne-eqb}
 use Rattle.store.specs.Row.{row, Written}
-use Rattle.model.specs.Lists.{if_then_else_, allOf, anyOf, member}
-use Rattle.model.specs.Rules.{Absorption, off, atOnce, lazy}
-use Rattle.model.specs.Items.{rot, Item, rotation, barrier, isClifford}
+use Rattle.model.specs.Lists.{if_then_else_, anyOf, member}
+use Rattle.model.specs.Rules.{Absorption, off, lazy}
+use Rattle.model.specs.Items.{rot, Item, rotation, isClifford}
 use Rattle.model.specs.Clifford.{Touched}
-use Rattle.model.specs.Stream.{Place, nowhere, at, Pass, withLast, setAngle, putOut, setLast, leaveZero, putOutRotation}
+use Rattle.model.specs.Stream.{Place, nowhere, at, Pass, withLast, setAngle, putOut, setLast, putOutRotation}
 use Rattle.theory.specs.Cases.{if-true, if-false}
 use Rattle.layout.specs.declared.Shape.{Shape}
 use Rattle.layout.specs.Rows.{rowCount, outRow, lastRow, waitingRow, fSlot, fPhase, axesRows, written-row, entry-own, entry-other}
-use Rattle.layout.specs.Only.{Only, only-of, only-then, only-written}
-use Rattle.layout.specs.Shape.{Granted, longestRow}
+use Rattle.layout.specs.Only.{Only, only-written}
 use Rattle.axes.specs.Held.{held-rows}
 use Rattle.items.specs.declared.Tagged.{Tagged}
 use Rattle.items.specs.View.{itemRows, taggedAt, itemSaid, itemAt, itemsIn, said-rotation, view-length, view-other, tagged-other}
-use Rattle.items.specs.Put.{EntryPre, ItemPut, taggedRotation, put-set-0, put-end-0}
+use Rattle.items.specs.Put.{ItemPut, taggedRotation, put-set-0, put-end-0}
 use Rattle.words_wellformed.specs.Conjugation.{value-eq}
 use Rattle.waiting.specs.Places.{placeIn, Rising, Named, rising-as, named-as}
 use Rattle.clifford.specs.Holds.{imageIn, Holds}
 use Rattle.stream_states.specs.declared.State.{State}
-use Rattle.stream_states.specs.States.{withWaiting, heldOf, placeSaid, lastIn, isWaiting, Waits, HoldsPass, streamRows}
+use Rattle.stream_states.specs.States.{withWaiting, heldOf, placeSaid, lastIn, isWaiting, Waits, HoldsPass}
 
 -- ---- F stays where other rows change
 
@@ -123,7 +121,8 @@ module _ {z : Shape} {m : Absorption} {st : State} {ws xs xs′ rs : List ℕ} {
   same-last = o .rows lastRow (omega arith) b
 
   -- F, the axes and the counters may be others
-  pub pass-other : {ws′ : List ℕ} {n s i j : ℕ} (q : Pass) → Holds z n s ws′ xs′ (heldOf q) → q .out ≡ p .out → q .last ≡ p .last → q .merges ≡ i
+  pub pass-other : {ws′ : List ℕ} {n s i j : ℕ} (q : Pass) → Holds z n s ws′ xs′ (heldOf q) → q .out ≡ p .out → q .last ≡ p .last
+      → q .merges ≡ i
       → q .absorbed ≡ j
       → HoldsPass z m (record {
         axes = n;
@@ -243,7 +242,8 @@ module _ {z : Shape} {m : Absorption} {st : State} {ws xs xs′ : List ℕ} {p :
       go : (i : ℕ) → i < z .u → Dec (i ≡ a) → setLast a nowhere (p .last) i ≡ placeSaid (st .start) (lastIn z xs′ i)
       go i e (yes f) =
           rw f (set-here a nowhere (p .last)
-          ∙ sym (ap (placeSaid (st .start)) (entry-own xs (z .u) lastRow a 0 last-set long (omega arith) inside) ∙ place-none (st .start) 0 (omega arith)))
+          ∙ sym (ap (placeSaid (st .start)) (entry-own xs (z .u) lastRow a 0 last-set long (omega arith) inside)
+          ∙ place-none (st .start) 0 (omega arith)))
       go i e (no n) =
           set-other a i nowhere (p .last) n ∙ h .last-is i e
           ∙ ap (placeSaid (st .start)) (sym (entry-other xs (z .u) lastRow a 0 last-set i n))
@@ -276,10 +276,6 @@ module _ {z : Shape} {m : Absorption} {st : State} {ws xs xs₁ xs₂ : List ℕ
   unfolding member anyOf
   named-row = put .only .rows lastRow (omega arith) refl ∙ written-row long (omega arith) inside wrote
 
-  pub put-left : Only streamRows (z .u) xs xs₂
-  unfolding allOf member anyOf
-  put-left = only-then (only-of streamRows refl only-named) (only-of streamRows refl (put .only))
-
   pub put-waits : m ≡ lazy → WaitsBut z xs₂ (st .waiting) (st .out + 1) (st .out) k
   unfolding member anyOf
   put-waits e =
@@ -292,7 +288,8 @@ module _ {z : Shape} {m : Absorption} {st : State} {ws xs xs₁ xs₂ : List ℕ
   rotation-put = record {
     f = holds-other (put .only) refl refl refl (holds-other only-named refl refl refl (h .f));
     out-is =
-        ap (λ (is : List Item). is ++ (rotation (rot a k) ∷ [])) (h .out-is ∙ sym (view-other only-named outRow (omega arith) refl itemSaid 0 (st .out)))
+        ap (λ (is : List Item). is ++ (rotation (rot a k) ∷ []))
+        (h .out-is ∙ sym (view-other only-named outRow (omega arith) refl itemSaid 0 (st .out)))
         ∙ sym (put-end-0 put itemSaid ∙ ap (λ (i : Item). itemsIn xs₁ (z .u) outRow 0 (st .out) ++ (i ∷ [])) (rotation-said a k));
     begun = omega (arith, h .begun);
     segment = λ i s e. tag-now i s e (ℕ-discrete i (st .out));

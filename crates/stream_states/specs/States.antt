@@ -1,19 +1,19 @@
 -- The stream's state in memory: F and the axes, the output in rows OUT, `last` in row LAST. Assumes nothing.
-use mathlib.Core.Path.{_≡_, refl, sym, ap, _∙_, subst}
-use mathlib.Core.Bool.{Bool, true, false, not, _&&_}
-use mathlib.Core.List.{List, [], _∷_}
-use Prim.Native.Nat.{ℕ, suc, _+_, _-_, _*_, _%_, _^_, _≤_, _<_}
+use mathlib.Core.Path.{_≡_, subst}
+use mathlib.Core.Bool.{Bool, true, false, not}
+use mathlib.Core.List.{List, _∷_}
+use Prim.Native.Nat.{ℕ, _+_, _-_, _≤_, _<_}
 use native.Mathlib.Omega.{arith}
-use lib.Dec.{ltb, eqb}
-use lib.ListN.{length, getD}
+use lib.Dec.{ltb}
+use lib.ListN.{getD}
 use Rattle.store.specs.Row.{row}
-use Rattle.model.specs.Lists.{if_then_else_, isEven}
+use Rattle.model.specs.Lists.{if_then_else_}
 use Rattle.model.specs.Rules.{Absorption, off, atOnce, lazy, Rules}
 use Rattle.model.specs.Items.{Item, rotation, barrier, isClifford}
 use Rattle.model.specs.Clifford.{Touched}
 use Rattle.model.specs.Stream.{Place, nowhere, at, Pass}
 use Rattle.layout.specs.declared.Shape.{Shape}
-use Rattle.layout.specs.Rows.{rowCount, outRow, lastRow, waitingRow, fSlot, fPhase, axesRows}
+use Rattle.layout.specs.Rows.{outRow, lastRow, waitingRow, fSlot, fPhase, axesRows}
 use Rattle.layout.specs.Only.{Only, only-none, only-then}
 use Rattle.layout.specs.Words.{KeptFrom, kept-none, kept-then}
 use Rattle.layout.specs.Shape.{Granted, granted-same}

@@ -2,11 +2,11 @@
 use mathlib.Core.Path.{_≡_, refl, sym, ap, _∙_, subst}
 use mathlib.Core.Bool.{Bool, true, false}
 use mathlib.Core.List.{List, [], _∷_}
-use Prim.Native.Nat.{ℕ, zero, suc, _+_, _-_, _*_, _^_, _≤_, _<_}
+use Prim.Native.Nat.{ℕ, _+_, _-_, _*_, _^_, _≤_, _<_}
 use native.Mathlib.Decide.{ℕ-discrete, decLt}
 use native.Mathlib.Omega.{arith}
 use lib.Dec.{eqb}
-use lib.ListN.{length, getD}
+use lib.ListN.{length}
 use borrow.Author.Tests.{eq-eqb, ne-eqb, eqb-true, eqb-false}
 use Rattle.store.specs.Row.{Written}
 use Rattle.model.specs.Lists.{if_then_else_}
@@ -192,12 +192,14 @@ module _ {u n j : ℕ} {xs : List ℕ} (pre : InsertPre u n j xs) {at : ℕ} (up
             go (yes g) = rw g last
             go (no g) = omega (arith, last, h .rises i (at - 1) (omega arith) (omega arith) (omega (arith, up .few)))
 
-        low : (end : ℕ) → Rising (placeIn u xs) 0 n end → j < end → (i : ℕ) → i < n + 1 → Dec (i ≡ at) → Dec (i < at) → placeIn u xs₂ i < end
+        low : (end : ℕ) → Rising (placeIn u xs) 0 n end → j < end → (i : ℕ) → i < n + 1 → Dec (i ≡ at) → Dec (i < at)
+            → placeIn u xs₂ i < end
         low end h b i d (yes g) l = rw g (omega (arith, here))
         low end h b i d (no g) (yes l) = omega (arith, before i l, h .below i (omega arith) (omega (arith, up .few)))
         low end h b i d (no g) (no l) = omega (arith, behind-as i (omega arith) d, h .below (i - 1) (omega arith) (omega arith))
 
-        rises : (end : ℕ) → Rising (placeIn u xs) 0 n end → (i k : ℕ) → i < k → k < n + 1 → Dec (i ≡ at) → Dec (i < at) → Dec (k ≡ at) → Dec (k < at)
+        rises : (end : ℕ) → Rising (placeIn u xs) 0 n end → (i k : ℕ) → i < k → k < n + 1 → Dec (i ≡ at) → Dec (i < at) → Dec (k ≡ at)
+            → Dec (k < at)
             → placeIn u xs₂ i < placeIn u xs₂ k
         rises end h i k d g (yes a) b (yes c) m = absurd (omega arith)
         rises end h i k d g (yes a) b (no c) m =
@@ -208,11 +210,16 @@ module _ {u n j : ℕ} {xs : List ℕ} (pre : InsertPre u n j xs) {at : ℕ} (up
         rises end h i k d g (no a) (yes b) (no c) (no m) =
             omega (arith, before i b, behind-as k (omega arith) g, lower end h i b, up .above (k - 1) (omega arith) (omega arith))
         rises end h i k d g (no a) (no b) c m =
-            omega (arith, behind-as i (omega arith) (omega arith), behind-as k (omega arith) g,
-            h .rises (i - 1) (k - 1) (omega arith) (omega arith) (omega arith))
+            omega (
+              arith,
+              behind-as i (omega arith) (omega arith),
+              behind-as k (omega arith) g,
+              h .rises (i - 1) (k - 1) (omega arith) (omega arith) (omega arith),
+            )
 
         other : (k : ℕ) (h : Named (placeIn u xs) 0 n k) → Dec (h .index < at) → Named (placeIn u xs₂) 0 (n + 1) k
-        other k h (yes b) = record { index = h .index; low = omega arith; high = omega (arith, h .high); here = before (h .index) b ∙ h .here }
+        other k h (yes b) =
+            record { index = h .index; low = omega arith; high = omega (arith, h .high); here = before (h .index) b ∙ h .here }
         other k h (no b) = record {
           index = h .index + 1;
           low = omega arith;

@@ -1,7 +1,8 @@
 -- Absorbed at once; put out where nothing is named or the place is not reached; else merged. Assumes nothing.
 use borrow.Author.Tests.{not-true, not-false}
 use Rattle.merging.specs.Steps.{absorbed-left}
-use Rattle.merging.specs.Taking.{taking-put, taking-last, taking-absorbs, taking-reach, taking-merges, take-once, take-nowhere, take-far}
+use Rattle.merging.specs.Taking.{taking-put, taking-last, taking-absorbs, taking-reach, taking-merges, take-once, take-nowhere}
+use Rattle.merging.specs.Taking.{take-far}
 use Rattle.merging.specs.Taking.{take-merges, put-next, out-left, answer-is}
 use native.Mathlib.Omega.{arith}
 use borrow.Author.Needs.{needs}
@@ -16,8 +17,13 @@ absorb-requires c κs =
     let test = c .before .before in
     let at-once = test .before in
     let start = at-once .before .before .before in
-    record { m = start .pre .m; n = start .pre .n; p = start .pre .p; it = taking-absorbs (start .pre .it) (at-once .at-once .ensures)
-    (test .if1 .taken) }
+    record {
+      m = start .pre .m;
+      n = start .pre .n;
+      p = start .pre .p;
+      it = taking-absorbs (start .pre .it) (at-once .at-once .ensures)
+          (test .if1 .taken);
+    }
 
 same-length : tie.Need-same-length
 same-length c = search needs
@@ -29,10 +35,12 @@ returns : tie.Need-returns
 returns c =
     let absorb = c .before .before .before .before in
     let test = absorb .before .before .before in
-    let at-once = test .before in
-    ( absorbed-left (absorb .absorb .ensures .0), λ g n p rules h. answer-is 0 1 (omega arith) (omega arith)
-    (absorb .absorb .ensures .1 _ n p (taking-absorbs h (at-once .at-once .ensures) (test .if1 .taken)))
-    (take-once rules h (at-once .at-once .ensures) (test .if1 .taken)), )
+    let at-once = test .before in (
+      absorbed-left (absorb .absorb .ensures .0),
+      λ g n p rules h. answer-is 0 1 (omega arith) (omega arith)
+          (absorb .absorb .ensures .1 _ n p (taking-absorbs h (at-once .at-once .ensures) (test .if1 .taken)))
+          (take-once rules h (at-once .at-once .ensures) (test .if1 .taken)),
+    )
 
 last-of-requires : tie.Need-last-of-requires
 last-of-requires c κs = taking-last (c .before .before .before .before .before .pre .it)
@@ -49,9 +57,11 @@ returns-2 c =
     let test = put-out .before .before in
     let last-of = test .before in
     let test′ = last-of .before .before in
-    let at-once = test′ .before in
-    ( out-left (put-out .put-out .ensures), λ g n p rules h. put-next (h .mode) (h .at .holds) (put-out .put-out .ensures)
-    (take-nowhere rules h (at-once .at-once .ensures) (test′ .if1 .left) (last-of .last-of .ensures) (test .if2 .taken)), )
+    let at-once = test′ .before in (
+      out-left (put-out .put-out .ensures),
+      λ g n p rules h. put-next (h .mode) (h .at .holds) (put-out .put-out .ensures)
+          (take-nowhere rules h (at-once .at-once .ensures) (test′ .if1 .left) (last-of .last-of .ensures) (test .if2 .taken)),
+    )
 
 sizes-of-requires : tie.Need-sizes-of-requires
 sizes-of-requires c κs = search needs
@@ -87,10 +97,13 @@ returns-3 c =
     let test′ = sizes-of .before in
     let last-of = test′ .before in
     let test′′ = last-of .before .before in
-    let at-once = test′′ .before in
-    ( out-left (put-out2 .put-out2 .ensures), λ g n p rules h. put-next (h .mode) (h .at .holds) (put-out2 .put-out2 .ensures) (take-far
-    rules h (at-once .at-once .ensures) (test′′ .if1 .left) (last-of .last-of .ensures) (test′ .if2 .left) (sizes-of .sizes-of .ensures)
-    (can-reach .can-reach .ensures) (not-true _ (test .if3 .taken))), )
+    let at-once = test′′ .before in (
+      out-left (put-out2 .put-out2 .ensures),
+      λ g n p rules h. put-next (h .mode) (h .at .holds) (put-out2 .put-out2 .ensures) (take-far
+          rules h (at-once .at-once .ensures) (test′′ .if1 .left) (last-of .last-of .ensures) (test′ .if2 .left)
+          (sizes-of .sizes-of .ensures)
+          (can-reach .can-reach .ensures) (not-true _ (test .if3 .taken))),
+    )
 
 sub-merge : tie.Need-sub-merge
 sub-merge c = search needs
@@ -100,8 +113,13 @@ merge-requires c κs =
     let test = c .before .before .before .before .before .before .before in
     let last-of = test .before in
     let start = last-of .before .before .before .before .before .before in
-    record { m = start .pre .m; n = start .pre .n; p = start .pre .p; it = taking-merges (start .pre .it) (last-of .last-of .ensures)
-    (test .if2 .left) }
+    record {
+      m = start .pre .m;
+      n = start .pre .n;
+      p = start .pre .p;
+      it = taking-merges (start .pre .it) (last-of .last-of .ensures)
+          (test .if2 .left);
+    }
 
 same-length-6 : tie.Need-same-length-6
 same-length-6 c = search needs
@@ -118,11 +136,14 @@ returns-4 c =
     let test′ = sizes-of .before in
     let last-of = test′ .before in
     let test′′ = last-of .before .before in
-    let at-once = test′′ .before in
-    ( merge .merge .ensures .0, λ g n p rules h. answer-is 1 1 (omega arith) (omega arith) (merge .merge .ensures .1 _ n p
-    (taking-merges h (last-of .last-of .ensures) (test′ .if2 .left))) (take-merges rules h (at-once .at-once .ensures) (test′′ .if1 .left)
-    (last-of .last-of .ensures) (test′ .if2 .left) (sizes-of .sizes-of .ensures) (can-reach .can-reach .ensures)
-    (not-false _ (test .if3 .left))), )
+    let at-once = test′′ .before in (
+      merge .merge .ensures .0,
+      λ g n p rules h. answer-is 1 1 (omega arith) (omega arith) (merge .merge .ensures .1 _ n p
+          (taking-merges h (last-of .last-of .ensures) (test′ .if2 .left)))
+          (take-merges rules h (at-once .at-once .ensures) (test′′ .if1 .left)
+          (last-of .last-of .ensures) (test′ .if2 .left) (sizes-of .sizes-of .ensures) (can-reach .can-reach .ensures)
+          (not-false _ (test .if3 .left))),
+    )
 
 pub take-spec : {M : Type 1} → statement M
 take-spec =

@@ -17,8 +17,13 @@ absorb-waiting-requires c κs =
     let test = c .before .before in
     let test′ = test .before .before in
     let start = test′ .before .before .before .before in
-    record { m = start .pre .m; n = start .pre .n; p = start .pre .p; it = all-there (start .pre .it) (not-false _ (test′ .if1 .left))
-    (not-false _ (test .if2 .left)); }
+    record {
+      m = start .pre .m;
+      n = start .pre .n;
+      p = start .pre .p;
+      it = all-there (start .pre .it) (not-false _ (test′ .if1 .left))
+          (not-false _ (test .if2 .left));
+    }
 
 same-length : tie.Need-same-length
 same-length c = search needs
@@ -30,9 +35,11 @@ returns-3 : tie.Need-returns-3
 returns-3 c =
     let absorb-waiting = c .before .before .before .before in
     let test = absorb-waiting .before .before .before in
-    let test′ = test .before .before in
-    ( absorb-waiting .absorb-waiting .ensures .0, λ m n p h. all-as h (not-false _ (test′ .if1 .left)) (not-false _ (test .if2 .left))
-    (absorb-waiting .absorb-waiting .ensures .1 n p (all-there h (not-false _ (test′ .if1 .left)) (not-false _ (test .if2 .left)))), )
+    let test′ = test .before .before in (
+      absorb-waiting .absorb-waiting .ensures .0,
+      λ m n p h. all-as h (not-false _ (test′ .if1 .left)) (not-false _ (test .if2 .left))
+          (absorb-waiting .absorb-waiting .ensures .1 n p (all-there h (not-false _ (test′ .if1 .left)) (not-false _ (test .if2 .left)))),
+    )
 
 pub absorb-all-spec : {M : Type 1} → statement M
 absorb-all-spec =

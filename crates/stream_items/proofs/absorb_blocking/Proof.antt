@@ -27,8 +27,9 @@ same-length-2 c = search needs
 returns : tie.Need-returns
 returns c =
     let carry = c .before .before .before .before .before .before in
-    let start = carry .before .before .before .before .before in
-    ( carry-left (start .pre .it .carry) (carry .carry .ensures), λ n p h. blocked-limit (carry .carry .ensures) h (c .enum-told .given .1),
+    let start = carry .before .before .before .before .before in (
+      carry-left (start .pre .it .carry) (carry .carry .ensures),
+      λ n p h. blocked-limit (carry .carry .ensures) h (c .enum-told .given .1),
     )
 
 with-axes-requires : tie.Need-with-axes-requires
@@ -40,8 +41,13 @@ absorb-waiting-requires c κs =
     let c′ = with-axes .before .before in
     let carry = c′ .before .before .before .before .before .before in
     let start = carry .before .before .before .before .before in
-    record { m = lazy; n = start .pre .n; p = _; it = wait-there (carry .carry .ensures) (start .pre .it) (c′ .c .given .1)
-    (with-axes .with-axes .ensures); }
+    record {
+      m = lazy;
+      n = start .pre .n;
+      p = _;
+      it = wait-there (carry .carry .ensures) (start .pre .it) (c′ .c .given .1)
+          (with-axes .with-axes .ensures);
+    }
 
 same-length-3 : tie.Need-same-length-3
 same-length-3 c = search needs
@@ -55,10 +61,13 @@ returns-2 c =
     let with-axes = absorb-waiting .before .before .before in
     let c′ = with-axes .before .before in
     let carry = c′ .before .before .before .before .before .before in
-    let start = carry .before .before .before .before .before in
-    ( left-then (carry-left (start .pre .it .carry) (carry .carry .ensures)) (absorb-waiting .absorb-waiting .ensures .0), λ n p h.
-    blocked-as (carry .carry .ensures) h (c′ .c .given .1) (with-axes .with-axes .ensures) (absorb-waiting .absorb-waiting .ensures .1 n _
-    (wait-there (carry .carry .ensures) h (c′ .c .given .1) (with-axes .with-axes .ensures))), )
+    let start = carry .before .before .before .before .before in (
+      left-then (carry-left (start .pre .it .carry) (carry .carry .ensures)) (absorb-waiting .absorb-waiting .ensures .0),
+      λ n p h.
+          blocked-as (carry .carry .ensures) h (c′ .c .given .1) (with-axes .with-axes .ensures)
+          (absorb-waiting .absorb-waiting .ensures .1 n _
+          (wait-there (carry .carry .ensures) h (c′ .c .given .1) (with-axes .with-axes .ensures))),
+    )
 
 pub absorb-blocking-spec : {M : Type 1} → statement M
 absorb-blocking-spec =

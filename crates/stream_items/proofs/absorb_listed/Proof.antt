@@ -46,9 +46,11 @@ returns : tie.Need-returns Inv-loop μ-loop
 returns c =
     let waiting-turn = c .before .before .before .before .before .before in
     let turn = waiting-turn .before .before .before in
-    let head = turn .before in
-    ( scan-left (head .loop .inv) (turn .loop-test .taken) (waiting-turn .waiting-turn .ensures), scan-limit (head .loop .inv)
-    (turn .loop-test .taken) (waiting-turn .waiting-turn .ensures) (c .enum-told .given .1), )
+    let head = turn .before in (
+      scan-left (head .loop .inv) (turn .loop-test .taken) (waiting-turn .waiting-turn .ensures),
+      scan-limit (head .loop .inv)
+          (turn .loop-test .taken) (waiting-turn .waiting-turn .ensures) (c .enum-told .given .1),
+    )
 
 add-i : tie.Need-add-i Inv-loop μ-loop
 add-i c =

@@ -23,9 +23,11 @@ same-length-2 c = search needs
 returns : tie.Need-returns
 returns c =
     let absorb-listed = c .before .before .before .before in
-    let with-waiting = absorb-listed .before .before .before in
-    (absorb-listed .absorb-listed .ensures .0, λ n p h. listed-as (with-waiting .with-waiting .ensures) h
-    (absorb-listed .absorb-listed .ensures .1 n p (listed (with-waiting .with-waiting .ensures) h)))
+    let with-waiting = absorb-listed .before .before .before in (
+      absorb-listed .absorb-listed .ensures .0,
+      λ n p h. listed-as (with-waiting .with-waiting .ensures) h
+          (absorb-listed .absorb-listed .ensures .1 n p (listed (with-waiting .with-waiting .ensures) h)),
+    )
 
 pub absorb-waiting-spec : {M : Type 1} → statement M
 absorb-waiting-spec =

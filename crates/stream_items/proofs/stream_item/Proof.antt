@@ -24,9 +24,11 @@ returns : tie.Need-returns
 returns c =
     let rotation = c .before .before .before .before in
     let test = rotation .before .before .before .before in
-    let start = test .before .before .before .before in
-    ( rotation .rotation .ensures .0, λ g n p rules h. item-as-rotation (start .args .shape) (start .args .rules) g (start .args .st)
-    (start .args .x) p (test .if1 .taken) (rotation .rotation .ensures .1 g n p rules (item-rotation h (test .if1 .taken))), )
+    let start = test .before .before .before .before in (
+      rotation .rotation .ensures .0,
+      λ g n p rules h. item-as-rotation (start .args .shape) (start .args .rules) g (start .args .st)
+          (start .args .x) p (test .if1 .taken) (rotation .rotation .ensures .1 g n p rules (item-rotation h (test .if1 .taken))),
+    )
 
 absorb-all-requires : tie.Need-absorb-all-requires
 absorb-all-requires c κs =
@@ -49,9 +51,11 @@ returns-2 : tie.Need-returns-2
 returns-2 c =
     let absorb-all = c .before .before .before .before .before .before in
     let test = absorb-all .before .before .before in
-    let start = test .before .before .before .before in
-    ( absorb-all .absorb-all .ensures .0, λ g n p rules h. item-limit (start .args .shape) (start .args .rules) g (start .args .st)
-    (start .args .x) p (test .if1 .left) (absorb-all .absorb-all .ensures .1 _ n p (item-all h)) (c .enum-told .given .1), )
+    let start = test .before .before .before .before in (
+      absorb-all .absorb-all .ensures .0,
+      λ g n p rules h. item-limit (start .args .shape) (start .args .rules) g (start .args .st)
+          (start .args .x) p (test .if1 .left) (absorb-all .absorb-all .ensures .1 _ n p (item-all h)) (c .enum-told .given .1),
+    )
 
 put-barrier-requires : tie.Need-put-barrier-requires
 put-barrier-requires c κs =
@@ -59,8 +63,13 @@ put-barrier-requires c κs =
     let absorb-all = t .before .before .before .before .before .before in
     let test = absorb-all .before .before .before in
     let start = test .before .before .before .before in
-    record { m = start .pre .m; n = start .pre .n; p = _; it = item-barrier (start .pre .it) (absorb-all .absorb-all .ensures .0)
-    (absorb-all .absorb-all .ensures .1 _ _ _ (item-all (start .pre .it))) (t .t .given .1) (test .if1 .left); }
+    record {
+      m = start .pre .m;
+      n = start .pre .n;
+      p = _;
+      it = item-barrier (start .pre .it) (absorb-all .absorb-all .ensures .0)
+          (absorb-all .absorb-all .ensures .1 _ _ _ (item-all (start .pre .it))) (t .t .given .1) (test .if1 .left);
+    }
 
 same-length-5 : tie.Need-same-length-5
 same-length-5 c = search needs
@@ -74,12 +83,16 @@ returns-3 c =
     let t = put-barrier .before .before .before .before in
     let absorb-all = t .before .before .before .before .before .before in
     let test = absorb-all .before .before .before in
-    let start = test .before .before .before .before in
-    ( left-then (absorb-all .absorb-all .ensures .0) (put-barrier .put-barrier .ensures .0), λ g n p rules h. let first =
-    absorb-all .absorb-all .ensures .1 _ n p (item-all h) in item-as-barrier (start .args .shape) (start .args .rules) g (start .args .st)
-    (start .args .x) p (test .if1 .left) first (t .t .given .1) (same-out h (absorb-all .absorb-all .ensures .0) first (t .t .given .1))
-    (put-barrier .put-barrier .ensures .1 _ n _
-    (item-barrier h (absorb-all .absorb-all .ensures .0) first (t .t .given .1) (test .if1 .left))), )
+    let start = test .before .before .before .before in (
+      left-then (absorb-all .absorb-all .ensures .0) (put-barrier .put-barrier .ensures .0),
+      λ g n p rules h. let first =
+          absorb-all .absorb-all .ensures .1 _ n p (item-all h) in item-as-barrier (start .args .shape) (start .args .rules) g
+          (start .args .st)
+          (start .args .x) p (test .if1 .left) first (t .t .given .1)
+          (same-out h (absorb-all .absorb-all .ensures .0) first (t .t .given .1))
+          (put-barrier .put-barrier .ensures .1 _ n _
+          (item-barrier h (absorb-all .absorb-all .ensures .0) first (t .t .given .1) (test .if1 .left))),
+    )
 
 pub stream-item-spec : {M : Type 1} → statement M
 stream-item-spec =

@@ -1,6 +1,7 @@
 -- Items i and later are still to be read. Assumes nothing.
 use Prim.Native.Nat.{_-_}
-use Rattle.stream_items.specs.Loop.{Reading, reading-first, reading-entry, reading-turn, reading-left, reading-limit, reading-next, reading-end}
+use Rattle.stream_items.specs.Loop.{Reading, reading-first, reading-entry, reading-turn, reading-left, reading-limit, reading-next}
+use Rattle.stream_items.specs.Loop.{reading-end}
 use native.Mathlib.Omega.{arith}
 use borrow.Author.Needs.{needs}
 use Rattle.stream_items.proofs.stream_items.Statement.{statement}
@@ -57,9 +58,12 @@ returns c =
     let stream-item = c .before .before .before .before .before .before in
     let item-at = stream-item .before .before .before in
     let turn = item-at .before .before in
-    let head = turn .before in
-    ( reading-left (head .loop .inv) (turn .loop-test .taken) (item-at .item-at .ensures) (stream-item .stream-item .ensures), reading-limit
-    (head .loop .inv) (turn .loop-test .taken) (item-at .item-at .ensures) (stream-item .stream-item .ensures) (c .enum-told .given .1), )
+    let head = turn .before in (
+      reading-left (head .loop .inv) (turn .loop-test .taken) (item-at .item-at .ensures) (stream-item .stream-item .ensures),
+      reading-limit
+          (head .loop .inv) (turn .loop-test .taken) (item-at .item-at .ensures) (stream-item .stream-item .ensures)
+          (c .enum-told .given .1),
+    )
 
 add-i : tie.Need-add-i Inv-loop μ-loop
 add-i c =

@@ -3,7 +3,8 @@ use borrow.Author.Tests.{not-true, not-false}
 use Rattle.model.specs.Rules.{off}
 use Rattle.stream_states.specs.States.{left-none}
 use Rattle.merging.specs.Steps.{absorbed-left}
-use Rattle.stream_items.specs.Waiting.{turn-read, turn-entry, turn-small, turned-over, turn-picks, turned-left, left-kept, turn-merged, turned-absorbed}
+use Rattle.stream_items.specs.Waiting.{turn-read, turn-entry, turn-small, turned-over, turn-picks, turned-left, left-kept}
+use Rattle.stream_items.specs.Waiting.{turn-merged, turned-absorbed}
 use native.Mathlib.Omega.{arith}
 use borrow.Author.Needs.{needs}
 use Rattle.stream_items.proofs.waiting_turn.Statement.{statement}
@@ -28,9 +29,11 @@ returns : tie.Need-returns
 returns c =
     let waits = c .before in
     let item-at = waits .before in
-    let read = item-at .before .before in
-    (left-none _ _ _, λ n p h. turned-over h (read .read .ensures) (item-at .item-at .ensures) (waits .waits .ensures)
-    (not-true _ (c .if1 .taken)))
+    let read = item-at .before .before in (
+      left-none _ _ _,
+      λ n p h. turned-over h (read .read .ensures) (item-at .item-at .ensures) (waits .waits .ensures)
+          (not-true _ (c .if1 .taken)),
+    )
 
 cast-axis : tie.Need-cast-axis
 cast-axis c = search needs
@@ -62,7 +65,9 @@ write-requires c κs =
 
 add-with-waiting : tie.Need-add-with-waiting
 add-with-waiting c =
-    let start = c .before .before .before .before .before .before .before .before .before .before .before .before .before .before .before .before .before .before .before in
+    let write = c .before .before .before .before in
+    let test = write .before .before .before .before in
+    let start = test .before .before .before .before .before .before .before .before .before .before .before in
     omega (arith, start .pre .it .kept, start .pre .it .index, start .pre .it .at .granted .sized .u-small)
 
 with-waiting-requires : tie.Need-with-waiting-requires
@@ -84,11 +89,13 @@ returns-2 c =
     let waits = test′ .before in
     let item-at = waits .before in
     let read = item-at .before .before in
-    let start = read .before .before .before .before in
-    ( left-kept (start .pre .it) (read .read .ensures) (item-at .item-at .ensures) (waits .waits .ensures) (not-false _ (test′ .if1 .left))
-    (sizes-of .sizes-of .ensures) (write .write .ensures), λ n p h. turned-left h (read .read .ensures) (item-at .item-at .ensures)
-    (waits .waits .ensures) (not-false _ (test′ .if1 .left)) (sizes-of .sizes-of .ensures) (picks .picks .ensures)
-    (not-true _ (test .if2 .taken)) (write .write .ensures) (c .with-waiting .ensures), )
+    let start = read .before .before .before .before in (
+      left-kept (start .pre .it) (read .read .ensures) (item-at .item-at .ensures) (waits .waits .ensures) (not-false _ (test′ .if1 .left))
+          (sizes-of .sizes-of .ensures) (write .write .ensures),
+      λ n p h. turned-left h (read .read .ensures) (item-at .item-at .ensures)
+          (waits .waits .ensures) (not-false _ (test′ .if1 .left)) (sizes-of .sizes-of .ensures) (picks .picks .ensures)
+          (not-true _ (test .if2 .taken)) (write .write .ensures) (c .with-waiting .ensures),
+    )
 
 absorb-merged-requires : tie.Need-absorb-merged-requires
 absorb-merged-requires c κs =
@@ -97,8 +104,13 @@ absorb-merged-requires c κs =
     let item-at = waits .before in
     let read = item-at .before .before in
     let start = read .before .before .before .before in
-    record { m = off; n = start .pre .n; p = start .pre .p; it = turn-merged (start .pre .it) (read .read .ensures)
-    (item-at .item-at .ensures) (waits .waits .ensures) (not-false _ (test .if1 .left)); }
+    record {
+      m = off;
+      n = start .pre .n;
+      p = start .pre .p;
+      it = turn-merged (start .pre .it) (read .read .ensures)
+          (item-at .item-at .ensures) (waits .waits .ensures) (not-false _ (test .if1 .left));
+    }
 
 same-length-4 : tie.Need-same-length-4
 same-length-4 c = search needs
@@ -115,11 +127,13 @@ returns-3 c =
     let test′ = sizes-of .before .before in
     let waits = test′ .before in
     let item-at = waits .before in
-    let read = item-at .before .before in
-    ( absorbed-left (absorb-merged .absorb-merged .ensures .0), λ n p h. turned-absorbed h (read .read .ensures) (item-at .item-at .ensures)
-    (waits .waits .ensures) (not-false _ (test′ .if1 .left)) (sizes-of .sizes-of .ensures) (picks .picks .ensures) (not-false _
-    (test .if2 .left)) (absorb-merged .absorb-merged .ensures .0) (absorb-merged .absorb-merged .ensures .1 off n p
-    (turn-merged h (read .read .ensures) (item-at .item-at .ensures) (waits .waits .ensures) (not-false _ (test′ .if1 .left)))), )
+    let read = item-at .before .before in (
+      absorbed-left (absorb-merged .absorb-merged .ensures .0),
+      λ n p h. turned-absorbed h (read .read .ensures) (item-at .item-at .ensures)
+          (waits .waits .ensures) (not-false _ (test′ .if1 .left)) (sizes-of .sizes-of .ensures) (picks .picks .ensures) (not-false _
+          (test .if2 .left)) (absorb-merged .absorb-merged .ensures .0) (absorb-merged .absorb-merged .ensures .1 off n p
+          (turn-merged h (read .read .ensures) (item-at .item-at .ensures) (waits .waits .ensures) (not-false _ (test′ .if1 .left)))),
+    )
 
 pub waiting-turn-spec : {M : Type 1} → statement M
 waiting-turn-spec =

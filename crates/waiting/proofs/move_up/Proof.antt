@@ -20,9 +20,11 @@ copy-up-requires : tie.Need-copy-up-requires Inv-loop μ-loop
 copy-up-requires c κs =
     let turn = c .before in
     let head = turn .before in
-    let start = head .before .before in
-    (moving-long (start .pre .0) (start .pre .2) (head .loop .inv), omega
-    (arith, turn .loop-test .taken, head .loop .inv .high, start .pre .2))
+    let start = head .before .before in (
+      moving-long (start .pre .0) (start .pre .2) (head .loop .inv),
+      omega
+          (arith, turn .loop-test .taken, head .loop .inv .high, start .pre .2),
+    )
 
 loop-less : tie.Need-loop-less Inv-loop μ-loop
 loop-less c = omega (arith, c .before .before .before .before .loop-test .taken)
