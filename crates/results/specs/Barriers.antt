@@ -1,42 +1,21 @@
 -- Barriers are measurements and conditional rotations of the program. Assumes nothing.
-use mathlib.Core.Path.{_≡_, refl, sym, ap, _∙_, subst}
-use mathlib.Core.Bool.{Bool, true, false, not, true≢false}
-use mathlib.Core.List.{List, [], _∷_, _++_, map, flatten}
-use Prim.Native.Nat.{ℕ, zero, suc, _+_, _-_, _*_, _≤_, _<_}
-use native.Mathlib.Nat.{add-zero, zero-add, suc-mul, zero-mul}
+use mathlib.Core.Path.{_≡_, ap, subst}
+use mathlib.Core.Bool.{true, false, true≢false}
+use mathlib.Core.List.{List, [], _∷_}
+use Prim.Native.Nat.{ℕ, zero, suc, _+_, _-_, _≤_, _<_}
+use native.Mathlib.Nat.{add-zero, zero-add}
 use native.Mathlib.Omega.{arith}
-use lib.Dec.{eqb}
-use lib.ListN.{length, getD, take, drop, length-map}
-use lib.Seq.{take-add, length-take-le}
-use Rattle.store.specs.Chunk.{chunks, chunk-in}
-use Rattle.model.specs.Program.{Kind, rotate, measure, conditional, kindOf, isRotate, Operation, rowOf, Program, programOf}
+use lib.ListN.{length, getD}
+use Rattle.model.specs.Program.{Kind, rotate, measure, conditional, kindOf, isRotate, Operation, Program}
 use Rattle.model.specs.Words.{Value}
 use Rattle.model.specs.Roots.{operationRoot}
 use Rattle.model.specs.Packing.{packed, valuesOf, SignedAxis, signedAxis}
-use Rattle.model.specs.Items.{rot, Item, rotation, barrier}
-use Rattle.model.specs.Rounds.{Work}
+use Rattle.model.specs.Items.{Item, rotation, barrier}
 use Rattle.model.specs.Run.{itemOf, itemsFrom, startOf}
-use Rattle.model.specs.Results.{noOperation, operationAt, itemRecord, operationResults, rowResults}
-use Rattle.model.specs.Rewriting.{thenZeros}
+use Rattle.model.specs.Results.{noOperation, operationAt}
 use Rattle.theory.specs.Cases.{by-if}
-use Rattle.theory.specs.Checked.{angles-small, records-length}
 use Rattle.theory.specs.Every.{Every, every-append}
 use Rattle.theory.specs.StreamState.{barriersOf, barriersOf-append}
-use Rattle.layout.specs.declared.Shape.{Shape}
-use Rattle.layout.specs.Rows.{itemsRow}
-use Rattle.layout.specs.Words.{axisPlace}
-use Rattle.layout.specs.Shape.{Granted}
-use Rattle.axes.specs.View.{axesOf}
-use Rattle.records.specs.Records.{operationRecord, operationSaid}
-use Rattle.records.specs.Operations.{operationsIn, operations-count, operation-here}
-use Rattle.records.specs.Given.{Given, programIn, operations-in}
-use Rattle.items.specs.declared.Tagged.{Tagged}
-use Rattle.items.specs.View.{taggedAt, itemSaid, itemsIn, said-other, view-at-0, view-length}
-use Rattle.work.specs.Work.{FrameIn, WorkIn}
-use Rattle.results.specs.Record.{Barrier, RecordPre}
-use Rattle.results.specs.Zeros.{zeroedFrom}
-use Rattle.results.specs.Operations.{WritePre, ResultsWritten}
-use Rattle.results.specs.Rows.{RowsPre, rowsTo, rows-are}
 
 -- operation o is one
 abbrev pub BarrierOf : List Operation → ℕ → Type 0
@@ -49,17 +28,19 @@ item-barriers ops axes o rotate f k h e = by-if (λ (is : List Item). Every (Bar
 item-barriers ops axes o measure f k h e = ((h, ap isRotate e), tt)
 item-barriers ops axes o conditional f k h e = ((h, ap isRotate e), tt)
 
-items-barriers : (ops : List Operation) (axes : List (List ℕ)) (vs : List Value) (o : ℕ) (rest : List Operation) → o + length rest ≤ length ops
+items-barriers : (ops : List Operation) (axes : List (List ℕ)) (vs : List Value) (o : ℕ) (rest : List Operation)
+    → o + length rest ≤ length ops
     → ((j : ℕ) → j < length rest → operationAt ops (o + j) ≡ getD rest j noOperation)
     → Every (BarrierOf ops) (barriersOf (itemsFrom axes vs o rest))
 unfolding itemsFrom barriersOf
 items-barriers ops axes vs o [] h e = tt
 items-barriers ops axes vs o (op ∷ rest) h e =
-    let i = itemOf axes o (op .kind) (signedAxis axes vs (operationRoot op)) (op .angle) in
+    let f = signedAxis axes vs (operationRoot op) in
+    let i = itemOf axes o (op .kind) f (op .angle) in
     let here : operationAt ops o ≡ op = rw add-zero at (e 0 (omega arith)) in
     rw (barriersOf-append i (itemsFrom axes vs (suc o) rest))
     (every-append (BarrierOf ops) (barriersOf i) (barriersOf (itemsFrom axes vs (suc o) rest))
-    (item-barriers ops axes o (op .kind) (signedAxis axes vs (operationRoot op)) (op .angle) (omega arith) (ap (λ (x : Operation). x .kind) here))
+    (item-barriers ops axes o (op .kind) f (op .angle) (omega arith) (ap (λ (x : Operation). x .kind) here))
     (items-barriers ops axes vs (suc o) rest (omega arith)
     (λ j l. let z : suc o + j ≡ o + suc j = omega arith in rw z (e (suc j) (omega arith)))))
 

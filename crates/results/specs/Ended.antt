@@ -1,27 +1,22 @@
 -- At the end of a run: what the writing of results asks is granted, and what it writes is 01's. Assumes nothing.
 use mathlib.Core.Path.{_≡_, refl, sym, ap, _∙_, subst}
-use mathlib.Core.Bool.{Bool, true, false, not, true≢false}
-use mathlib.Core.List.{List, [], _∷_, _++_, map, flatten}
+use mathlib.Core.Bool.{Bool, not}
+use mathlib.Core.List.{List, _++_, map, flatten}
 use Prim.Native.Nat.{ℕ, zero, suc, _+_, _-_, _*_, _≤_, _<_}
-use native.Mathlib.Nat.{add-zero, zero-add, suc-mul, zero-mul}
+use native.Mathlib.Nat.{suc-mul, zero-mul}
 use native.Mathlib.Omega.{arith}
 use lib.Dec.{eqb}
-use lib.ListN.{length, getD, take, drop, length-map}
+use lib.ListN.{length, getD, take, drop}
 use lib.Seq.{take-add, length-take-le}
 use Rattle.store.specs.Chunk.{chunks, chunk-in}
-use Rattle.model.specs.Program.{Kind, rotate, measure, conditional, kindOf, isRotate, Operation, rowOf, Program, programOf}
-use Rattle.model.specs.Words.{Value}
-use Rattle.model.specs.Roots.{operationRoot}
-use Rattle.model.specs.Packing.{packed, valuesOf, SignedAxis, signedAxis}
+use Rattle.model.specs.Program.{isRotate, Operation, rowOf, Program, programOf}
 use Rattle.model.specs.Items.{rot, Item, rotation, barrier}
 use Rattle.model.specs.Rounds.{Work}
-use Rattle.model.specs.Run.{itemOf, itemsFrom, startOf}
-use Rattle.model.specs.Results.{noOperation, operationAt, itemRecord, operationResults, rowResults}
+use Rattle.model.specs.Results.{operationAt, itemRecord, operationResults, rowResults}
 use Rattle.model.specs.Rewriting.{thenZeros}
-use Rattle.theory.specs.Cases.{by-if}
 use Rattle.theory.specs.Checked.{angles-small, records-length}
-use Rattle.theory.specs.Every.{Every, every-append}
-use Rattle.theory.specs.StreamState.{barriersOf, barriersOf-append}
+use Rattle.theory.specs.Every.{Every}
+use Rattle.theory.specs.StreamState.{barriersOf}
 use Rattle.layout.specs.declared.Shape.{Shape}
 use Rattle.layout.specs.Rows.{itemsRow}
 use Rattle.layout.specs.Words.{axisPlace}
@@ -32,8 +27,8 @@ use Rattle.records.specs.Operations.{operationsIn, operations-count, operation-
 use Rattle.records.specs.Given.{Given, programIn, operations-in}
 use Rattle.items.specs.declared.Tagged.{Tagged}
 use Rattle.items.specs.View.{taggedAt, itemSaid, itemsIn, said-other, view-at-0, view-length}
-use Rattle.work.specs.Work.{FrameIn, WorkIn}
-use Rattle.results.specs.Record.{RecordPre}
+use Rattle.work.specs.Work.{WorkIn}
+use Rattle.results.specs.Record.{RecordPre, ItemsPre, TagsTo}
 use Rattle.results.specs.Barriers.{BarrierOf, barrier-among, barrier-kind}
 use Rattle.results.specs.Zeros.{zeroedFrom}
 use Rattle.results.specs.Operations.{WritePre, ResultsWritten}
@@ -68,7 +63,7 @@ module _ {z : Shape} {ns os rs : List ℕ} (given : Given z ns os rs) {w : Work}
       subst (λ (ops : List Operation). BarrierOf ops (x .tag - 1)) (operations-in z ns os rs)
       (barrier-among (BarrierOf (p .operations)) (w .items) i (x .tag - 1) (x .axis) (x .angle) d barriers l e)
 
-  pub entry-pre : (i : ℕ) → i < k → RecordPre os (taggedAt xs (z .u) itemsRow i)
+  entry-pre : (i : ℕ) → i < k → RecordPre os (taggedAt xs (z .u) itemsRow i)
   unfolding operationSaid
   entry-pre i h t =
       let o : ℕ = taggedAt xs (z .u) itemsRow i .tag - 1 in
@@ -84,14 +79,20 @@ module _ {z : Shape} {ns os rs : List ℕ} (given : Given z ns os rs) {w : Work}
         angle = rw said at small;
       }
 
+  -- the items are there
+  pub items-pre : ItemsPre os xs (z .u) k
+  items-pre =
+      let a = work .fits in
+      let b = granted .sized .row in
+      record { long = granted .numbers-long; fits = omega arith; barriers = entry-pre }
+
   -- what writing the operations asks
   pub write-pre : (to : List ℕ) → 6 * z .operations ≤ length to → WritePre os xs (z .u) k to
   write-pre to h =
       let a = work .fits in
-      let b = granted .sized .row in
-      record { long = granted .numbers-long; fits = omega arith; room = omega arith; barriers = entry-pre }
+      record { items = items-pre; room = omega arith }
 
-  pub tags-small : (i : ℕ) → i < k → taggedAt xs (z .u) itemsRow i .tag ≤ z .operations
+  pub tags-small : TagsTo xs (z .u) k (z .operations)
   tags-small i h = go (taggedAt xs (z .u) itemsRow i .tag) refl
     where
       go : (t : ℕ) → taggedAt xs (z .u) itemsRow i .tag ≡ t → t ≤ z .operations
@@ -105,7 +106,8 @@ module _ {z : Shape} {ns os rs : List ℕ} (given : Given z ns os rs) {w : Work}
   unfolding operationResults
   operations-written {to} {t} r =
       r .results (z .operations) tags-small
-      ∙ ap (λ (ops : List Operation). thenZeros to (flatten (map (itemRecord ops) (itemsIn xs (z .u) itemsRow 0 k)))) (sym (operations-in z ns os rs))
+      ∙ ap (λ (ops : List Operation). thenZeros to (flatten (map (itemRecord ops) (itemsIn xs (z .u) itemsRow 0 k))))
+      (sym (operations-in z ns os rs))
       ∙ ap (λ (is : List Item). thenZeros to (flatten (map (itemRecord (p .operations)) is))) (work .items)
 
   -- ---- rows
@@ -129,7 +131,7 @@ module _ {z : Shape} {ns os rs : List ℕ} (given : Given z ns os rs) {w : Work}
   unfolding zeroedFrom thenZeros axesOf
   words-zeroed {v} e =
       let m : ℕ = axisPlace (z .l) n in
-      let long : m ≤ length ws = omega (arith, work .axes .within, granted .words-long) in
+      let long : m ≤ length ws = omega (arith, work .axes .within, work .axes .words-long) in
       let f : take m ws ≡ flatten (w .store .axes) = sym (chunks-flat (2 * z .l) n ws) ∙ ap flatten (work .axes .are) in
       let l : length (flatten (w .store .axes)) ≡ m = sym (ap length f) ∙ length-take-le m ws long in
       rw (l, sym f) e

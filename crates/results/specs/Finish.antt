@@ -1,12 +1,11 @@
 -- The last step of an accepted run: results written, both work stores cleaned. Assumes nothing.
-use mathlib.Core.Path.{_≡_, refl, sym, ap, _∙_}
+use mathlib.Core.Path.{_≡_, refl, ap, _∙_}
 use mathlib.Core.Bool.{Bool, not}
-use mathlib.Core.List.{List, [], _∷_, flatten}
-use Prim.Native.Nat.{ℕ, _+_, _-_, _*_, _≤_}
+use mathlib.Core.List.{List, flatten}
+use Prim.Native.Nat.{ℕ, _-_, _*_, _≤_}
 use native.Mathlib.Omega.{arith}
 use lib.Dec.{eqb}
 use lib.ListN.{length}
-use Rattle.model.specs.Program.{Program}
 use Rattle.model.specs.Rounds.{Work}
 use Rattle.model.specs.Results.{operationResults, rowResults}
 use Rattle.model.specs.Rewriting.{thenZeros, zeros}
@@ -28,11 +27,8 @@ use Rattle.results.specs.Ended.{write-pre, operations-written, rows-pre,
 pub record FinishPre (z : Shape) (os : List ℕ) (k n : ℕ) (ws xs to rt : List ℕ) : Type 0 where
   pub operations : WritePre os xs (z .u) k to
   pub rows : RowsPre z xs rt
-  pub axes : axisPlace (z .l) n ≤ z .limit
-  pub limit : z .limit ≤ length ws
-  pub few : z .limit ≤ 1048576
-  pub l-few : z .l ≤ 64
-  pub items : k ≤ 65535
+  pub axes : axisPlace (z .l) n ≤ length ws
+  pub few : z .l ≤ 64
 
 pub record Finished (z : Shape) (os : List ℕ) (k n : ℕ) (changed : Bool) (ws xs to rt ws′ xs′ to′ rt′ : List ℕ) : Type 0 where
   pub operations : ResultsWritten os xs (z .u) k to to′
@@ -49,19 +45,12 @@ module _ {z : Shape} {ns os rs : List ℕ} (given : Given z ns os rs) {w : Work}
     (granted : Granted z ws xs) (work : WorkIn z (programIn z ns os rs) w n k ws xs)
     (barriers : Every (BarrierOf (programIn z ns os rs .operations)) (barriersOf (w .items))) where
   pub finish-pre : (to rt : List ℕ) → 6 * z .operations ≤ length to → 8 * z .qubits ≤ length rt → FinishPre z os k n ws xs to rt
-  finish-pre to rt a b =
-      let c = work .fits in
-      let d = granted .sized .operations in
-      let e = granted .words-long in
-      record {
-        operations = write-pre given granted work barriers to a;
-        rows = rows-pre given granted work barriers rt b;
-        axes = work .axes .within;
-        limit = omega arith;
-        few = granted .sized .limit;
-        l-few = granted .sized .few;
-        items = omega arith;
-      }
+  finish-pre to rt a b = record {
+    operations = write-pre given granted work barriers to a;
+    rows = rows-pre given granted work barriers rt b;
+    axes = omega (arith, work .axes .within, work .axes .words-long);
+    few = granted .sized .few;
+  }
 
   -- 01's slices after acceptance; s as they were lent
   pub finished-are : (s : Lent) (changed : Bool) {ws′ xs′ to′ rt′ : List ℕ} → changed ≡ not (eqb (w .absorbed) 0)

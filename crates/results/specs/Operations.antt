@@ -1,28 +1,26 @@
 -- The operations that come out, written one behind the other. Assumes nothing.
 use mathlib.Core.Path.{_≡_, refl, sym, ap, ap₂, _∙_, subst}
-use mathlib.Core.List.{List, [], _∷_, _++_, map, flatten}
-use Prim.Native.Nat.{ℕ, zero, suc, _+_, _-_, _*_, _≤_, _<_}
+use mathlib.Core.List.{List, [], _++_, map, flatten}
+use Prim.Native.Nat.{ℕ, _+_, _-_, _*_, _≤_, _<_}
 use native.Mathlib.Omega.{arith}
 use lib.ListN.{length, length-append}
 use Rattle.store.specs.Part.{put, put-length}
 use Rattle.store.specs.From.{flatten-one}
 use Rattle.model.specs.Rewriting.{thenZeros}
 use Rattle.model.specs.Results.{itemRecord}
-use Rattle.layout.specs.Rows.{rowCount, itemsRow}
+use Rattle.layout.specs.Rows.{itemsRow}
 use Rattle.records.specs.Operations.{operationsIn}
 use Rattle.items.specs.declared.Tagged.{Tagged}
 use Rattle.items.specs.View.{taggedAt, itemSaid, viewIn, itemsIn, view-none, view-more, view-map}
-use Rattle.items.specs.Put.{EntryPre}
 use Rattle.results.specs.declared.OperationResult.{OperationResult}
-use Rattle.results.specs.Record.{operationFields, RecordPre, RecordMade}
+use Rattle.results.specs.Record.{operationFields, RecordMade, ItemPre, ItemsPre, items-item, TagsTo}
 use Rattle.results.specs.Put.{put-front, put-behind}
 use Rattle.results.specs.Zeros.{zeroedFrom, zeroed-length, laid-zeroed}
 
 -- ---- one operation
 
 pub record OperationPre (os xs : List ℕ) (u i : ℕ) (to : List ℕ) : Type 0 where
-  pub item : EntryPre xs u itemsRow i
-  pub barrier : RecordPre os (taggedAt xs u itemsRow i)
+  pub item : ItemPre os xs u i
   pub room : 6 * i + 6 ≤ length to
 
 -- x's record stands at a place
@@ -42,10 +40,8 @@ operation-laid os x at to t r m h e = record {
 -- ---- all of them
 
 pub record WritePre (os xs : List ℕ) (u k : ℕ) (to : List ℕ) : Type 0 where
-  pub long : rowCount * u ≤ length xs
-  pub fits : k ≤ u
+  pub items : ItemsPre os xs u k
   pub room : 6 * k ≤ length to
-  pub barriers : (i : ℕ) → i < k → RecordPre os (taggedAt xs u itemsRow i)
 
 -- an item's record
 abbrev pub recordSaid : ℕ → List ℕ → Tagged → List ℕ
@@ -64,8 +60,8 @@ records-are count os xs u i = ap flatten (sym (view-map itemSaid xs u itemsRow (
 -- the first i operations are written
 pub record OperationsLaid (os xs : List ℕ) (u i : ℕ) (to t : List ℕ) : Type 0 where
   pub long : length t ≡ length to
-  pub laid : (count : ℕ) → ((j : ℕ) → j < i → taggedAt xs u itemsRow j .tag ≤ count) → t ≡ put to 0 (recordsTo count os xs u i)
-  pub six : (count : ℕ) → ((j : ℕ) → j < i → taggedAt xs u itemsRow j .tag ≤ count) → length (recordsTo count os xs u i) ≡ 6 * i
+  pub laid : (count : ℕ) → TagsTo xs u i count → t ≡ put to 0 (recordsTo count os xs u i)
+  pub six : (count : ℕ) → TagsTo xs u i count → length (recordsTo count os xs u i) ≡ 6 * i
 
 records-none : (count : ℕ) (os xs : List ℕ) (u : ℕ) → recordsTo count os xs u 0 ≡ []
 unfolding recordsTo flatten
@@ -91,14 +87,9 @@ module _ {os xs : List ℕ} {u k : ℕ} {to : List ℕ} (pre : WritePre os xs u 
     (h : i < k) where
   pub laid-needs : OperationPre os xs u i t
   laid-needs =
-      let a = pre .fits in
       let b = pre .room in
       let c = w .long in
-      record {
-        item = record { long = pre .long; rows = omega arith; here = omega arith };
-        barrier = pre .barriers i h;
-        room = omega arith;
-      }
+      record { item = items-item (pre .items) i h; room = omega arith }
 
   pub laid-more : {v : List ℕ} → OperationLaid os (taggedAt xs u itemsRow i) (6 * i) t v → OperationsLaid os xs u (i + 1) to v
   laid-more {v} p = record {
@@ -110,8 +101,7 @@ module _ {os xs : List ℕ} {u k : ℕ} {to : List ℕ} (pre : WritePre os xs u 
         ap length (records-more count os xs u i) ∙ length-append (recordsTo count os xs u i) _ ∙ omega arith;
   }
     where
-      lay : (count : ℕ) → ((j : ℕ) → j < i → taggedAt xs u itemsRow j .tag ≤ count) → taggedAt xs u itemsRow i .tag ≤ count
-          → v ≡ put to 0 (recordsTo count os xs u (i + 1))
+      lay : (count : ℕ) → TagsTo xs u i count → taggedAt xs u itemsRow i .tag ≤ count → v ≡ put to 0 (recordsTo count os xs u (i + 1))
       lay count f g =
           let e = recordsTo count os xs u i in
           let r = recordSaid count os (taggedAt xs u itemsRow i) in
@@ -131,7 +121,7 @@ laid-all {os} {xs} {u} {to = to} {t} e w = subst (λ (m : ℕ). OperationsLaid o
 -- results, then zeros
 pub record ResultsWritten (os xs : List ℕ) (u k : ℕ) (to t : List ℕ) : Type 0 where
   pub long : length t ≡ length to
-  pub results : (count : ℕ) → ((j : ℕ) → j < k → taggedAt xs u itemsRow j .tag ≤ count)
+  pub results : (count : ℕ) → TagsTo xs u k count
       → t ≡ thenZeros to (flatten (map (itemRecord (operationsIn count os)) (itemsIn xs u itemsRow 0 k)))
 
 pub results-written : {os xs : List ℕ} {u k : ℕ} {to t v : List ℕ} → WritePre os xs u k to → OperationsLaid os xs u k to t

@@ -1,11 +1,11 @@
 -- Records laid one behind the other into a slice. Assumes nothing.
-use mathlib.Core.Path.{_≡_, refl, sym, ap, _∙_, subst}
-use mathlib.Core.List.{List, [], _∷_, _++_, append-nil, append-assoc}
-use Prim.Native.Nat.{ℕ, zero, suc, _+_, _-_, _*_, _≤_, _<_}
+use mathlib.Core.Path.{_≡_, refl, sym, ap, _∙_}
+use mathlib.Core.List.{List, [], _∷_, _++_, append-assoc}
+use Prim.Native.Nat.{ℕ, _+_, _-_, _≤_, _<_}
 use native.Mathlib.Nat.{add-zero, zero-add}
 use native.Mathlib.Omega.{arith}
-use lib.ListN.{length, getD, set, take, drop, replicate, length-append, length-drop, length-replicate, length-set, drop-of-length-le}
-use lib.Seq.{length-take-le, take-at, drop-drop, drop-append-add, take-append-le, take-length}
+use lib.ListN.{length, set, drop, length-append, length-set}
+use lib.Seq.{take-at, drop-drop, drop-append-add}
 use Rattle.store.specs.Part.{part, put, part-length, put-part, put-set}
 
 -- ---- six numbers, four numbers, stored one by one

@@ -1,19 +1,19 @@
 -- An item as the record that comes out. Assumes nothing.
-use mathlib.Core.Path.{_≡_, refl, sym, ap, _∙_, subst}
+use mathlib.Core.Path.{_≡_, refl, sym, ap, _∙_}
 use mathlib.Core.List.{List, [], _∷_}
 use Prim.Native.Nat.{ℕ, zero, suc, _+_, _-_, _*_, _≤_, _<_}
 use native.Mathlib.Omega.{arith}
-use lib.Dec.{eqb}
 use lib.ListN.{length}
-use Rattle.model.specs.Lists.{if_then_else_}
-use Rattle.model.specs.Program.{Kind, rotate, measure, conditional, kindOf, Operation, noOutcome}
-use Rattle.model.specs.Items.{Item, rotation, barrier, withSign}
-use Rattle.model.specs.Results.{signField, barrierRecord, itemRecord, operationAt}
+use Rattle.model.specs.Program.{conditional, kindOf, Operation, noOutcome}
+use Rattle.model.specs.Items.{withSign}
+use Rattle.model.specs.Results.{signField, barrierRecord, itemRecord}
 use Rattle.records.specs.declared.OperationRecord.{OperationRecord}
 use Rattle.records.specs.Records.{operationRecord, operationSaid}
 use Rattle.records.specs.Operations.{operationsIn, operation-here}
 use Rattle.items.specs.declared.Tagged.{Tagged}
-use Rattle.items.specs.View.{itemSaid, said-rotation, said-other}
+use Rattle.layout.specs.Rows.{rowCount, itemsRow}
+use Rattle.items.specs.View.{taggedAt, itemSaid, said-rotation, said-other}
+use Rattle.items.specs.Put.{EntryPre}
 use Rattle.results.specs.declared.OperationResult.{OperationResult}
 
 -- "operations (kind, id, sign, angle, outcome, target)"
@@ -73,3 +73,25 @@ barrier-record os x r o n e m count h =
     ∙ ap (λ (y : OperationRecord). barrierRecord (operationSaid y) (kindOf (y .kind)) (x .axis) (x .angle)) e
     ∙ ap (λ (y : Operation). barrierRecord y (y .kind) (x .axis) (x .angle)) (sym (operation-here count os (x .tag - 1) (omega (arith, n))))
     ∙ sym (ap (itemRecord (operationsIn count os)) (said-other x n))
+
+-- ---- the items that come out
+
+-- item i is there
+pub record ItemPre (os xs : List ℕ) (u i : ℕ) : Type 0 where
+  pub entry : EntryPre xs u itemsRow i
+  pub barrier : RecordPre os (taggedAt xs u itemsRow i)
+
+-- k items are there
+pub record ItemsPre (os xs : List ℕ) (u k : ℕ) : Type 0 where
+  pub long : rowCount * u ≤ length xs
+  pub fits : k ≤ u
+  pub barriers : (i : ℕ) → i < k → RecordPre os (taggedAt xs u itemsRow i)
+
+pub items-item : {os xs : List ℕ} {u k : ℕ} → ItemsPre os xs u k → (i : ℕ) → i < k → ItemPre os xs u i
+items-item pre i h =
+    let a = pre .fits in
+    record { entry = record { long = pre .long; rows = omega arith; here = omega arith }; barrier = pre .barriers i h }
+
+-- the operations of those that are barriers are among the first count
+abbrev pub TagsTo : List ℕ → ℕ → ℕ → ℕ → Type 0
+TagsTo xs u k count = (j : ℕ) → j < k → taggedAt xs u itemsRow j .tag ≤ count

@@ -8,7 +8,7 @@ item-at-requires : tie.Need-item-at-requires
 item-at-requires c κs = search needs
 
 record-of-requires : tie.Need-record-of-requires
-record-of-requires c κs = rw (c .item-at .ensures) (c .before .before .before .before .pre .barrier)
+record-of-requires c κs = rw (c .item-at .ensures) (c .before .before .before .before .pre .item .barrier)
 
 mul-put-operation : tie.Need-mul-put-operation
 mul-put-operation c = search needs

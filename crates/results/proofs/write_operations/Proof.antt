@@ -28,7 +28,8 @@ loop-less c = omega arith
 loop-again : tie.Need-loop-again Inv-loop μ-loop
 loop-again c =
     let l = c .before .before .before .before .before in
-    (omega arith, laid-more (l .before .before .before .before .pre) (l .loop .inv .1) (omega arith) (c .before .before .write-operation .ensures))
+    let p = l .before .before .before .before .pre in
+    (omega arith, laid-more p (l .loop .inv .1) (omega arith) (c .before .before .write-operation .ensures))
 
 same-length : tie.Need-same-length Inv-loop μ-loop
 same-length c = c .before .loop .inv .1 .long
