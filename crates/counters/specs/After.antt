@@ -1,22 +1,20 @@
 -- The counters of what comes out: T-count and plain rotations. Assumes nothing.
-use mathlib.Core.Path.{_≡_, refl, sym, ap, ap₂, _∙_}
-use mathlib.Core.Bool.{Bool, true, false, not, _&&_}
-use mathlib.Core.List.{List, [], _∷_, map}
-use Prim.Native.Nat.{ℕ, zero, suc, _+_, _-_, _*_, _%_, _≤_, _<_}
+use mathlib.Core.Path.{_≡_, sym, ap, _∙_}
+use mathlib.Core.Bool.{Bool, not, _&&_}
+use mathlib.Core.List.{List, map}
+use Prim.Native.Nat.{ℕ, _+_, _-_, _%_, _≤_, _<_}
 use native.Mathlib.Omega.{arith}
 use lib.Dec.{eqb}
-use lib.ListN.{length}
-use Rattle.model.specs.Lists.{if_then_else_, countOf, isOdd}
+use Rattle.model.specs.Lists.{countOf, isOdd}
 use Rattle.model.specs.Program.{fieldOf}
-use Rattle.model.specs.Items.{Item, isRotation}
+use Rattle.model.specs.Items.{isRotation}
 use Rattle.model.specs.Results.{itemRecord, resultTCount}
-use Rattle.layout.specs.Rows.{rowCount, itemsRow}
+use Rattle.layout.specs.Rows.{itemsRow}
 use Rattle.records.specs.Operations.{operationsIn}
 use Rattle.items.specs.declared.Tagged.{Tagged}
 use Rattle.items.specs.View.{taggedAt, itemSaid, itemAt, viewIn, itemsIn, view-map}
-use Rattle.items.specs.Put.{EntryPre}
 use Rattle.results.specs.declared.OperationResult.{OperationResult}
-use Rattle.results.specs.Record.{operationFields, RecordPre, RecordMade}
+use Rattle.results.specs.Record.{RecordMade, TagsTo}
 use Rattle.results.specs.Operations.{recordSaid}
 use Rattle.counters.specs.Total.{total, TotalTo, total-none, total-more, total-all, oneIf, count-from}
 
@@ -24,10 +22,6 @@ use Rattle.counters.specs.Total.{total, TotalTo, total-none, total-more,
 
 unfoldable pub isOddRecord : List ℕ → Bool
 isOddRecord r = not (eqb (fieldOf r 0) 2) && isOdd (fieldOf r 3)
-
-pub record ItemPre (os xs : List ℕ) (u i : ℕ) : Type 0 where
-  pub item : EntryPre xs u itemsRow i
-  pub barrier : RecordPre os (taggedAt xs u itemsRow i)
 
 -- n is 1 if x is one, else 0
 pub record OddItem (os : List ℕ) (x : Tagged) (n : ℕ) : Type 0 where
@@ -39,23 +33,10 @@ pub odd-item : (os : List ℕ) (x : Tagged) (r : OperationResult) (n : ℕ) → 
 unfolding isOddRecord
 odd-item os x r n m e = record { number = λ count h. e .0 ∙ ap (λ (fs : List ℕ). oneIf (isOddRecord fs)) (m count h); small = e .1 }
 
-pub record AfterPre (os xs : List ℕ) (u k : ℕ) : Type 0 where
-  pub long : rowCount * u ≤ length xs
-  pub fits : k ≤ u
-  pub barriers : (i : ℕ) → i < k → RecordPre os (taggedAt xs u itemsRow i)
-
-pub after-item : {os xs : List ℕ} {u k : ℕ} → AfterPre os xs u k → (i : ℕ) → i < k → ItemPre os xs u i
-after-item pre i h =
-    let a = pre .fits in
-    record { item = record { long = pre .long; rows = omega arith; here = omega arith }; barrier = pre .barriers i h }
-
 -- ---- the loop: n of the first i of k items
 
 abbrev pub oddHere : ℕ → List ℕ → List ℕ → ℕ → ℕ → ℕ
 oddHere count os xs u j = oneIf (isOddRecord (recordSaid count os (taggedAt xs u itemsRow j)))
-
-abbrev pub TagsTo : List ℕ → ℕ → ℕ → ℕ → Type 0
-TagsTo xs u k count = (j : ℕ) → j < k → taggedAt xs u itemsRow j .tag ≤ count
 
 pub record OddTo (os xs : List ℕ) (u k i n : ℕ) : Type 0 where
   pub number : (count : ℕ) → TagsTo xs u k count → TotalTo (oddHere count os xs u) k i n
@@ -80,9 +61,8 @@ pub odd-all : {os xs : List ℕ} {u k i n : ℕ} → k ≤ i → OddTo os xs u k
 unfolding resultTCount viewIn isOddRecord
 odd-all {os} {xs} {u} {k} {i} {n} h w count g =
     total-all (oddHere count os xs u) k i n h (w .number count g)
-    ∙ sym (ap (countOf (λ (r : List ℕ). not (eqb (fieldOf r 0) 2) && isOdd (fieldOf r 3)))
-    (view-map itemSaid xs u itemsRow (itemRecord (operationsIn count os)) 0 k)
-    ∙ count-from (λ (r : List ℕ). not (eqb (fieldOf r 0) 2) && isOdd (fieldOf r 3)) (λ j. recordSaid count os (taggedAt xs u itemsRow j)) 0 k)
+    ∙ sym (ap (countOf isOddRecord) (view-map itemSaid xs u itemsRow (itemRecord (operationsIn count os)) 0 k)
+    ∙ count-from isOddRecord (λ j. recordSaid count os (taggedAt xs u itemsRow j)) 0 k)
 
 -- ---- plain rotations
 

@@ -1,19 +1,18 @@
 -- The counters of the program that was handed in. Assumes nothing.
-use mathlib.Core.Path.{_≡_, refl, sym, ap, ap₂, _∙_}
-use mathlib.Core.Bool.{Bool, true, false, not, _&&_}
-use mathlib.Core.List.{List, [], _∷_}
-use Prim.Native.Nat.{ℕ, zero, suc, _+_, _-_, _*_, _%_, _≤_, _<_}
+use mathlib.Core.Path.{_≡_, refl, sym, ap, _∙_}
+use mathlib.Core.Bool.{Bool, not, _&&_}
+use mathlib.Core.List.{List}
+use Prim.Native.Nat.{ℕ, zero, suc, _+_, _-_, _%_, _<_}
 use native.Mathlib.Omega.{arith}
 use lib.Dec.{eqb, ltb}
-use lib.ListN.{length, getD}
 use lib.Seq.{ext-getD}
 use borrow.Author.Tests.{ne-eqb, le-ltb}
 use Rattle.store.specs.From.{listFrom, from-length, from-at}
-use Rattle.model.specs.Lists.{if_then_else_, countOf, isOdd}
-use Rattle.model.specs.Program.{Kind, kindOf, isMeasure, isRotate, Operation}
+use Rattle.model.specs.Lists.{countOf, isOdd}
+use Rattle.model.specs.Program.{kindOf, isMeasure, isRotate, Operation}
 use Rattle.model.specs.Results.{noOperation, sourceTCount, sourceRotations}
 use Rattle.records.specs.declared.OperationRecord.{OperationRecord}
-use Rattle.records.specs.Records.{operationRecord, operationSaid}
+use Rattle.records.specs.Records.{operationSaid}
 use Rattle.records.specs.Operations.{operationsIn, operationHere, operations-count, operation-here}
 use Rattle.counters.specs.Total.{total, oneIf, count-from}
 

@@ -1,16 +1,13 @@
 -- All counters of an accepted run, and that they are 01's. Assumes nothing.
-use mathlib.Core.Path.{_≡_, refl, sym, ap, _∙_}
-use mathlib.Core.List.{List, [], _∷_}
-use Prim.Native.Nat.{ℕ, _+_, _*_, _≤_, _<_}
-use native.Mathlib.Omega.{arith}
+use mathlib.Core.Path.{_≡_, refl, _∙_}
+use mathlib.Core.List.{List}
+use Prim.Native.Nat.{ℕ, _*_, _≤_}
 use lib.ListN.{length}
-use Rattle.pauli.specs.Word.{width}
 use Rattle.model.specs.declared.Counters.{Counters}
 use Rattle.model.specs.Lists.{countOf}
 use Rattle.model.specs.Program.{Program}
 use Rattle.model.specs.Rules.{Rules}
 use Rattle.model.specs.Items.{isRotation}
-use Rattle.model.specs.Rounds.{Work}
 use Rattle.model.specs.Run.{Finished}
 use Rattle.model.specs.Results.{sourceTCount, sourceRotations, sourceWeight, depthOf, countersOf}
 use Rattle.theory.specs.Every.{Every}
@@ -23,18 +20,17 @@ use Rattle.records.specs.Given.{Given, programIn}
 use Rattle.items.specs.View.{itemsIn}
 use Rattle.work.specs.Work.{WorkIn}
 use Rattle.results.specs.Barriers.{BarrierOf}
-use Rattle.counters.specs.declared.Known.{Known}
-use Rattle.counters.specs.After.{AfterPre, TCountAfter}
+use Rattle.counters.specs.declared.RunCounts.{RunCounts}
+use Rattle.counters.specs.After.{TCountAfter}
 use Rattle.counters.specs.Weight.{WeightPre, WeightAfter}
-use Rattle.counters.specs.Ended.{t-before-is, rotations-before-is, after-pre, t-after-is, rotations-after-is, weight-pre, weight-after-is}
+use Rattle.counters.specs.Ended.{t-before-is, rotations-before-is, t-after-is, rotations-after-is, weight-pre, weight-after-is}
 
 pub record SummaryPre (z : Shape) (os ws xs : List ℕ) (k : ℕ) : Type 0 where
   pub records : z .operations * 6 ≤ length os
-  pub after : AfterPre os xs (z .u) k
   pub weight : WeightPre os ws xs (z .u) (z .l) k
 
--- c is what was known, and what was counted
-pub record Summed (z : Shape) (os ws xs : List ℕ) (k : ℕ) (n : Known) (c : Counters) : Type 0 where
+-- c has the run's counts, and what is counted over operations and items
+pub record Summed (z : Shape) (os ws xs : List ℕ) (k : ℕ) (n : RunCounts) (c : Counters) : Type 0 where
   pub t-before : c .«t_before» ≡ sourceTCount (operationsIn (z .operations) os)
   pub t-after : TCountAfter os xs (z .u) k (c .«t_after»)
   pub rotations-before : c .«rotations_before» ≡ sourceRotations (operationsIn (z .operations) os)
@@ -47,8 +43,8 @@ pub record Summed (z : Shape) (os ws xs : List ℕ) (k : ℕ) (n : Known) (c : C
   pub weight-before : c .«weight_before» ≡ n .«weight_before»
   pub weight-after : WeightAfter os ws xs (z .u) (z .l) k (c .«weight_after»)
 
--- what is known at the end: the run's own counts, the source's weight, both depths
-pub record KnownAs (r : Rules) (p : Program) (f : Finished) (n : Known) : Type 0 where
+-- n has what the run counted: merges, swaps, what was absorbed, both depths, the source's weight
+pub record CountsOf (r : Rules) (p : Program) (f : Finished) (n : RunCounts) : Type 0 where
   pub merges : n .merges ≡ f .end .merges
   pub swaps : n .swaps ≡ f .end .swaps
   pub absorbed : n .absorbed ≡ f .end .absorbed
@@ -63,15 +59,14 @@ module _ {z : Shape} {ns os rs : List ℕ} (given : Given z ns os rs) (f : Finis
   pub summary-pre : SummaryPre z os ws xs k
   summary-pre = record {
     records = given .operations-long;
-    after = after-pre given granted work barriers;
     weight = weight-pre given granted work barriers range;
   }
 
   -- 01's counters
-  pub summary-is : (r : Rules) (known : Known) {c : Counters} → KnownAs r (programIn z ns os rs) f known
-      → z .l ≡ width (programIn z ns os rs .qubits) → Summed z os ws xs k known c → c ≡ countersOf r (programIn z ns os rs) f
+  pub summary-is : (r : Rules) (counts : RunCounts) {c : Counters} → CountsOf r (programIn z ns os rs) f counts
+      → Summed z os ws xs k counts c → c ≡ countersOf r (programIn z ns os rs) f
   unfolding countersOf
-  summary-is r known {c} a l s =
+  summary-is r counts {c} a s =
       rw (
         t-before-is z ns os rs (s .t-before),
         t-after-is given granted work barriers (s .t-after),
@@ -83,5 +78,5 @@ module _ {z : Shape} {ns os rs : List ℕ} (given : Given z ns os rs) (f : Finis
         s .depth-before ∙ a .depth-before,
         s .depth-after ∙ a .depth-after,
         s .weight-before ∙ a .weight-before,
-        weight-after-is given granted work barriers range l (s .weight-after),
+        weight-after-is given granted work barriers range (s .weight-after),
       ) refl

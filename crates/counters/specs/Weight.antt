@@ -1,7 +1,7 @@
--- Weights: the letters other than I of all rotations, plain and conditional. Assumes nothing.
-use mathlib.Core.Path.{_≡_, refl, sym, ap, ap₂, _∙_, subst}
-use mathlib.Core.Bool.{Bool, true, false, not, _&&_}
-use mathlib.Core.List.{List, [], _∷_, map}
+-- Weights: an axis's letters other than I, those of all rotations, plain and conditional, that come out. Assumes nothing.
+use mathlib.Core.Path.{_≡_, refl, sym, ap, _∙_}
+use mathlib.Core.Bool.{true, false}
+use mathlib.Core.List.{List}
 use Prim.Native.Nat.{ℕ, zero, suc, _+_, _-_, _*_, _≤_, _<_}
 use native.Mathlib.Nat.{le-refl}
 use native.Mathlib.Omega.{arith}
@@ -11,31 +11,21 @@ use Rattle.bits.specs.Sum.{sumTo}
 use Rattle.pauli.specs.Word.{width}
 use Rattle.pauli.specs.Letter.{letterAt, other, acts, weight}
 use Rattle.model.specs.Lists.{if_then_else_, sumOf}
-use Rattle.model.specs.Program.{isMeasure, kindOf, Kind, rotate, measure, conditional, Operation, Program}
+use Rattle.model.specs.Program.{isMeasure, Kind, rotate, measure, conditional, Operation, Program}
 use Rattle.model.specs.Words.{wordOf}
-use Rattle.model.specs.Value.{valueAt}
-use Rattle.model.specs.Packing.{valuesOf}
 use Rattle.model.specs.Items.{Item, rotation, barrier}
 use Rattle.model.specs.Rounds.{Work}
-use Rattle.model.specs.Results.{operationAt, barrierRecord, itemRecord, sourceWeight, itemWeight}
-use Rattle.theory.specs.Cases.{if-true, if-false, by-if}
-use Rattle.layout.specs.declared.Shape.{Shape}
-use Rattle.layout.specs.Rows.{rowCount, itemsRow}
+use Rattle.model.specs.Results.{operationAt, barrierRecord, itemRecord, itemWeight}
+use Rattle.theory.specs.Cases.{if-true, if-false}
+use Rattle.layout.specs.Rows.{itemsRow}
 use Rattle.layout.specs.Words.{axisPlace}
 use Rattle.axes.specs.View.{axesOf}
-use Rattle.records.specs.declared.OperationRecord.{OperationRecord}
-use Rattle.records.specs.Records.{operationRecord, operationSaid}
-use Rattle.records.specs.Operations.{operationsIn, operationHere}
+use Rattle.records.specs.Operations.{operationsIn}
 use Rattle.items.specs.declared.Tagged.{Tagged}
 use Rattle.items.specs.View.{taggedAt, itemSaid, itemAt, itemOfTag, viewIn, itemsIn}
-use Rattle.items.specs.Put.{EntryPre}
-use Rattle.work.specs.Rows.{rootAt}
-use Rattle.work.specs.RowPut.{RootPre}
 use Rattle.results.specs.declared.OperationResult.{OperationResult}
-use Rattle.results.specs.Record.{operationFields, RecordPre, RecordMade}
-use Rattle.counters.specs.Total.{total, TotalTo, total-none, total-more, total-all, total-same, sum-from}
-use Rattle.counters.specs.Source.{operations-from, measure-test}
-use Rattle.counters.specs.After.{TagsTo}
+use Rattle.results.specs.Record.{operationFields, RecordMade, ItemPre, ItemsPre, items-item, TagsTo}
+use Rattle.counters.specs.Total.{TotalTo, total-none, total-more, total-all, sum-from}
 
 -- ---- a word's is at most its qubits'
 
@@ -75,9 +65,8 @@ unfoldable pub weightSaid : ℕ → List Operation → List (List ℕ) → Item 
 weightSaid l ops axes (rotation r) = weight l (wordOf axes (r .axis))
 weightSaid l ops axes (barrier o a s) = if isMeasure (operationAt ops o .kind) then 0 else weight l (wordOf axes a)
 
-pub record ItemPre (os ws xs : List ℕ) (u l i : ℕ) : Type 0 where
-  pub item : EntryPre xs u itemsRow i
-  pub barrier : RecordPre os (taggedAt xs u itemsRow i)
+pub record ItemAxisPre (os ws xs : List ℕ) (u l i : ℕ) : Type 0 where
+  pub item : ItemPre os xs u i
   pub axis : AxisPre ws l (taggedAt xs u itemsRow i .axis)
 
 pub record ItemWeight (os ws : List ℕ) (l : ℕ) (x : Tagged) (v : ℕ) : Type 0 where
@@ -85,19 +74,21 @@ pub record ItemWeight (os ws : List ℕ) (l : ℕ) (x : Tagged) (v : ℕ) : Type
   pub small : v ≤ 64 * l
 
 -- a record of kind 2 is a measurement's: its item weighs nothing
-kind-of : (ops : List Operation) (op : Operation) (kind : Kind) (a s w : ℕ) (r : OperationResult) → operationFields r ≡ barrierRecord op kind a s
+kind-of : (op : Operation) (kind : Kind) (a s w : ℕ) (r : OperationResult) → operationFields r ≡ barrierRecord op kind a s
     → (if isMeasure kind then 0 else w) ≡ (if eqb (r .kind) 2 then 0 else w)
 unfolding barrierRecord if_then_else_
-kind-of ops op rotate a s w r e = let z : _≡_ {A = ℕ} 6 0 = ap length e in absurd (omega arith)
-kind-of ops op measure a s w r e = let k : r .kind ≡ 2 = cc in rw k refl
-kind-of ops op conditional a s w r e = let k : r .kind ≡ 3 = cc in rw k refl
+kind-of op rotate a s w r e = let z : _≡_ {A = ℕ} 6 0 = ap length e in absurd (omega arith)
+kind-of op measure a s w r e = let k : r .kind ≡ 2 = cc in rw k refl
+kind-of op conditional a s w r e = let k : r .kind ≡ 3 = cc in rw k refl
 
 weighs : (l : ℕ) (ops : List Operation) (axes : List (List ℕ)) (t : ℕ) (x : Tagged) (r : OperationResult)
     → operationFields r ≡ itemRecord ops (itemOfTag t x)
     → weightSaid l ops axes (itemOfTag t x) ≡ (if eqb (r .kind) 2 then 0 else weight l (wordOf axes (x .axis)))
 unfolding weightSaid itemRecord itemOfTag
 weighs l ops axes zero x r e = let k : r .kind ≡ 1 = cc in sym (if-false _ _ (ap (λ (y : ℕ). eqb y 2) k))
-weighs l ops axes (suc o) x r e = kind-of ops (operationAt ops o) (operationAt ops o .kind) (x .axis) (x .angle) (weight l (wordOf axes (x .axis))) r e
+weighs l ops axes (suc o) x r e =
+    let op = operationAt ops o in
+    kind-of op (op .kind) (x .axis) (x .angle) (weight l (wordOf axes (x .axis))) r e
 
 pub weight-none : (os ws : List ℕ) (l : ℕ) (x : Tagged) (r : OperationResult) → RecordMade os x r → eqb (r .kind) 2 ≡ true
     → ItemWeight os ws l x 0
@@ -118,21 +109,13 @@ weight-some os ws l x r v m e a = record {
 -- ---- all items
 
 pub record WeightPre (os ws xs : List ℕ) (u l k : ℕ) : Type 0 where
-  pub long : rowCount * u ≤ length xs
-  pub fits : k ≤ u
+  pub items : ItemsPre os xs u k
   pub small : k ≤ 65535
   pub few : l ≤ 64
-  pub barriers : (i : ℕ) → i < k → RecordPre os (taggedAt xs u itemsRow i)
   pub words : (i : ℕ) → i < k → axisPlace l (taggedAt xs u itemsRow i .axis) + 2 * l ≤ length ws
 
-pub weight-item : {os ws xs : List ℕ} {u l k : ℕ} → WeightPre os ws xs u l k → (i : ℕ) → i < k → ItemPre os ws xs u l i
-weight-item pre i h =
-    let a = pre .fits in
-    record {
-      item = record { long = pre .long; rows = omega arith; here = omega arith };
-      barrier = pre .barriers i h;
-      axis = record { word = pre .words i h; few = pre .few };
-    }
+pub weight-item : {os ws xs : List ℕ} {u l k : ℕ} → WeightPre os ws xs u l k → (i : ℕ) → i < k → ItemAxisPre os ws xs u l i
+weight-item pre i h = record { item = items-item (pre .items) i h; axis = record { word = pre .words i h; few = pre .few } }
 
 abbrev pub AxesTo : List ℕ → ℕ → ℕ → ℕ → Type 0
 AxesTo xs u k n = (j : ℕ) → j < k → taggedAt xs u itemsRow j .axis < n
@@ -150,7 +133,8 @@ weigh-none os ws xs u l k = record { number = λ count n g h. total-none _ k; sm
 pub weigh-more : {os ws xs : List ℕ} {u l k i v m : ℕ} → l ≤ 64 → i < k → ItemWeight os ws l (taggedAt xs u itemsRow i) m
     → WeightTo os ws xs u l k i v → WeightTo os ws xs u l k (i + 1) (v + m)
 weigh-more {os} {ws} {xs} {u} {l} {k} {i} {v} {m} f h e w = record {
-  number = λ count n g b. total-more (weightHere count n os ws xs u l) k i v m h (e .number count n (g i h) (b i h)) (w .number count n g b);
+  number = λ count n g b.
+      total-more (weightHere count n os ws xs u l) k i v m h (e .number count n (g i h) (b i h)) (w .number count n g b);
   small = let a = w .small in let b = e .small in omega arith;
 }
 
@@ -171,89 +155,3 @@ pub weights-are : (p : Program) (w : Work) (i : Item) → weightSaid (width (p .
 unfolding weightSaid itemWeight
 weights-are p w (rotation r) = refl
 weights-are p w (barrier o a s) = refl
-
--- ---- an operation's, before any drops out
-
-pub record OperationPre (os ws xs : List ℕ) (u l i : ℕ) : Type 0 where
-  pub record-here : i * 6 + 6 ≤ length os
-  pub root : RootPre xs u i
-  pub axis : AxisPre ws l (rootAt xs u i .axis)
-
-unfoldable pub sourceSaid : ℕ → List (List ℕ) → List ℕ → List ℕ → ℕ → ℕ → ℕ
-sourceSaid l axes os xs u i = if isMeasure (operationHere os i .kind) then 0 else weight l (wordOf axes (rootAt xs u i .axis))
-
-pub record OperationWeight (os ws xs : List ℕ) (u l i v : ℕ) : Type 0 where
-  pub number : (n : ℕ) → rootAt xs u i .axis < n → v ≡ sourceSaid l (axesOf l n ws) os xs u i
-  pub small : v ≤ 64 * l
-
-measured : (os : List ℕ) (i : ℕ) (o : OperationRecord) → o ≡ operationRecord os i → eqb (o .kind) 2 ≡ isMeasure (operationHere os i .kind)
-unfolding operationSaid
-measured os i o e = ap (λ (x : OperationRecord). eqb (x .kind) 2) e ∙ measure-test (operationRecord os i .kind)
-
-pub source-none : (os ws xs : List ℕ) (u l i : ℕ) (o : OperationRecord) → o ≡ operationRecord os i → eqb (o .kind) 2 ≡ true
-    → OperationWeight os ws xs u l i 0
-unfolding sourceSaid
-source-none os ws xs u l i o e t = record { number = λ n h. sym (if-true _ _ (sym (measured os i o e) ∙ t)); small = omega arith }
-
-pub source-some : (os ws xs : List ℕ) (u l i : ℕ) (o : OperationRecord) (a v : ℕ) → o ≡ operationRecord os i → eqb (o .kind) 2 ≡ false
-    → a ≡ rootAt xs u i .axis → AxisWeight ws l a v → OperationWeight os ws xs u l i v
-unfolding sourceSaid
-source-some os ws xs u l i o a v e t f w =
-    let g = subst (λ (b : ℕ). AxisWeight ws l b v) f w in
-    record { number = λ n h. g .number n h ∙ sym (if-false _ _ (sym (measured os i o e) ∙ t)); small = g .small }
-
-pub record SourcePre (z : Shape) (os ws xs : List ℕ) : Type 0 where
-  pub long : rowCount * z .u ≤ length xs
-  pub fits : z .operations ≤ z .u
-  pub small : z .operations ≤ 65535
-  pub few : z .l ≤ 64
-  pub records : z .operations * 6 ≤ length os
-  pub words : (i : ℕ) → i < z .operations → axisPlace (z .l) (rootAt xs (z .u) i .axis) + 2 * z .l ≤ length ws
-
-pub source-item : {z : Shape} {os ws xs : List ℕ} → SourcePre z os ws xs → (i : ℕ) → i < z .operations → OperationPre os ws xs (z .u) (z .l) i
-source-item pre i h =
-    let a = pre .fits in
-    let b = pre .records in
-    record {
-      record-here = omega arith;
-      root = record { long = pre .long; here = omega arith };
-      axis = record { word = pre .words i h; few = pre .few };
-    }
-
-abbrev pub RootsTo : List ℕ → ℕ → ℕ → ℕ → Type 0
-RootsTo xs u k n = (j : ℕ) → j < k → rootAt xs u j .axis < n
-
-pub record SourceTo (os ws xs : List ℕ) (u l k i v : ℕ) : Type 0 where
-  pub number : (n : ℕ) → RootsTo xs u k n → TotalTo (sourceSaid l (axesOf l n ws) os xs u) k i v
-  pub small : v ≤ 4096 * i
-
-pub source-begin : (os ws xs : List ℕ) (u l k : ℕ) → SourceTo os ws xs u l k 0 0
-source-begin os ws xs u l k = record { number = λ n g. total-none _ k; small = omega arith }
-
-pub source-more : {os ws xs : List ℕ} {u l k i v m : ℕ} → l ≤ 64 → i < k → OperationWeight os ws xs u l i m → SourceTo os ws xs u l k i v
-    → SourceTo os ws xs u l k (i + 1) (v + m)
-source-more {os} {ws} {xs} {u} {l} {k} {i} {v} {m} f h e w = record {
-  number = λ n g. total-more (sourceSaid l (axesOf l n ws) os xs u) k i v m h (e .number n (g i h)) (w .number n g);
-  small = let a = w .small in let b = e .small in omega arith;
-}
-
--- the weight before, by the roots' axes
-abbrev pub WeightBefore : List ℕ → List ℕ → List ℕ → ℕ → ℕ → ℕ → ℕ → Type 0
-WeightBefore os ws xs u l k v = (n : ℕ) → RootsTo xs u k n → v ≡ total (sourceSaid l (axesOf l n ws) os xs u) 0 k
-
-pub source-end : {os ws xs : List ℕ} {u l k i v : ℕ} → k ≤ i → SourceTo os ws xs u l k i v → WeightBefore os ws xs u l k v
-source-end {os} {ws} {xs} {u} {l} {k} {i} {v} h w n g = total-all (sourceSaid l (axesOf l n ws) os xs u) k i v h (w .number n g)
-
--- it is the model's, where every operation's axis is its node's word
-pub source-weight : (p : Program) (axes : List (List ℕ)) (os xs : List ℕ) (u k : ℕ) → p .operations ≡ operationsIn k os
-    → ((i : ℕ) → i < k → wordOf axes (rootAt xs u i .axis) ≡ valueAt (valuesOf p) (operationHere os i .node) .word)
-    → total (sourceSaid (width (p .qubits)) axes os xs u) 0 k ≡ sourceWeight p
-unfolding sourceSaid sourceWeight
-source-weight p axes os xs u k e h =
-    total-same _ _ 0 k
-    (λ j a l. ap (λ (w : List ℕ). if isMeasure (operationHere os j .kind) then 0 else weight (width (p .qubits)) w) (h j (omega arith)))
-    ∙ sym (sum-from of (operationHere os) 0 k)
-    ∙ ap (sumOf of) (sym (e ∙ operations-from k os))
-  where
-    of : Operation → ℕ
-    of o = if isMeasure (o .kind) then 0 else weight (width (p .qubits)) (valueAt (valuesOf p) (o .node) .word)

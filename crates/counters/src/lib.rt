@@ -9,9 +9,10 @@ ghost use Rattle.model.specs.Lists.{countOf};
 ghost use Rattle.model.specs.Items.{isRotation};
 ghost use Rattle.items.specs.View.{taggedAt, itemsIn};
 ghost use Rattle.layout.specs.Rows.{itemsRow, rowCount};
-ghost use Rattle.counters.specs.After.{ItemPre as OddPre, OddItem, AfterPre, TCountAfter};
-ghost use Rattle.counters.specs.Weight.{AxisPre, AxisWeight, ItemPre, ItemWeight, WeightPre, WeightAfter};
-ghost use Rattle.counters.specs.Weight.{OperationPre, OperationWeight, SourcePre, WeightBefore};
+ghost use Rattle.results.specs.Record.{ItemPre, ItemsPre};
+ghost use Rattle.counters.specs.After.{OddItem, TCountAfter};
+ghost use Rattle.counters.specs.Weight.{AxisPre, AxisWeight, ItemAxisPre, ItemWeight, WeightPre, WeightAfter};
+ghost use Rattle.counters.specs.SourceWeight.{OperationPre, OperationWeight, SourcePre, WeightBefore};
 ghost use Rattle.counters.specs.Source.{isOddSource};
 ghost use Rattle.counters.specs.Summary.{SummaryPre, Summed};
 ghost use Rattle.counters.specs.Total.{oneIf};
@@ -73,7 +74,7 @@ pub fn rotations_before(operations: &[u32], count: usize) -> usize
 
 // 1 if item i comes out as an odd rotation, plain or conditional.
 fn odd_item(operations: &[u32], numbers: &[u32], u: usize, i: usize) -> usize
-    requires { ⌜ OddPre (now operations) (now numbers) u i ⌝ }
+    requires { ⌜ ItemPre (now operations) (now numbers) u i ⌝ }
     ensures { λ r. ⌜ OddItem (now (operations .entry)) (taggedAt (now (numbers .entry)) u itemsRow i) r ⌝ }
 {
     let x = items::item_at(numbers, u, ITEMS, i);
@@ -83,7 +84,7 @@ fn odd_item(operations: &[u32], numbers: &[u32], u: usize, i: usize) -> usize
 
 // The T-count of what comes out.
 pub fn t_after(operations: &[u32], numbers: &[u32], u: usize, k: usize) -> usize
-    requires { ⌜ AfterPre (now operations) (now numbers) u k ⌝ }
+    requires { ⌜ ItemsPre (now operations) (now numbers) u k ⌝ }
     ensures { λ r. ⌜ TCountAfter (now (operations .entry)) (now (numbers .entry)) u k r ⌝ }
 {
     let mut n: usize = 0;
@@ -110,13 +111,14 @@ fn axis_weight(words: &[u64], l: usize, a: usize) -> usize
     requires { ⌜ AxisPre (now words) l a ⌝ }
     ensures { λ r. ⌜ AxisWeight (now (words .entry)) l a r ⌝ }
 {
-    letter::weight(axes::axis(words, a, l), l)
+    letter::weight(axes_view::word(words, l, a), l)
 }
 
 // What item i weighs: nothing if it is a measurement.
 fn item_weight(operations: &[u32], words: &[u64], numbers: &[u32], shape: Shape, i: usize) -> usize
-    requires { ⌜ ItemPre (now operations) (now words) (now numbers) (shape .u) (shape .l) i ⌝ }
-    ensures { λ r. ⌜ ItemWeight (now (operations .entry)) (now (words .entry)) (shape .l) (taggedAt (now (numbers .entry)) (shape .u) itemsRow i) r ⌝ }
+    requires { ⌜ ItemAxisPre (now operations) (now words) (now numbers) (shape .u) (shape .l) i ⌝ }
+    ensures { λ r. ⌜ ItemWeight (now (operations .entry)) (now (words .entry)) (shape .l)
+        (taggedAt (now (numbers .entry)) (shape .u) itemsRow i) r ⌝ }
 {
     let x = items::item_at(numbers, shape.u, ITEMS, i);
     if results::record_of(operations, x).kind == 2 {
@@ -164,7 +166,8 @@ fn operation_weight(
 // The source's weight.
 pub fn weight_before(operations: &[u32], words: &[u64], numbers: &[u32], shape: Shape) -> usize
     requires { ⌜ SourcePre shape (now operations) (now words) (now numbers) ⌝ }
-    ensures { λ r. ⌜ WeightBefore (now (operations .entry)) (now (words .entry)) (now (numbers .entry)) (shape .u) (shape .l) (shape .operations) r ⌝ }
+    ensures { λ r. ⌜ WeightBefore (now (operations .entry)) (now (words .entry)) (now (numbers .entry))
+        (shape .u) (shape .l) (shape .operations) r ⌝ }
 {
     let mut n: usize = 0;
     for i in 0..shape.operations {
@@ -173,8 +176,8 @@ pub fn weight_before(operations: &[u32], words: &[u64], numbers: &[u32], shape: 
     n
 }
 
-// What is known at the end of a run without counting over its items.
-pub struct Known {
+// What the run itself has counted: by its passes, the T-depths of its start and end, the source's weight.
+pub struct RunCounts {
     pub merges: usize,
     pub swaps: usize,
     pub absorbed: usize,
@@ -190,10 +193,10 @@ pub fn summary(
     numbers: &[u32],
     shape: Shape,
     k: usize,
-    known: Known,
+    counts: RunCounts,
 ) -> Counters
     requires { ⌜ SummaryPre shape (now operations) (now words) (now numbers) k ⌝ }
-    ensures { λ r. ⌜ Summed shape (now (operations .entry)) (now (words .entry)) (now (numbers .entry)) k known r ⌝ }
+    ensures { λ r. ⌜ Summed shape (now (operations .entry)) (now (words .entry)) (now (numbers .entry)) k counts r ⌝ }
 {
     let before = t_before(operations, shape.operations);
     let after = t_after(operations, numbers, shape.u, k);
@@ -205,12 +208,12 @@ pub fn summary(
         t_after: after,
         rotations_before: source,
         rotations_after: left,
-        merges: known.merges,
-        swaps: known.swaps,
-        cliffords_to_frame: known.absorbed,
-        t_depth_before: known.depth_before,
-        t_depth_after: known.depth_after,
-        weight_before: known.weight_before,
+        merges: counts.merges,
+        swaps: counts.swaps,
+        cliffords_to_frame: counts.absorbed,
+        t_depth_before: counts.depth_before,
+        t_depth_after: counts.depth_after,
+        weight_before: counts.weight_before,
         weight_after: weight,
     }
 }
