@@ -40,7 +40,7 @@ fn odd_source(operations: &[u32], i: usize) -> usize
 }
 
 // The source's T-count.
-pub fn t_before(operations: &[u32], count: usize) -> usize
+fn t_before(operations: &[u32], count: usize) -> usize
     requires { ⌜ count * 6 ≤ length (now operations) ⌝ }
     ensures { λ r. ⌜ r ≡ sourceTCount (operationsIn count (now (operations .entry))) ⌝ }
 {
@@ -61,7 +61,7 @@ fn rotate_source(operations: &[u32], i: usize) -> usize
 }
 
 // The source's plain rotations.
-pub fn rotations_before(operations: &[u32], count: usize) -> usize
+fn rotations_before(operations: &[u32], count: usize) -> usize
     requires { ⌜ count * 6 ≤ length (now operations) ⌝ }
     ensures { λ r. ⌜ r ≡ sourceRotations (operationsIn count (now (operations .entry))) ⌝ }
 {
@@ -83,7 +83,7 @@ fn odd_item(operations: &[u32], numbers: &[u32], u: usize, i: usize) -> usize
 }
 
 // The T-count of what comes out.
-pub fn t_after(operations: &[u32], numbers: &[u32], u: usize, k: usize) -> usize
+fn t_after(operations: &[u32], numbers: &[u32], u: usize, k: usize) -> usize
     requires { ⌜ ItemsPre (now operations) (now numbers) u k ⌝ }
     ensures { λ r. ⌜ TCountAfter (now (operations .entry)) (now (numbers .entry)) u k r ⌝ }
 {
@@ -95,7 +95,7 @@ pub fn t_after(operations: &[u32], numbers: &[u32], u: usize, k: usize) -> usize
 }
 
 // The plain rotations that come out.
-pub fn rotations_after(numbers: &[u32], u: usize, k: usize) -> usize
+fn rotations_after(numbers: &[u32], u: usize, k: usize) -> usize
     requires { ⌜ (rowCount * u ≤ length (now numbers)) × (k ≤ u) ⌝ }
     ensures { λ r. ⌜ r ≡ countOf isRotation (itemsIn (now (numbers .entry)) u itemsRow 0 k) ⌝ }
 {
@@ -128,7 +128,7 @@ fn item_weight(operations: &[u32], words: &[u64], numbers: &[u32], shape: Shape,
 }
 
 // The weight of what comes out.
-pub fn weight_after(
+fn weight_after(
     operations: &[u32],
     words: &[u64],
     numbers: &[u32],

@@ -47,7 +47,7 @@ pub struct RowResult {
 }
 
 // 1 or -1, for 0 or 2 quarter turns.
-pub fn sign_field(s: u32) -> u32
+fn sign_field(s: u32) -> u32
     ensures { λ r. ⌜ r ≡ signField s ⌝ }
 {
     if s == 0 {
@@ -135,7 +135,7 @@ fn write_operations(operations: &[u32], numbers: &[u32], u: usize, k: usize, to:
 }
 
 // Zeros from a place to the end.
-pub fn zero_numbers_from(s: &mut [u32], from: usize)
+fn zero_numbers_from(s: &mut [u32], from: usize)
     requires { ⌜ from ≤ length (now s) ⌝ }
     ensures { λ _. ⌜ now (s .exit) ≡ zeroedFrom (now (s .entry)) from ⌝ }
 {
@@ -144,7 +144,7 @@ pub fn zero_numbers_from(s: &mut [u32], from: usize)
 }
 
 // The same for words.
-pub fn zero_words_from(s: &mut [u64], from: usize)
+fn zero_words_from(s: &mut [u64], from: usize)
     requires { ⌜ from ≤ length (now s) ⌝ }
     ensures { λ _. ⌜ now (s .exit) ≡ zeroedFrom (now (s .entry)) from ⌝ }
 {
@@ -153,7 +153,7 @@ pub fn zero_words_from(s: &mut [u64], from: usize)
 }
 
 // The operations that come out, then zeros.
-pub fn operation_results(operations: &[u32], numbers: &[u32], u: usize, k: usize, to: &mut [u32])
+fn operation_results(operations: &[u32], numbers: &[u32], u: usize, k: usize, to: &mut [u32])
     requires { ⌜ WritePre (now operations) (now numbers) u k (now to) ⌝ }
     ensures { λ _. ⌜ ResultsWritten (now (operations .entry)) (now (numbers .entry)) u k (now (to .entry)) (now (to .exit)) ⌝ }
 {
@@ -216,7 +216,7 @@ fn write_rows(numbers: &[u32], shape: Shape, changed: bool, to: &mut [u32])
 }
 
 // The frame rows that come out, then zeros.
-pub fn row_results(numbers: &[u32], shape: Shape, changed: bool, to: &mut [u32])
+fn row_results(numbers: &[u32], shape: Shape, changed: bool, to: &mut [u32])
     requires { ⌜ RowsPre shape (now numbers) (now to) ⌝ }
     ensures { λ _. ⌜ now (to .exit) ≡ thenZeros (now (to .entry)) (rowsTo changed shape (now (numbers .entry)) (2 * shape .qubits)) ⌝ }
 {
