@@ -26,6 +26,14 @@ pub fn get<'a>(a: Axes<'a>, id: usize) -> &'a [u64]
     axes::axis(a.words, id, a.l)
 }
 
+// The same for a caller that has no view: the word of axis id, through one.
+pub fn word<'a>(words: &'a [u64], l: usize, id: usize) -> &'a [u64]
+    requires { ⌜ axisPlace l id + 2 * l ≤ length (now words) ⌝ }
+    ensures { λ r. ⌜ ((n : ℕ) → id < n → now r ≡ wordOf (axesOf l n (now (words .entry))) id) ⌝ }
+{
+    get(view(words, l), id)
+}
+
 // How many words of width l lie in a slice.
 fn count(words: &[u64], l: usize) -> usize
     requires { ⌜ (0 < l) × (l ≤ 64) ⌝ }

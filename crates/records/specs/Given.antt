@@ -13,6 +13,7 @@ use Rattle.layout.specs.declared.Shape.{Shape}
 use Rattle.layout.specs.Bounds.{program-long, passed}
 use Rattle.layout.specs.Shape.{shapeOf}
 use Rattle.records.specs.Nodes.{nodesIn}
+use Rattle.records.specs.Operations.{operationsIn}
 
 -- the program of these sizes in these slices
 unfoldable pub programIn : Shape → List ℕ → List ℕ → List ℕ → Program
@@ -27,6 +28,11 @@ programIn z ns os rs = programOf (record {
 pub nodes-in : (z : Shape) (ns os rs : List ℕ) → programIn z ns os rs .nodes ≡ nodesIn (z .nodes) ns
 unfolding programIn programOf nodesIn
 nodes-in z ns os rs = refl
+
+-- its operations
+pub operations-in : (z : Shape) (ns os rs : List ℕ) → programIn z ns os rs .operations ≡ operationsIn (z .operations) os
+unfolding programIn programOf operationsIn
+operations-in z ns os rs = refl
 
 -- it is fine, and its records are there
 pub record Given (z : Shape) (ns os rs : List ℕ) : Type 0 where
