@@ -1,0 +1,4 @@
+pub mod Slices
+pub mod Calls
+pub mod Left
+pub mod Promises
