@@ -100,3 +100,9 @@ module _ {o : Options} {j : Job} {s : Lent} {x : Reply} where
 pub called-of : {o : Options} {j : Job} {s : Lent} {a : Answer} {c : Counters} {t : Lent} → Called o j s a c t
     → Replied o j s (record { answer = a; counters = c; lent = t })
 called-of {o} {j} {s} call = rw (call .replied) (reply-of o j s)
+
+-- 0 and 9 come after Checking has passed
+pub passed-checking : {o : Options} {j : Job} {s : Lent} {a : Answer} {c : Counters} {t : Lent} → Called o j s a c t
+    → (a ≡ Accepted) ⊎ (a ≡ NonHermitianAxis) → checking o j s ≡ Accepted
+passed-checking {o} {j} {s} call (inl e) = ran o j s Accepted (answer-is call ∙ e) (inl refl)
+passed-checking {o} {j} {s} call (inr e) = ran o j s NonHermitianAxis (answer-is call ∙ e) (inr (omega arith))

@@ -38,10 +38,14 @@ use Rattle.run_wellformed.specs.Points.{passes-reached}
 use Rattle.run_wellformed.specs.RunWellFormed.{end-formed}
 use Rattle.run_wellformed.specs.Lengths.{operations-fit, long-enough, same-lengths}
 use Rattle.effect.specs.Phase.{Quarter}
-use Rattle.effect.specs.Effect.{Op, plain}
+use Rattle.effect.specs.Effect.{Op, effectFrom}
+use Rattle.effect.specs.Packed as PackedWords
+use Rattle.stream_effect.specs.PackedAxes.{packedWord}
 use Rattle.result_effect.specs.Definitions.{resultOpOfKind, resultOp, resultOps, resultRow, resultRows}
 use Rattle.result_effect.specs.Records.{Stops, ItemStands, point-stands}
 use Rattle.result_effect.specs.Calls.{leftAxes, call-fine, call-hermitian, left-axes, left-rows}
+use Rattle.run_effect.specs.Same.{picked}
+use Rattle.run_effect.specs.RunEffect.{resultEffect}
 use Rattle.promises.specs.Slices.{kindsRead, HasKind, kinds-read, zeros-at}
 use Rattle.promises.specs.Calls.{Called, answer-is, lent-is}
 
@@ -216,3 +220,9 @@ module _ {o : Options} {j : Job} {s : Lent} {c : Counters} {t : Lent} (call : Ca
         ap (resultRows word p (wordsIn j t)) rows-left
         ∙ rows-same word (end .store .axes) (wordsIn j t) words-left p (rowResults p end)
         (unfold rowResults in (rows-id p (length (end .store .axes)) 0 (p .rows) _ (by-if (Every (AxisIn (length (end .store .axes)))) _ [] _ tt (ids .rows))))
+
+  -- so what lies in the slices has the effect of the run's results
+  pub effect-left : (outcomes : ℕ → Bool) (ns : List ℕ) → resultEffect (programOf j) (wordsIn j t) (operationsIn j t) (rowsIn j t) outcomes ns
+      ≡ resultEffect p (end .store .axes) (operationResults p end) (rowResults p end) outcomes ns
+  effect-left outcomes ns =
+      ap₂ (λ X Y. effectFrom (PackedWords.packed l) outcomes X (picked (PackedWords.packed l) ns Y)) (operations-mean (packedWord l)) (rows-mean (packedWord l))

@@ -9,7 +9,7 @@ use lib.ListN.{length, getD, take, drop, replicate}
 use borrow.Author.Tests.{eq-eqb}
 use Rattle.model.specs.Lists.{if_then_else_}
 use Rattle.model.specs.Program.{fieldOf}
-use Rattle.model.specs.Rewriting.{thenZeros}
+use Rattle.model.specs.Rewriting.{thenZeros, zeros}
 use Rattle.theory.specs.Cases.{if-true, if-false}
 use Rattle.theory.specs.Every.{Every}
 use Rattle.result_effect.specs.Calls.{take-front, drop-front}
@@ -35,6 +35,15 @@ append-zeros-at (x ∷ xs) n (suc i) = append-zeros-at xs n i
 pub thenZeros-at : (s xs : List ℕ) → Agree (thenZeros s xs) xs
 unfolding thenZeros
 thenZeros-at s xs i = append-zeros-at xs (length s - length xs) i
+
+-- the same numbers in two slices, then zeros
+pub agree-then : (s s′ xs : List ℕ) {t t′ : List ℕ} → t ≡ thenZeros s xs → t′ ≡ thenZeros s′ xs → Agree t′ t
+agree-then s s′ xs e e′ i = rw (e, e′) (thenZeros-at s′ xs i ∙ sym (thenZeros-at s xs i))
+
+-- two slices of zeros
+pub agree-zeros : (s s′ : List ℕ) {t t′ : List ℕ} → t ≡ zeros s → t′ ≡ zeros s′ → Agree t′ t
+unfolding zeros
+agree-zeros s s′ e e′ i = rw (e, e′) (zeros-at (length s′) i ∙ sym (zeros-at (length s) i))
 
 -- ---- the records of operations in a slice
 
