@@ -1,34 +1,31 @@
 -- A call of Rewriting by what it answers and leaves, and the reply by its answer's number. Assumes nothing.
 use mathlib.Core.Path.{_≡_, refl, sym, ap, _∙_}
-use mathlib.Core.Logic.{_⊎_, inl, inr}
+use mathlib.Core.Logic.{_⊎_, inl, inr, _↔_}
 use mathlib.Core.Bool.{Bool, true, false}
-use mathlib.Core.List.{List, flatten}
-use Prim.Native.Nat.{ℕ, _*_, _≤_, _<_}
+use Prim.Native.Nat.{ℕ, _≤_}
 use native.Mathlib.Omega.{arith}
-use lib.Dec.{eqb, ltb}
-use lib.ListN.{length}
+use lib.Dec.{ltb}
 use borrow.Author.Tests.{ltb-true, ltb-false}
-use Rattle.store.specs.Chunk.{chunks}
-use Rattle.pauli.specs.Word.{width}
 use Rattle.model.specs.declared.Options.{Options}
 use Rattle.model.specs.declared.Answer.{Answer}
 use Rattle.model.specs.declared.Answer.the-variants.{Accepted, NonHermitianAxis, ExpansionLimit}
 use Rattle.model.specs.declared.Counters.{Counters}
 use Rattle.model.specs.Interface.{numberOf, accepts}
-use Rattle.model.specs.Program.{records, Job, programOf}
+use Rattle.model.specs.Program.{Job, programOf}
 use Rattle.model.specs.Rules.{rulesOf}
-use Rattle.model.specs.Rounds.{Work, passes}
-use Rattle.model.specs.Run.{startOf, Ending, nonHermitian, finished, Run, endOf, endAnswer, answerOf}
+use Rattle.model.specs.Run.{Ending, nonHermitian, finished, endAnswer}
 use Rattle.model.specs.Checking.{Lent, checking}
-use Rattle.model.specs.Rewriting.{Reply, zeros, thenZeros, refused, stopped, afterEnding, rewriting}
+use Rattle.model.specs.Rewriting.{Reply, refused, stopped, afterEnding, rewriting}
 use Rattle.theory.specs.Checked.{accepts-only}
 use Rattle.theory.specs.Replies.{runOf, limitOf, refused-reply, beyond-limit, within-limit, stopped-answer, refused-answer, ending-answer}
-use Rattle.theory.specs.Replies.{run-answer, refusal-answer, checking-low, ran}
+use Rattle.theory.specs.Replies.{run-answer, checking-low, ran}
+use Rattle.theory.specs.Limit.{within, within-answer}
+use Rattle.theory.specs.Hermitian.{Hermitian, accepted-exactly}
 
 -- ---- a call
 
--- with options o, job j and slices s lent, Rewriting answered a and left the counters c and the slices t. This is the contract of
--- `rewriting::rewriting`, for all arguments: it has no `requires`
+-- with options o, job j and slices s lent, Rewriting answered a and left the counters c and the slices t. The equation is the contract of
+-- `rewriting::rewriting`, which has no `requires`: every call ends in it, for all arguments
 pub record Called (o : Options) (j : Job) (s : Lent) (a : Answer) (c : Counters) (t : Lent) : Type 0 where
   pub replied : _≡_ {A = Reply} (record { answer = a; counters = c; lent = t }) (rewriting o j s)
 
@@ -68,15 +65,23 @@ module _ (o : Options) (j : Job) (s : Lent) where
       go true e = ran-so (accepts-only (checking o j s) e) (ltb (limitOf o) (runOf o j .peak)) refl
       go false e = byChecking e (refused-reply o j s (checking o j s) refl e)
 
+-- a stopped reply's answer
+answer-of : (a : Answer) (s : Lent) {x : Reply} → x ≡ stopped a s → x .answer ≡ a
+answer-of a s e = ap (λ (y : Reply). y .answer) e ∙ stopped-answer a s
+
 -- a stopped reply's number
 number-of : (a : Answer) (s : Lent) {x : Reply} → x ≡ stopped a s → numberOf (x .answer) ≡ numberOf a
-number-of a s e = ap (λ (y : Reply). numberOf (y .answer)) e ∙ ap numberOf (stopped-answer a s)
+number-of a s e = ap numberOf (answer-of a s e)
+
+-- the number of a reply that Checking refused
+checked-number : (o : Options) (j : Job) (s : Lent) {x : Reply} → x ≡ refused (checking o j s) s → numberOf (x .answer) ≤ 8
+checked-number o j s e =
+    omega (arith, ap (λ (y : Reply). numberOf (y .answer)) e ∙ ap numberOf (refused-answer (checking o j s) s), checking-low o j s)
 
 module _ {o : Options} {j : Job} {s : Lent} {x : Reply} where
   -- no number above 10
   pub number-low : Replied o j s x → numberOf (x .answer) ≤ 10
-  number-low (byChecking n e) =
-      omega (arith, ap (λ (y : Reply). numberOf (y .answer)) e ∙ ap numberOf (refused-answer (checking o j s) s), checking-low o j s)
+  number-low (byChecking n e) = omega (arith, checked-number o j s e)
   number-low (byLimit e) = omega (arith, number-of ExpansionLimit s e)
   number-low (byRoot e) = omega (arith, number-of NonHermitianAxis s e)
   number-low (done e) = omega (arith, ap numberOf e)
@@ -90,10 +95,9 @@ module _ {o : Options} {j : Job} {s : Lent} {x : Reply} where
 
   -- 9 and 10 stop the work
   pub number-stopped : Replied o j s x → 9 ≤ numberOf (x .answer) → x ≡ stopped (x .answer) s
-  number-stopped (byChecking n e) h =
-      absurd (omega (arith, ap (λ (y : Reply). numberOf (y .answer)) e ∙ ap numberOf (refused-answer (checking o j s) s), checking-low o j s))
-  number-stopped (byLimit e) h = e ∙ ap (λ (a : Answer). stopped a s) (sym (ap (λ (y : Reply). y .answer) e ∙ stopped-answer ExpansionLimit s))
-  number-stopped (byRoot e) h = e ∙ ap (λ (a : Answer). stopped a s) (sym (ap (λ (y : Reply). y .answer) e ∙ stopped-answer NonHermitianAxis s))
+  number-stopped (byChecking n e) h = absurd (omega (arith, checked-number o j s e))
+  number-stopped (byLimit e) h = e ∙ ap (λ (a : Answer). stopped a s) (sym (answer-of ExpansionLimit s e))
+  number-stopped (byRoot e) h = e ∙ ap (λ (a : Answer). stopped a s) (sym (answer-of NonHermitianAxis s e))
   number-stopped (done e) h = absurd (omega (arith, ap numberOf e))
 
 -- a call's reply is one of them
@@ -106,3 +110,22 @@ pub passed-checking : {o : Options} {j : Job} {s : Lent} {a : Answer} {c : Count
     → (a ≡ Accepted) ⊎ (a ≡ NonHermitianAxis) → checking o j s ≡ Accepted
 passed-checking {o} {j} {s} call (inl e) = ran o j s Accepted (answer-is call ∙ e) (inl refl)
 passed-checking {o} {j} {s} call (inr e) = ran o j s NonHermitianAxis (answer-is call ∙ e) (inr (omega arith))
+
+-- a run that Checking let through answers 9 exactly where the limit is no smaller than the peak and a root is non-Hermitian
+pub nine-exactly : (o : Options) (j : Job) (s : Lent) → checking o j s ≡ Accepted
+    → (rewriting o j s .answer ≡ NonHermitianAxis) ↔ ((runOf o j .peak ≤ limitOf o) × (Hermitian (programOf j) → ⊥))
+nine-exactly o j s c = (there, λ h. back (h .0) (h .1))
+  where
+    there : rewriting o j s .answer ≡ NonHermitianAxis → (runOf o j .peak ≤ limitOf o) × (Hermitian (programOf j) → ⊥)
+    there e =
+        let le = within (limitOf o) (runOf o j) (λ f. let k = run-answer o j s c in let z : _≡_ {A = ℕ} 0 1 = cc in omega arith) in
+        (le, λ h. let k = accepted-exactly o j s c .1 (le, h) in let z : _≡_ {A = ℕ} 0 1 = cc in omega arith)
+
+    back : runOf o j .peak ≤ limitOf o → (Hermitian (programOf j) → ⊥) → rewriting o j s .answer ≡ NonHermitianAxis
+    back le odd = run-answer o j s c ∙ within-answer (limitOf o) (runOf o j) le ∙ go (runOf o j .ending) refl
+      where
+        go : (e : Ending) → runOf o j .ending ≡ e → endAnswer e ≡ NonHermitianAxis
+        go nonHermitian f = refl
+        go (finished g) f =
+            absurd (odd (accepted-exactly o j s c .0
+            (run-answer o j s c ∙ within-answer (limitOf o) (runOf o j) le ∙ ap endAnswer f) .1))

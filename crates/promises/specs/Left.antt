@@ -22,15 +22,14 @@ use Rattle.model.specs.Packing.{SignedAxis}
 use Rattle.model.specs.Items.{Item, rotation, barrier}
 use Rattle.model.specs.Rounds.{Work}
 use Rattle.model.specs.Run.{startOf, endOf}
-use Rattle.model.specs.Results.{operationAt, barrierRecord, itemRecord, operationResults, keptRow, givenRow, rowRecord, axesLeft, rowResultsFrom}
-use Rattle.model.specs.Results.{rowResults}
+use Rattle.model.specs.Results.{operationAt, barrierRecord, itemRecord, operationResults, keptRow, givenRow, rowRecord, axesLeft}
+use Rattle.model.specs.Results.{rowResultsFrom, rowResults}
 use Rattle.model.specs.Checking.{Lent, wordsAsked}
 use Rattle.model.specs.Rewriting.{thenZeros, accepted}
 use Rattle.theory.specs.Cases.{by-if}
 use Rattle.theory.specs.Every.{Every}
 use Rattle.theory.specs.StreamState.{axisOf}
-use Rattle.theory.specs.Replies.{limitOf}
-use Rattle.theory.specs.AcceptedRun.{finishOf, hermitian-peak}
+use Rattle.theory.specs.AcceptedRun.{hermitian-peak}
 use Rattle.theory.specs.TCountCalls.{accepted-checks, accepted-within, accepted-hermitian, accepted-reply}
 use Rattle.words_wellformed.specs.Wellformed.{IdsInRange, end-ids}
 use Rattle.run_wellformed.specs.Memory.{axes-within, width-positive}
@@ -43,7 +42,7 @@ use Rattle.effect.specs.Packed as PackedWords
 use Rattle.stream_effect.specs.PackedAxes.{packedWord}
 use Rattle.result_effect.specs.Definitions.{resultOpOfKind, resultOp, resultOps, resultRow, resultRows}
 use Rattle.result_effect.specs.Records.{Stops, ItemStands, point-stands}
-use Rattle.result_effect.specs.Calls.{leftAxes, call-fine, call-hermitian, left-axes, left-rows}
+use Rattle.result_effect.specs.Calls.{call-fine, call-hermitian, left-axes, left-rows}
 use Rattle.run_effect.specs.Same.{picked}
 use Rattle.run_effect.specs.RunEffect.{resultEffect}
 use Rattle.promises.specs.Slices.{kindsRead, HasKind, kinds-read, zeros-at}
@@ -115,7 +114,8 @@ left-in n false fs h = h
 left-in n true [] h = tt
 left-in n true (f ∷ fs) h = h .1
 
-rows-id : (p : Program) (n i : ℕ) (rs : List PauliRef) (fs : List SignedAxis) → Every (AxisIn n) fs → Every (RowIdIn n) (rowResultsFrom p i rs fs)
+rows-id : (p : Program) (n i : ℕ) (rs : List PauliRef) (fs : List SignedAxis) → Every (AxisIn n) fs
+    → Every (RowIdIn n) (rowResultsFrom p i rs fs)
 unfolding rowResultsFrom
 rows-id p n i [] fs h = tt
 rows-id p n i (r ∷ rs) fs h =
@@ -135,7 +135,7 @@ module _ {W : Type 0} (word : List ℕ → W) (A B : List (List ℕ)) (same : (a
   ops-same : (rs : List (List ℕ)) → Every (IdIn (length A)) rs → resultOps word B rs ≡ resultOps word A rs
   unfolding resultOps resultOp
   ops-same [] h = refl
-  ops-same (r ∷ rs) h = ap₂ (λ (x : Op W) (xs : List (Op W)). x ∷ xs) (op-same (fieldOf r 0) r (h .0)) (unfold resultOps in (ops-same rs (h .1)))
+  ops-same (r ∷ rs) h = ap₂ (λ (x : Op W) (xs : List (Op W)). x ∷ xs) (op-same (fieldOf r 0) r (h .0)) (ops-same rs (h .1))
 
   row-same : (p : Program) (r : List ℕ) → RowIdIn (length A) r → resultRow word p B r ≡ resultRow word p A r
   unfolding resultRow if_then_else_
@@ -145,7 +145,7 @@ module _ {W : Type 0} (word : List ℕ → W) (A B : List (List ℕ)) (same : (a
   rows-same : (p : Program) (rs : List (List ℕ)) → Every (RowIdIn (length A)) rs → resultRows word p B rs ≡ resultRows word p A rs
   unfolding resultRows
   rows-same p [] h = refl
-  rows-same p (r ∷ rs) h = ap₂ (λ (x : Quarter × W) (xs : List (Quarter × W)). x ∷ xs) (row-same p r (h .0)) (unfold resultRows in (rows-same p rs (h .1)))
+  rows-same p (r ∷ rs) h = ap₂ (λ (x : Quarter × W) (xs : List (Quarter × W)). x ∷ xs) (row-same p r (h .0)) (rows-same p rs (h .1))
 
 -- ---- an accepted call
 
@@ -168,7 +168,8 @@ module _ {o : Options} {j : Job} {s : Lent} {c : Counters} {t : Lent} (call : Ca
 
   count : length (operationResults p end) ≤ j .counts .operations
   count =
-      let a : length (operationResults p end) ≡ length (end .items) = unfold operationResults in (length-map (end .items) (itemRecord (p .operations))) in
+      let a : length (operationResults p end) ≡ length (end .items)
+      = unfold operationResults in (length-map (end .items) (itemRecord (p .operations))) in
       let b : length (p .operations) ≡ j .counts .operations
       = unfold programOf in (length-map (operationRecords j) operationOf ∙ chunks-length 6 (j .counts .operations) (j .operations)) in
       omega (arith, operations-fit (rulesOf o) (o .rounds) p)
@@ -219,10 +220,13 @@ module _ {o : Options} {j : Job} {s : Lent} {c : Counters} {t : Lent} (call : Ca
     rows-mean =
         ap (resultRows word p (wordsIn j t)) rows-left
         ∙ rows-same word (end .store .axes) (wordsIn j t) words-left p (rowResults p end)
-        (unfold rowResults in (rows-id p (length (end .store .axes)) 0 (p .rows) _ (by-if (Every (AxisIn (length (end .store .axes)))) _ [] _ tt (ids .rows))))
+        (unfold rowResults in (rows-id p (length (end .store .axes)) 0 (p .rows) _
+        (by-if (Every (AxisIn (length (end .store .axes)))) _ [] _ tt (ids .rows))))
 
   -- so what lies in the slices has the effect of the run's results
-  pub effect-left : (outcomes : ℕ → Bool) (ns : List ℕ) → resultEffect (programOf j) (wordsIn j t) (operationsIn j t) (rowsIn j t) outcomes ns
+  pub effect-left : (outcomes : ℕ → Bool) (ns : List ℕ)
+      → resultEffect (programOf j) (wordsIn j t) (operationsIn j t) (rowsIn j t) outcomes ns
       ≡ resultEffect p (end .store .axes) (operationResults p end) (rowResults p end) outcomes ns
   effect-left outcomes ns =
-      ap₂ (λ X Y. effectFrom (PackedWords.packed l) outcomes X (picked (PackedWords.packed l) ns Y)) (operations-mean (packedWord l)) (rows-mean (packedWord l))
+      ap₂ (λ X Y. effectFrom (PackedWords.packed l) outcomes X (picked (PackedWords.packed l) ns Y))
+      (operations-mean (packedWord l)) (rows-mean (packedWord l))

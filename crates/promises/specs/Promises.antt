@@ -1,13 +1,13 @@
 -- The three demands about Rewriting, as theorems about its calls. `Called o j s a c t` (Calls): with options o, job j and slices s lent the
--- code answered a and left counters c and slices t; this equation is the contract of `rewriting::rewriting`, for all arguments. Stores of two
--- calls may differ in length and content. Under each promise stand two wrong programs that it rules out. Assumes nothing.
+-- code answered a and left counters c and slices t; this equation is the contract of `rewriting::rewriting`, for all arguments. Stores of
+-- two calls may differ in length and content. Under each promise stand two wrong programs that it rules out. Assumes nothing.
 use mathlib.Core.Path.{_≡_, refl, sym, ap, ap₂, _∙_}
 use mathlib.Core.Logic.{_⊎_, inl, inr, _↔_, ⊎-elim}
 use mathlib.Core.Bool.{Bool, false}
 use mathlib.Core.List.{List, flatten}
 use Prim.Native.Nat.{ℕ, _-_, _≤_, _<_}
 use native.Mathlib.Omega.{arith}
-use lib.ListN.{length, getD}
+use lib.ListN.{length}
 use Rattle.groups.specs.Abelian.{pow2}
 use Rattle.pauli.specs.Word.{width}
 use Rattle.model.specs.declared.Strategy.the-variants.{Merge, Litinski}
@@ -24,9 +24,9 @@ use Rattle.model.specs.Results.{operationResults, rowResults, sourceTCount, res
 use Rattle.model.specs.Checking.{Lent, checking}
 use Rattle.model.specs.Rewriting.{Reply, thenZeros, zeros, refused, stopped, accepted, rewriting}
 use Rattle.theory.specs.Alike.{alike-program}
-use Rattle.theory.specs.Replies.{runOf, limitOf, refused-answer, run-answer, refusal-answer, ran}
-use Rattle.theory.specs.Limit.{SameButLimit, same-at-larger-limit, results-answer, results-counters}
-use Rattle.theory.specs.AcceptedRun.{finishOf, counters-source, counters-rounds}
+use Rattle.theory.specs.Replies.{runOf, limitOf, refused-answer, run-answer, refusal-answer}
+use Rattle.theory.specs.Limit.{same-at-larger-limit, results-answer, results-counters}
+use Rattle.theory.specs.AcceptedRun.{finishOf}
 use Rattle.theory.specs.TCountCalls.{accepted-counters, accepted-reply, no-more-than-source, no-more-with-more-rounds}
 use Rattle.theory.specs.EqualRounds.{equal-rounds}
 use Rattle.theory.specs.Hermitian.{Hermitian, accepted-exactly, limit-exactly}
@@ -34,7 +34,8 @@ use Rattle.run_wellformed.specs.Lengths.{SameLengths, same-lengths}
 use Rattle.result_effect.specs.Calls.{call-fine, call-hermitian}
 use Rattle.run_effect.specs.RunEffect.{Effects, sourceEffect, resultEffect, run-keeps-effect}
 use Rattle.promises.specs.Slices.{Agree, agree-then, agree-zeros}
-use Rattle.promises.specs.Calls.{Called, answer-is, counters-are, lent-is, passed-checking, called-of, number-low, number-checking, number-stopped}
+use Rattle.promises.specs.Calls.{Called, answer-is, counters-are, lent-is, passed-checking, called-of, number-low, number-checking}
+use Rattle.promises.specs.Calls.{number-stopped, nine-exactly}
 use Rattle.promises.specs.Left.{operationsIn, rowsIn, wordsIn, operations-left, effect-left}
 use Rattle.promises.specs.Alike.{AlikeButRoundsAndLimit, AlikeButLimit, alike-rules, but-limit, not-two}
 
@@ -102,9 +103,10 @@ module _ {o : Options} {j : Job} {s : Lent} {a : Answer} {c : Counters} {t : Len
   -- Rules out: packed words left in the word store after 9; results written as they are found, then 10 in the closing stream
   pub refusals-9-and-10 : 9 ≤ numberOf a → Cleared s t × (c ≡ noCounters)
   refusals-9-and-10 h =
-      let e = number-stopped (called-of call) h in
-      (rw (ap (λ (x : Reply). x .lent) e) (unfold stopped in (record { words = refl; numbers = refl; operations = refl; rows = refl })),
-      ap (λ (x : Reply). x .counters) e ∙ unfold stopped in refl)
+      let e = number-stopped (called-of call) h in (
+        rw (ap (λ (x : Reply). x .lent) e) (unfold stopped in (record { words = refl; numbers = refl; operations = refl; rows = refl })),
+        ap (λ (x : Reply). x .counters) e ∙ unfold stopped in refl,
+      )
 
   -- every slice is as long as it was: the results and the axis words fit.
   -- Rules out: one record too many in the result slice; axis words that run over the word store's end
@@ -113,14 +115,16 @@ module _ {o : Options} {j : Job} {s : Lent} {a : Answer} {c : Counters} {t : Len
 
 -- "acceptance leaves results, axis words and zeros".
 -- Rules out: the slots of packing left behind the axis words; old records left behind the new ones in the result slice
-pub acceptance : {o : Options} {j : Job} {s : Lent} {c : Counters} {t : Lent} → Called o j s Accepted c t → Holds (programOf j) (endWork o j) s t
+pub acceptance : {o : Options} {j : Job} {s : Lent} {c : Counters} {t : Lent} → Called o j s Accepted c t
+    → Holds (programOf j) (endWork o j) s t
 unfolding accepted
 acceptance {o} {j} {s} call =
     rw (← lent-is call, accepted-reply o j s (answer-is call)) (record { operations = refl; rows = refl; words = refl; numbers = refl })
 
 -- ==== Demand 2. Meaning: "Each pass gives exactly what 01's rules give, as an equation with a definition"
 
--- The results of an accepted call are those of `endWork` (`acceptance`, above); what that is, by 01's rules:
+-- The results of an accepted call are those of `endWork` (`acceptance`, above). Each pass's own contract (crates packing, start, stream,
+-- exchange, layering, depth) is an equation with the model's pass. What `endWork` is, by 01's rules:
 module _ (o : Options) (j : Job) where
   -- "Merge strategy: rounds of stream and exchange, until ..; then one more stream if ..".
   -- Rules out: the program handed back untouched; one round that counts for all
@@ -153,15 +157,22 @@ module _ {o : Options} {j : Job} {s : Lent} {a : Answer} {c : Counters} {t : Len
   pub limit-where : checking o j s ≡ Accepted → (a ≡ ExpansionLimit) ↔ (limitOf o < runOf o j .peak)
   limit-where h = (λ e. limit-exactly o j s h .0 (answer-is call ∙ e), λ g. sym (answer-is call) ∙ limit-exactly o j s h .1 g)
 
+  -- 9 exactly where none does and a root's total phase is odd.
+  -- Rules out: 9 for a row that is no root; an odd phase dropped from a root
+  pub non-hermitian-where : checking o j s ≡ Accepted
+      → (a ≡ NonHermitianAxis) ↔ ((runOf o j .peak ≤ limitOf o) × (Hermitian (programOf j) → ⊥))
+  non-hermitian-where h =
+      (λ e. nine-exactly o j s h .0 (answer-is call ∙ e), λ g. sym (answer-is call) ∙ nine-exactly o j s h .1 g)
+
 module _ {o : Options} {j : Job} {s : Lent} {c : Counters} {t : Lent} (call : Called o j s Accepted c t) where
   -- all eleven counters are those of the run.
   -- Rules out: merge counters made up; T-depths measured where `measure_depth` is off
   pub counters-of-run : c ≡ countersOf (rulesOf o) (programOf j) (finishOf (rulesOf o) (o .rounds) (programOf j))
   counters-of-run = sym (counters-are call) ∙ accepted-counters o j s (answer-is call)
 
-  -- "the rewritten program is proved to have its source's effect for every choice of outcomes and every product of frame rows": what lies in
-  -- the slices, read by its records' fields, against the counted records handed in; "equal after factors 2 for the difference in operation
-  -- count". ns are the indices of the rows that are multiplied, in order.
+  -- "the rewritten program is proved to have its source's effect for every choice of outcomes and every product of frame rows": what lies
+  -- in the slices, read by its records' fields alone, against the counted records handed in; "equal after factors 2 for the difference in
+  -- operation count". ns are the places of the rows that are multiplied, in order.
   -- Rules out: conjugating the wrong way round; merging across a measurement
   pub effect-kept : (outcomes : ℕ → Bool) (ns : List ℕ)
       → pow2 (Effects (programOf j)) (length (programOf j .operations) - length (operationsIn j t))
@@ -173,15 +184,16 @@ module _ {o : Options} {j : Job} {s : Lent} {c : Counters} {t : Lent} (call : Ca
       ∙ run-keeps-effect (programOf j) (call-fine o j s (answer-is call)) (call-hermitian o j s (answer-is call)) (rulesOf o) (o .rounds)
       outcomes ns
 
-  -- ==== Demand 3. Never worse
+-- ==== Demand 3. Never worse
 
+module _ {o : Options} {j : Job} {s : Lent} {c : Counters} {t : Lent} (call : Called o j s Accepted c t) where
   -- the counters tell both T-counts.
   -- Rules out: T before taken after rotations dropped out; T after that leaves conditional rotations out
   pub t-counts-told : (c .«t_before» ≡ tCountHanded j) × (c .«t_after» ≡ tCountLeft j t)
   unfolding countersOf
   t-counts-told = (
-    ap (λ (x : Counters). x .«t_before») counters-of-run,
-    ap (λ (x : Counters). x .«t_after») counters-of-run ∙ ap resultTCount (sym (operations-left call)),
+    ap (λ (x : Counters). x .«t_before») (counters-of-run call),
+    ap (λ (x : Counters). x .«t_after») (counters-of-run call) ∙ ap resultTCount (sym (operations-left call)),
   )
 
   -- "neither exceeds the source's".
@@ -212,15 +224,16 @@ module _ {o o′ : Options} {j j′ : Job} {s s′ : Lent} {c c′ : Counters} {
   equal-rounds-equal-results x y alike =
       let one = acceptance x in
       let other : Holds (programOf j) (endWork o j) s′ t′
-      = rw (← alike-rules (alike .others), ← alike .rounds, ← alike-program j j′ (alike .others .job)) (acceptance y) in
-      (record {
-        operations = agree-then _ _ _ (one .operations) (other .operations);
-        rows = agree-then _ _ _ (one .rows) (other .rows);
-        words = agree-then _ _ _ (one .words) (other .words);
-        numbers = agree-zeros _ _ (one .numbers) (other .numbers);
-      },
-      rw (← counters-are x, ← counters-are y)
-      (results-counters (equal-rounds o o′ j j′ s s′ (alike .others .job) (but-limit alike) (answer-is x) (answer-is y))))
+      = rw (← alike-rules (alike .others), ← alike .rounds, ← alike-program j j′ (alike .others .job)) (acceptance y) in (
+        record {
+          operations = agree-then _ _ _ (one .operations) (other .operations);
+          rows = agree-then _ _ _ (one .rows) (other .rows);
+          words = agree-then _ _ _ (one .words) (other .words);
+          numbers = agree-zeros _ _ (one .numbers) (other .numbers);
+        },
+        rw (← counters-are x, ← counters-are y)
+            (results-counters (equal-rounds o o′ j j′ s s′ (alike .others .job) (but-limit alike) (answer-is x) (answer-is y))),
+      )
 
 module _ {o o′ : Options} {j j′ : Job} {s s′ : Lent} {a a′ : Answer} {c c′ : Counters} {t t′ : Lent} where
   -- "an accepted or non-Hermitian run gets the same answer at every larger limit": the limit lies in the domain, and 3 does not refuse the
