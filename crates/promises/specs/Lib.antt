@@ -1,0 +1,5 @@
+pub mod Slices
+pub mod Calls
+pub mod Left
+pub mod Alike
+pub mod Promises

@@ -1,0 +1,251 @@
+-- The three demands about Rewriting, as theorems about its calls. `Called o j s a c t` (Calls): with options o, job j and slices s lent the
+-- code answered a and left counters c and slices t; this equation is the contract of `rewriting::rewriting`, for all arguments. Stores of
+-- two calls may differ in length and content. Under each promise stand two wrong programs that it rules out. Assumes nothing.
+use mathlib.Core.Path.{_≡_, refl, sym, ap, ap₂, _∙_}
+use mathlib.Core.Logic.{_⊎_, inl, inr, _↔_, ⊎-elim}
+use mathlib.Core.Bool.{Bool, false}
+use mathlib.Core.List.{List, flatten}
+use Prim.Native.Nat.{ℕ, _-_, _≤_, _<_}
+use native.Mathlib.Omega.{arith}
+use lib.ListN.{length}
+use Rattle.groups.specs.Abelian.{pow2}
+use Rattle.pauli.specs.Word.{width}
+use Rattle.model.specs.declared.Strategy.the-variants.{Merge, Litinski}
+use Rattle.model.specs.declared.Options.{Options}
+use Rattle.model.specs.declared.Answer.{Answer}
+use Rattle.model.specs.declared.Answer.the-variants.{Accepted, SliceShort, OptionOutside, NonHermitianAxis, ExpansionLimit}
+use Rattle.model.specs.declared.Counters.{Counters}
+use Rattle.model.specs.Interface.{numberOf, accepts, noCounters}
+use Rattle.model.specs.Program.{Job, Program, programOf}
+use Rattle.model.specs.Rules.{rulesOf}
+use Rattle.model.specs.Rounds.{Work, mergeRounds, litinskiRounds, passes}
+use Rattle.model.specs.Run.{startOf, endOf, answerOf}
+use Rattle.model.specs.Results.{operationResults, rowResults, sourceTCount, resultTCount, countersOf}
+use Rattle.model.specs.Checking.{Lent, checking}
+use Rattle.model.specs.Rewriting.{Reply, thenZeros, zeros, refused, stopped, accepted, rewriting}
+use Rattle.theory.specs.Alike.{alike-program}
+use Rattle.theory.specs.Replies.{runOf, limitOf, refused-answer, run-answer, refusal-answer}
+use Rattle.theory.specs.Limit.{same-at-larger-limit, results-answer, results-counters}
+use Rattle.theory.specs.AcceptedRun.{finishOf}
+use Rattle.theory.specs.TCountCalls.{accepted-counters, accepted-reply, no-more-than-source, no-more-with-more-rounds}
+use Rattle.theory.specs.EqualRounds.{equal-rounds}
+use Rattle.theory.specs.Hermitian.{Hermitian, accepted-exactly, limit-exactly}
+use Rattle.run_wellformed.specs.Lengths.{SameLengths, same-lengths}
+use Rattle.result_effect.specs.Calls.{call-fine, call-hermitian}
+use Rattle.run_effect.specs.RunEffect.{Effects, sourceEffect, resultEffect, run-keeps-effect}
+use Rattle.promises.specs.Slices.{Agree, agree-then, agree-zeros}
+use Rattle.promises.specs.Calls.{Called, answer-is, counters-are, lent-is, passed-checking, called-of, number-low, number-checking}
+use Rattle.promises.specs.Calls.{number-stopped, nine-exactly}
+use Rattle.promises.specs.Left.{operationsIn, rowsIn, wordsIn, operations-left, effect-left}
+use Rattle.promises.specs.Alike.{AlikeButRoundsAndLimit, AlikeButLimit, alike-rules, but-limit, not-two}
+
+-- ==== what the sentences speak of
+
+-- the work at the end of 01's run of this job: what its passes give, from the packed program on
+abbrev pub endWork : Options → Job → Work
+endWork o j = endOf (rulesOf o) (o .rounds) (programOf j)
+
+-- t is what 9 and 10 leave of s: both work stores zero over their whole length, the results as they were. The program is only read
+pub record Cleared (s t : Lent) : Type 0 where
+  pub words : t .words ≡ zeros (s .words)
+  pub numbers : t .numbers ≡ zeros (s .numbers)
+  pub operations : t .operations ≡ s .operations
+  pub rows : t .rows ≡ s .rows
+
+-- t is what acceptance of a program p with the work w leaves of s: "results, then zeros; axis words, then zeros; number store zero"
+pub record Holds (p : Program) (w : Work) (s t : Lent) : Type 0 where
+  pub operations : t .operations ≡ thenZeros (s .operations) (flatten (operationResults p w))
+  pub rows : t .rows ≡ thenZeros (s .rows) (flatten (rowResults p w))
+  pub words : t .words ≡ thenZeros (s .words) (flatten (w .store .axes))
+  pub numbers : t .numbers ≡ zeros (s .numbers)
+
+-- two calls left the same, whatever lengths their slices have: the same numbers at every place, 0 behind a slice's end
+pub record SameLeft (t t′ : Lent) : Type 0 where
+  pub operations : Agree (t′ .operations) (t .operations)
+  pub rows : Agree (t′ .rows) (t .rows)
+  pub words : Agree (t′ .words) (t .words)
+  pub numbers : Agree (t′ .numbers) (t .numbers)
+
+-- "The source's T-count is taken over the counted operation records handed in"
+abbrev pub tCountHanded : Job → ℕ
+tCountHanded j = sourceTCount (programOf j .operations)
+
+-- "a result's over the operations that come out": the records in the lent slice
+abbrev pub tCountLeft : Job → Lent → ℕ
+tCountLeft j t = resultTCount (operationsIn j t)
+
+-- ==== Demand 1. Memory: "Every call ends and does its own checking. For every input each lent slice holds just what document 01 says"
+
+module _ {o : Options} {j : Job} {s : Lent} {a : Answer} {c : Counters} {t : Lent} (call : Called o j s a c t) where
+  -- a call answers 0 to 10.
+  -- Rules out: 11 for a job that Listing would not read; a number of its own for "stores too short to go on"
+  pub answers-0-to-10 : numberOf a ≤ 10
+  answers-0-to-10 = number-low (called-of call)
+
+  -- it does its own checking: where Checking refuses, its answer is the call's.
+  -- Rules out: going on with a job whose node 0 is not the identity; answering 10 before the records are checked
+  pub checks-itself : accepts (checking o j s) ≡ false → a ≡ checking o j s
+  checks-itself n = sym (answer-is call) ∙ refusal-answer o j s n
+
+  -- and 1 to 8 come from nowhere else.
+  -- Rules out: 3 for stores that Checking takes; 8 for an outcome that the passes meet twice
+  pub only-checking : 1 ≤ numberOf a → numberOf a ≤ 8 → a ≡ checking o j s
+  only-checking h k = ap (λ (x : Reply). x .answer) (number-checking (called-of call) h k) ∙ refused-answer (checking o j s) s
+
+  -- "refusals 1 to 8 leave all slices unchanged", and counters are 0, whatever they held before.
+  -- Rules out: clearing the number store before refusal 6; counting T before Checking and then refusing
+  pub refusals-1-to-8 : 1 ≤ numberOf a → numberOf a ≤ 8 → (t ≡ s) × (c ≡ noCounters)
+  refusals-1-to-8 h k =
+      let e = number-checking (called-of call) h k in
+      (ap (λ (x : Reply). x .lent) e ∙ unfold refused in refl, ap (λ (x : Reply). x .counters) e ∙ unfold refused in refl)
+
+  -- "9 and 10 leave program and results unchanged and both work stores zero", and counters are 0.
+  -- Rules out: packed words left in the word store after 9; results written as they are found, then 10 in the closing stream
+  pub refusals-9-and-10 : 9 ≤ numberOf a → Cleared s t × (c ≡ noCounters)
+  refusals-9-and-10 h =
+      let e = number-stopped (called-of call) h in (
+        rw (ap (λ (x : Reply). x .lent) e) (unfold stopped in (record { words = refl; numbers = refl; operations = refl; rows = refl })),
+        ap (λ (x : Reply). x .counters) e ∙ unfold stopped in refl,
+      )
+
+  -- every slice is as long as it was: the results and the axis words fit.
+  -- Rules out: one record too many in the result slice; axis words that run over the word store's end
+  pub lengths-kept : SameLengths s t
+  lengths-kept = rw (← lent-is call) (same-lengths o j s)
+
+-- "acceptance leaves results, axis words and zeros".
+-- Rules out: the slots of packing left behind the axis words; old records left behind the new ones in the result slice
+pub acceptance : {o : Options} {j : Job} {s : Lent} {c : Counters} {t : Lent} → Called o j s Accepted c t
+    → Holds (programOf j) (endWork o j) s t
+unfolding accepted
+acceptance {o} {j} {s} call =
+    rw (← lent-is call, accepted-reply o j s (answer-is call)) (record { operations = refl; rows = refl; words = refl; numbers = refl })
+
+-- ==== Demand 2. Meaning: "Each pass gives exactly what 01's rules give, as an equation with a definition"
+
+-- The results of an accepted call are those of `endWork` (`acceptance`, above). Each pass's own contract (crates packing, start, stream,
+-- exchange, layering, depth) is an equation with the model's pass. What `endWork` is, by 01's rules:
+module _ (o : Options) (j : Job) where
+  -- "Merge strategy: rounds of stream and exchange, until ..; then one more stream if ..".
+  -- Rules out: the program handed back untouched; one round that counts for all
+  pub merge-strategy : o .strategy ≡ Merge
+      → endWork o j ≡ mergeRounds (width (j .counts .qubits)) (rulesOf o) (o .rounds) (startOf (programOf j))
+  unfolding endOf rulesOf programOf passes
+  merge-strategy e = ap (λ m. passes m (width (j .counts .qubits)) (rulesOf o) (o .rounds) (startOf (programOf j))) e
+
+  -- "Otherwise a stream; then each round layers every segment, ends the work if nothing merged, else streams again".
+  -- Rules out: Merge run for Litinski; streams that merge between the layerings
+  pub litinski-strategy : o .strategy ≡ Litinski
+      → endWork o j ≡ litinskiRounds (width (j .counts .qubits)) (rulesOf o) (o .rounds) (startOf (programOf j))
+  unfolding endOf rulesOf programOf passes
+  litinski-strategy e = ap (λ m. passes m (width (j .counts .qubits)) (rulesOf o) (o .rounds) (startOf (programOf j))) e
+
+module _ {o : Options} {j : Job} {s : Lent} {a : Answer} {c : Counters} {t : Lent} (call : Called o j s a c t) where
+  -- where Checking passes, the answer is that of 01's run at the limit: 9, 10 or 0, "in Rust's order".
+  -- Rules out: refusing all; 9 for a root that is met after a sum above the limit
+  pub answer-of-run : checking o j s ≡ Accepted → a ≡ answerOf (limitOf o) (runOf o j)
+  answer-of-run h = sym (answer-is call) ∙ run-answer o j s h
+
+  -- 0 exactly where no tested sum exceeds the limit and every root's total phase is even.
+  -- Rules out: ExpansionLimit before any sum is tested; accepting a root X with phase 1
+  pub accepted-where : checking o j s ≡ Accepted → (a ≡ Accepted) ↔ ((runOf o j .peak ≤ limitOf o) × Hermitian (programOf j))
+  accepted-where h =
+      (λ e. accepted-exactly o j s h .0 (answer-is call ∙ e), λ g. sym (answer-is call) ∙ accepted-exactly o j s h .1 g)
+
+  -- 10 exactly where one does.
+  -- Rules out: a limit that counts axes and no images; a test that refuses a sum equal to the limit
+  pub limit-where : checking o j s ≡ Accepted → (a ≡ ExpansionLimit) ↔ (limitOf o < runOf o j .peak)
+  limit-where h = (λ e. limit-exactly o j s h .0 (answer-is call ∙ e), λ g. sym (answer-is call) ∙ limit-exactly o j s h .1 g)
+
+  -- 9 exactly where none does and a root's total phase is odd.
+  -- Rules out: 9 for a row that is no root; an odd phase dropped from a root
+  pub non-hermitian-where : checking o j s ≡ Accepted
+      → (a ≡ NonHermitianAxis) ↔ ((runOf o j .peak ≤ limitOf o) × (Hermitian (programOf j) → ⊥))
+  non-hermitian-where h =
+      (λ e. nine-exactly o j s h .0 (answer-is call ∙ e), λ g. sym (answer-is call) ∙ nine-exactly o j s h .1 g)
+
+module _ {o : Options} {j : Job} {s : Lent} {c : Counters} {t : Lent} (call : Called o j s Accepted c t) where
+  -- all eleven counters are those of the run.
+  -- Rules out: merge counters made up; T-depths measured where `measure_depth` is off
+  pub counters-of-run : c ≡ countersOf (rulesOf o) (programOf j) (finishOf (rulesOf o) (o .rounds) (programOf j))
+  counters-of-run = sym (counters-are call) ∙ accepted-counters o j s (answer-is call)
+
+  -- "the rewritten program is proved to have its source's effect for every choice of outcomes and every product of frame rows": what lies
+  -- in the slices, read by its records' fields alone, against the counted records handed in; "equal after factors 2 for the difference in
+  -- operation count". ns are the places of the rows that are multiplied, in order.
+  -- Rules out: conjugating the wrong way round; merging across a measurement
+  pub effect-kept : (outcomes : ℕ → Bool) (ns : List ℕ)
+      → pow2 (Effects (programOf j)) (length (programOf j .operations) - length (operationsIn j t))
+      (resultEffect (programOf j) (wordsIn j t) (operationsIn j t) (rowsIn j t) outcomes ns)
+      ≡ sourceEffect (programOf j) outcomes ns
+  effect-kept outcomes ns =
+      ap₂ (λ (n : ℕ) x. pow2 (Effects (programOf j)) (length (programOf j .operations) - n) x) (ap length (operations-left call))
+      (effect-left call outcomes ns)
+      ∙ run-keeps-effect (programOf j) (call-fine o j s (answer-is call)) (call-hermitian o j s (answer-is call)) (rulesOf o) (o .rounds)
+      outcomes ns
+
+-- ==== Demand 3. Never worse
+
+module _ {o : Options} {j : Job} {s : Lent} {c : Counters} {t : Lent} (call : Called o j s Accepted c t) where
+  -- the counters tell both T-counts.
+  -- Rules out: T before taken after rotations dropped out; T after that leaves conditional rotations out
+  pub t-counts-told : (c .«t_before» ≡ tCountHanded j) × (c .«t_after» ≡ tCountLeft j t)
+  unfolding countersOf
+  t-counts-told = (
+    ap (λ (x : Counters). x .«t_before») (counters-of-run call),
+    ap (λ (x : Counters). x .«t_after») (counters-of-run call) ∙ ap resultTCount (sym (operations-left call)),
+  )
+
+  -- "neither exceeds the source's".
+  -- Rules out: an exchange that is kept though it merges nothing and splits an angle; an even rotation written as two odd ones
+  pub never-above-source : tCountLeft j t ≤ tCountHanded j
+  never-above-source =
+      let told = t-counts-told in
+      let h : c .«t_after» ≤ c .«t_before» = rw (← counters-are call) (no-more-than-source o j s (answer-is call)) in
+      omega arith
+
+module _ {o o′ : Options} {j j′ : Job} {s s′ : Lent} {c c′ : Counters} {t t′ : Lent} where
+  -- "Of two accepted runs alike but for rounds and word limit, the one with more rounds has no higher T-count".
+  -- Rules out: a last round whose worse result is kept; rounds that start again from the program handed in
+  pub more-rounds-never-worse : Called o j s Accepted c t → Called o′ j′ s′ Accepted c′ t′ → AlikeButRoundsAndLimit o o′ j j′
+      → o .rounds ≤ o′ .rounds
+      → tCountLeft j′ t′ ≤ tCountLeft j t
+  more-rounds-never-worse x y alike h =
+      let e = t-counts-told x in
+      let e′ = t-counts-told y in
+      let k : c′ .«t_after» ≤ c .«t_after» = rw (← counters-are x, ← counters-are y)
+      (no-more-with-more-rounds o o′ j j′ s s′ (alike .job) (alike-rules alike) h (answer-is x) (answer-is y)) in
+      omega arith
+
+  -- "equal rounds give equal results and counters".
+  -- Rules out: an answer that depends on what the work stores held; ids that depend on the limit
+  pub equal-rounds-equal-results : Called o j s Accepted c t → Called o′ j′ s′ Accepted c′ t′ → AlikeButLimit o o′ j j′
+      → SameLeft t t′ × (c′ ≡ c)
+  equal-rounds-equal-results x y alike =
+      let one = acceptance x in
+      let other : Holds (programOf j) (endWork o j) s′ t′
+      = rw (← alike-rules (alike .others), ← alike .rounds, ← alike-program j j′ (alike .others .job)) (acceptance y) in (
+        record {
+          operations = agree-then _ _ _ (one .operations) (other .operations);
+          rows = agree-then _ _ _ (one .rows) (other .rows);
+          words = agree-then _ _ _ (one .words) (other .words);
+          numbers = agree-zeros _ _ (one .numbers) (other .numbers);
+        },
+        rw (← counters-are x, ← counters-are y)
+            (results-counters (equal-rounds o o′ j j′ s s′ (alike .others .job) (but-limit alike) (answer-is x) (answer-is y))),
+      )
+
+module _ {o o′ : Options} {j j′ : Job} {s s′ : Lent} {a a′ : Answer} {c c′ : Counters} {t t′ : Lent} where
+  -- "an accepted or non-Hermitian run gets the same answer at every larger limit": the limit lies in the domain, and 3 does not refuse the
+  -- stores ("long enough if 3 does not refuse them").
+  -- Rules out: 10 at a limit above one that was enough; slots laid out so that a larger limit tests larger sums
+  pub larger-limit-same-answer : Called o j s a c t → Called o′ j′ s′ a′ c′ t′ → AlikeButLimit o o′ j j′
+      → (a ≡ Accepted) ⊎ (a ≡ NonHermitianAxis) → limitOf o ≤ limitOf o′ → limitOf o′ ≤ 1048576 → (a′ ≡ SliceShort → ⊥)
+      → (a′ ≡ a) × (c′ ≡ c)
+  larger-limit-same-answer x y alike e h k n =
+      let passed = passed-checking x e in
+      let not-2 : rewriting o′ j′ s′ .answer ≡ OptionOutside → ⊥ = λ f. let m = ap numberOf (sym (answer-is y) ∙ f) in
+      not-two s s′ alike passed k (sym (only-checking y (omega arith) (omega arith)) ∙ sym (answer-is y) ∙ f) in
+      let same = same-at-larger-limit o o′ j j′ s s′ (alike .others .job) (but-limit alike) h
+      (⊎-elim (λ f. inl (answer-is x ∙ f)) (λ f. inr (answer-is x ∙ f)) e) not-2 (λ f. n (sym (answer-is y) ∙ f)) in
+      (rw (← answer-is x, ← answer-is y) (results-answer same), rw (← counters-are x, ← counters-are y) (results-counters same))

@@ -1,0 +1,1 @@
+// what calls of the public functions leave: theorems, no code
