@@ -73,6 +73,11 @@ use Rattle.rewriting.proofs.rewriting as f
 use Rattle.rewriting.proofs.rewriting.Statement as stated
 use Rattle.rewriting.proofs.rewriting.Code as code
 
+-- pairs, nested to the right
+infixr 30 _&_
+abbrev _&_ {ℓ κ} : {A : Type ℓ} {B : Type κ} → A → B → A × B
+a & b = (a, b)
+
 abbrev B : RattleType
 B = T.the-row
 
@@ -90,10 +95,10 @@ EB = E.the-row
 
 abbrev stayed : Stays (f.ended .signature .params) (f.ended .kept)
 stayed =
-    (stay-none (λ _. CB) yes, (stay-none (λ _. OB) yes, (stay-none-slice (0 ∷ []) tt (plain (λ _. u32)) yes, (stay-none-slice (1 ∷ []) tt
-    (plain (λ _. u32)) yes, (stay-none-slice (2 ∷ []) tt (plain (λ _. u32)) yes, (gave-slice (3 ∷ []) tt (plain (λ _. u64)), (gave-slice (4
-    ∷ []) tt (plain (λ _. u32)), (gave-slice (5 ∷ []) tt (plain (λ _. u32)), (gave-slice (6 ∷ []) tt (plain (λ _. u32)), (gave-ref (7 ∷ [])
-    tt (plain (λ _. B)), tt))))))))))
+    stay-none (λ _. CB) yes & stay-none (λ _. OB) yes & stay-none-slice (0 ∷ []) tt (plain (λ _. u32)) yes & stay-none-slice (1 ∷ []) tt
+    (plain (λ _. u32)) yes & stay-none-slice (2 ∷ []) tt (plain (λ _. u32)) yes & gave-slice (3 ∷ []) tt (plain (λ _. u64)) & gave-slice (4
+    ∷ []) tt (plain (λ _. u32)) & gave-slice (5 ∷ []) tt (plain (λ _. u32)) & gave-slice (6 ∷ []) tt (plain (λ _. u32)) & gave-ref (7 ∷ [])
+    tt (plain (λ _. B)) & tt
 
 -- the last lists that the core leaves, with nothing for what it does not change
 abbrev Finals : Type 0
@@ -109,8 +114,25 @@ module _ {M : Type 1} (𝓤 : URA M) (H : Heap 𝓤) (A : Atoms 𝓤) (mem : Mem
   Conclude = tripleOf 𝓤 H A last.signature (last.spec 𝓤 H A mem run)
 
 module _ {M : Type 1} (𝓤 : URA M) (H : Heap 𝓤) (A : Atoms 𝓤) (W : Given 𝓤 H A) (mem : Memory → SProp 𝓤) (run : Routine → Fun 𝓤) (κn κp
-    κr κw κx κd κm κs : Lft) (qn qp qr qw qx qd qm qs : Share) (bounds : AllOutlive 8 (f.signature .outlives) (κn, (κp, (κr, (κw, (κx, (κd,
-    (κm, (κs, tt))))))))) (c : Counts) (ic : Is CB c (K′.lowered c ∷ [])) (o : Options) (io : Is OB o (LL.val O.the-type O′.the-laws o ∷
+    κr κw κx κd κm κs : Lft) (qn qp qr qw qx qd qm qs : Share) (bounds : AllOutlive 8 (f.signature .outlives) (
+      κn,
+      (
+        κp,
+        (
+          κr,
+          (
+            κw,
+            (
+              κx,
+              (
+                κd,
+                (κm, (κs, tt)),
+              ),
+            ),
+          ),
+        ),
+      ),
+    )) (c : Counts) (ic : Is CB c (K′.lowered c ∷ [])) (o : Options) (io : Is OB o (LL.val O.the-type O′.the-laws o ∷
     [])) (xn xp xr xw xx xd xm : RefT (List ℕ)) (xs : RefT Counters) where
   -- the machine values of the slices and of stats
   abbrev vn : Val
@@ -170,8 +192,8 @@ module _ {M : Type 1} (𝓤 : URA M) (H : Heap 𝓤) (A : Atoms 𝓤) (W : Given
 
   abbrev vals₉ : Valss rows₉
   vals₉ =
-      (K′.lowered c ∷ [], (LL.val O.the-type O′.the-laws o ∷ [], (vn ∷ [], (vp ∷ [], (vr ∷ [], (vw ∷ [], (vx ∷ [], (vd ∷ [], (vm ∷ [],
-      tt)))))))))
+      (K′.lowered c ∷ []) & (LL.val O.the-type O′.the-laws o ∷ []) & (vn ∷ []) & (vp ∷ []) & (vr ∷ []) & (vw ∷ []) & (vx ∷ []) & (vd ∷ []) &
+      (vm ∷ []) & tt
 
   abbrev rows₁₀ : List RattleType
   rows₁₀ =
@@ -183,8 +205,8 @@ module _ {M : Type 1} (𝓤 : URA M) (H : Heap 𝓤) (A : Atoms 𝓤) (W : Given
 
   abbrev vals₁₀ : Valss rows₁₀
   vals₁₀ =
-      (K′.lowered c ∷ [], (LL.val O.the-type O′.the-laws o ∷ [], (vn ∷ [], (vp ∷ [], (vr ∷ [], (vw ∷ [], (vx ∷ [], (vd ∷ [], (vm ∷ [], (vs ∷
-      [], tt))))))))))
+      (K′.lowered c ∷ []) & (LL.val O.the-type O′.the-laws o ∷ []) & (vn ∷ []) & (vp ∷ []) & (vr ∷ []) & (vw ∷ []) & (vx ∷ []) & (vd ∷ []) &
+      (vm ∷ []) & (vs ∷ []) & tt
 
   abbrev passed : List Val
   passed = K′.lowered c ∷ LL.val O.the-type O′.the-laws o ∷ vn ∷ vp ∷ vr ∷ vw ∷ vx ∷ vd ∷ vm ∷ vs ∷ []
@@ -250,14 +272,14 @@ module _ {M : Type 1} (𝓤 : URA M) (H : Heap 𝓤) (A : Atoms 𝓤) (W : Given
       ftrue) ∷ (‵ (flft κs qs) ⊛ ‵ ftrue) ∷ ‵ Ownn ∷ ‵ Ownp ∷ ‵ Ownr ∷ ‵ (finally u64 (xw .name) (zs .1 .1 .1 .1 .1 .0)) ∷ ‵ (finally u32
       (xx .name) (zs .1 .1 .1 .1 .1 .1 .0)) ∷ ‵ (finally u32 (xd .name) (zs .1 .1 .1 .1 .1 .1 .1 .0)) ∷ ‵ (finally u32 (xm .name) (zs .1 .1
       .1 .1 .1 .1 .1 .1 .0)) ∷ ‵ (fres (xs .name) (B .coded .code h)) ∷ ‵ (EB .own a (u ∷ [])) ∷ []) ∵ suffices ! _ (ends-at 𝓤 H A f.ended
-      stayed (f.clauses 𝓤 H A mem run) W ((κs₈, qs₈, bounds, args₁₀, vals₁₀), tt) u a (tt, (tt, (tt, (tt, (tt, (zs .1 .1 .1 .1 .1 .0, (zs .1
-      .1 .1 .1 .1 .1 .0, (zs .1 .1 .1 .1 .1 .1 .1 .0, (zs .1 .1 .1 .1 .1 .1 .1 .1 .0, (h, tt)))))))))) (tt, (tt, (tt, (tt, (tt, (lw, (lx,
-      (ld, (lm, (tt, tt))))))))))) $ says ! e $ split ! $ move ! (1 ∷ []) $ split ! $ move ! (1 ∷ []) $ split ! $ move ! (1 ∷ []) $
-      split ! $ move ! (1 ∷ []) $ split ! $ move ! (1 ∷ []) $ split ! $ move ! (1 ∷ []) $ split ! $ move ! (1 ∷ []) $ drop ! $
-      move ! (0 ∷ 7 ∷ []) $ join ! $ move ! (1 ∷ 0 ∷ []) $ join ! $ move ! (1 ∷ 0 ∷ []) $ join ! $ move ! (1 ∷ 0 ∷ []) $ join ! $
-      move ! (1 ∷ 0 ∷ []) $ join ! $ move ! (1 ∷ 0 ∷ []) $ join ! $ move ! (1 ∷ 0 ∷ []) $ join ! $ frame ! $ nothing ! $
-      move ! (8 ∷ 0 ∷ []) $ fjoin ! $ move ! (7 ∷ 0 ∷ []) $ fjoin ! $ move ! (6 ∷ 0 ∷ []) $ fjoin ! $ move ! (5 ∷ 0 ∷ []) $ fjoin ! $
-      move ! (4 ∷ 0 ∷ []) $ fjoin ! $ move ! (3 ∷ 0 ∷ []) $ fjoin ! $ move ! (2 ∷ 0 ∷ []) $ fjoin ! $ move ! (1 ∷ 0 ∷ []) $ fjoin ! $
+      stayed (f.clauses 𝓤 H A mem run) W ((κs₈, qs₈, bounds, args₁₀, vals₁₀), tt) u a (tt & tt & tt & tt & tt & zs .1 .1 .1 .1 .1 .0 & zs .1
+      .1 .1 .1 .1 .1 .0 & zs .1 .1 .1 .1 .1 .1 .1 .0 & zs .1 .1 .1 .1 .1 .1 .1 .1 .0 & h & tt) (tt & tt & tt & tt & tt & lw & lx & ld & lm &
+      tt & tt)) $ says ! e $ split ! $ move ! (1 ∷ []) $ split ! $ move ! (1 ∷ []) $ split ! $ move ! (1 ∷ []) $ split ! $ move ! (1 ∷ []) $
+      split ! $ move ! (1 ∷ []) $ split ! $ move ! (1 ∷ []) $ split ! $ move ! (1 ∷ []) $ drop ! $ move ! (0 ∷ 7 ∷ []) $ join ! $
+      move ! (1 ∷ 0 ∷ []) $ join ! $ move ! (1 ∷ 0 ∷ []) $ join ! $ move ! (1 ∷ 0 ∷ []) $ join ! $ move ! (1 ∷ 0 ∷ []) $ join ! $
+      move ! (1 ∷ 0 ∷ []) $ join ! $ move ! (1 ∷ 0 ∷ []) $ join ! $ frame ! $ nothing ! $ move ! (8 ∷ 0 ∷ []) $ fjoin ! $
+      move ! (7 ∷ 0 ∷ []) $ fjoin ! $ move ! (6 ∷ 0 ∷ []) $ fjoin ! $ move ! (5 ∷ 0 ∷ []) $ fjoin ! $ move ! (4 ∷ 0 ∷ []) $ fjoin ! $
+      move ! (3 ∷ 0 ∷ []) $ fjoin ! $ move ! (2 ∷ 0 ∷ []) $ fjoin ! $ move ! (1 ∷ 0 ∷ []) $ fjoin ! $
       owned ! OB (Is OB) (LL.makes O.the-type O′.the-plain 𝓤 H A) o _ io $ fjoin ! $
       owned ! CB (Is CB) (LL.makes K.the-type K′.the-plain 𝓤 H A) c _ ic $ fjoin ! $ done !
 
@@ -284,17 +306,57 @@ module _ {M : Type 1} (𝓤 : URA M) (H : Heap 𝓤) (A : Atoms 𝓤) (W : Given
         -- [_20; …; _19; …; .. ; _1; …; room for _0; …; what comes in]
         assigns ! (addr ! (from ! (fld ! refl (hop ! (look-in ! 28 (sub ! 0 refl (whole !))) (stop !))))) (from ! (stop !)) (init ! 16 refl
         (tt, tt)) $ assigns ! (agg ! (and-then ! (load ! (from ! (stop !)) (look ! 16 refl)) (and-then ! (load ! (from ! (fld ! refl (stop
-        !))) (look-in ! 28 (sub ! 1 refl (whole !)))) (no-more !)))) (from ! (stop !)) (init ! 14 refl (tt, (tt, (record { fits = gw .0 },
-        tt)))) $ assigns ! (addr ! (from ! (fld ! refl (hop ! (look-in ! 26 (sub ! 0 refl (whole !))) (stop !))))) (from ! (stop !)) (init !
+        !))) (look-in ! 28 (sub ! 1 refl (whole !)))) (no-more !)))) (from ! (stop !)) (init ! 14 refl (
+          tt,
+          (
+            tt,
+            (
+              record { fits = gw .0 },
+              tt,
+            ),
+          ),
+        )) $ assigns ! (addr ! (from ! (fld ! refl (hop ! (look-in ! 26 (sub ! 0 refl (whole !))) (stop !))))) (from ! (stop !)) (init !
         12 refl (tt, tt)) $ assigns ! (agg ! (and-then ! (load ! (from ! (stop !)) (look ! 12 refl)) (and-then ! (load ! (from ! (fld ! refl
-        (stop !))) (look-in ! 26 (sub ! 1 refl (whole !)))) (no-more !)))) (from ! (stop !)) (init ! 10 refl (tt, (tt, (record { fits = gx
-        .0 }, tt)))) $ assigns ! (addr ! (from ! (fld ! refl (hop ! (look-in ! 24 (sub ! 0 refl (whole !))) (stop !))))) (from ! (stop !))
+        (stop !))) (look-in ! 26 (sub ! 1 refl (whole !)))) (no-more !)))) (from ! (stop !)) (init ! 10 refl (
+          tt,
+          (
+            tt,
+            (
+              record {
+                fits = gx
+                    .0;
+              },
+              tt,
+            ),
+          ),
+        )) $ assigns ! (addr ! (from ! (fld ! refl (hop ! (look-in ! 24 (sub ! 0 refl (whole !))) (stop !))))) (from ! (stop !))
         (init ! 8 refl (tt, tt)) $ assigns ! (agg ! (and-then ! (load ! (from ! (stop !)) (look ! 8 refl)) (and-then ! (load ! (from ! (fld
-        ! refl (stop !))) (look-in ! 24 (sub ! 1 refl (whole !)))) (no-more !)))) (from ! (stop !)) (init ! 6 refl (tt, (tt, (record { fits
-        = gd .0 }, tt)))) $ assigns ! (addr ! (from ! (fld ! refl (hop ! (look-in ! 22 (sub ! 0 refl (whole !))) (stop !))))) (from ! (stop
+        ! refl (stop !))) (look-in ! 24 (sub ! 1 refl (whole !)))) (no-more !)))) (from ! (stop !)) (init ! 6 refl (
+          tt,
+          (
+            tt,
+            (
+              record {
+                fits
+                    = gd .0;
+              },
+              tt,
+            ),
+          ),
+        )) $ assigns ! (addr ! (from ! (fld ! refl (hop ! (look-in ! 22 (sub ! 0 refl (whole !))) (stop !))))) (from ! (stop
         !)) (init ! 4 refl (tt, tt)) $ assigns ! (agg ! (and-then ! (load ! (from ! (stop !)) (look ! 4 refl)) (and-then ! (load ! (from !
-        (fld ! refl (stop !))) (look-in ! 22 (sub ! 1 refl (whole !)))) (no-more !)))) (from ! (stop !)) (init ! 2 refl (tt, (tt, (record {
-        fits = gm .0 }, tt)))) $ move ! (42 ∷ []) $
+        (fld ! refl (stop !))) (look-in ! 22 (sub ! 1 refl (whole !)))) (no-more !)))) (from ! (stop !)) (init ! 2 refl (
+          tt,
+          (
+            tt,
+            (
+              record {
+                fits = gm .0;
+              },
+              tt,
+            ),
+          ),
+        )) $ move ! (42 ∷ []) $
         use1 W (raw (Core 𝓤 H A mem run .pre to-core) ⊛ ((‵ (flft κs qs) ⊛ ‵ ftrue) ⊛ (‵ Owns ⊛ (‵ Ownn ⊛ (‵ Ownp ⊛ ‵ Ownr))))) goes-in $
         split ! $ move ! (1 ∷ []) $ split ! $ move ! (1 ∷ []) $ split ! $ move ! (1 ∷ []) $ split ! $ move ! (1 ∷ []) $ split ! $
         move ! (5 ∷ []) $
@@ -342,29 +404,28 @@ module _ {M : Type 1} (𝓤 : URA M) (H : Heap 𝓤) (A : Atoms 𝓤) (W : Given
       → Triple 𝓤 (C #rewriting·conclude) (Conclude 𝓤 H A mem run)
       → Walks 𝓤 H A f.ended stayed (WpFn 𝓤 H C Λ code.function) (f.clauses 𝓤 H A mem run)
   rewriting-walks C Λ fm known-core known-conclude =
-      walked 𝓤 H A f.ended stayed (f.clauses 𝓤 H A mem run) (WpFn 𝓤 H C Λ code.function) (λ κs. (LL.vals K.the-type K′.the-laws, (LL.vals
-      O.the-type O′.the-laws, (slice-vals, (slice-vals, (slice-vals, (slice-vals, (slice-vals, (slice-vals, (slice-vals, (ptr-vals,
-      tt))))))))))) (λ κs. (LL.tells K.the-type K′.the-laws, (LL.tells O.the-type O′.the-laws, (shr-slice-tells (named 0) (κs .0) u32,
-      (shr-slice-tells (named 1) (κs .1 .0) u32, (shr-slice-tells (named 2) (κs .1 .1 .0) u32, (mut-slice-tells (named 3) (κs .1 .1 .1 .0)
-      u64, (mut-slice-tells (named 4) (κs .1 .1 .1 .1 .0) u32, (mut-slice-tells (named 5) (κs .1 .1 .1 .1 .1 .0) u32, (mut-slice-tells
-      (named 6) (κs .1 .1 .1 .1 .1 .1 .0) u32, (mut-tells (named 7) (κs .1 .1 .1 .1 .1 .1 .1 .0) B, tt))))))))))) (λ κs qs bounds a _ are.
-      via 𝓤 _ (fst∗ 𝓤 _ (emp 𝓤)) (walk 𝓤 H A W mem run (κs .0) (κs .1 .0) (κs .1 .1 .0) (κs .1 .1 .1 .0) (κs .1 .1 .1 .1 .0) (κs .1 .1 .1 .1
-      .1 .0) (κs .1 .1 .1 .1 .1 .1 .0) (κs .1 .1 .1 .1 .1 .1 .1 .0) (qs .0) (qs .1 .0) (qs .1 .1 .0) (qs .1 .1 .1 .0) (qs .1 .1 .1 .1 .0)
-      (qs .1 .1 .1 .1 .1 .0) (qs .1 .1 .1 .1 .1 .1 .0) (qs .1 .1 .1 .1 .1 .1 .1 .0) bounds (a .0) (are .0) (a .1 .0) (are .1 .0) (a .1 .1
-      .0) (a .1 .1 .1 .0) (a .1 .1 .1 .1 .0) (a .1 .1 .1 .1 .1 .0) (a .1 .1 .1 .1 .1 .1 .0) (a .1 .1 .1 .1 .1 .1 .1 .0) (a .1 .1 .1 .1 .1 .1
-      .1 .1 .0) (a .1 .1 .1 .1 .1 .1 .1 .1 .1 .0) C Λ fm known-core known-conclude (are .1 .1 .0) (are .1 .1 .1 .0) (are .1 .1 .1 .1 .0)
-      (are .1 .1 .1 .1 .1 .0 .0 .1) (are .1 .1 .1 .1 .1 .1 .0 .0 .1) (are .1 .1 .1 .1 .1 .1 .1 .0 .0 .1) (are .1 .1 .1 .1 .1 .1 .1 .1 .0 .0
-      .1)))
+      walked 𝓤 H A f.ended stayed (f.clauses 𝓤 H A mem run) (WpFn 𝓤 H C Λ code.function) (λ κs. LL.vals K.the-type K′.the-laws & LL.vals
+      O.the-type O′.the-laws & slice-vals & slice-vals & slice-vals & slice-vals & slice-vals & slice-vals & slice-vals & ptr-vals & tt) (λ
+      κs. LL.tells K.the-type K′.the-laws & LL.tells O.the-type O′.the-laws & shr-slice-tells (named 0) (κs .0) u32 & shr-slice-tells (named
+      1) (κs .1 .0) u32 & shr-slice-tells (named 2) (κs .1 .1 .0) u32 & mut-slice-tells (named 3) (κs .1 .1 .1 .0) u64 & mut-slice-tells
+      (named 4) (κs .1 .1 .1 .1 .0) u32 & mut-slice-tells (named 5) (κs .1 .1 .1 .1 .1 .0) u32 & mut-slice-tells (named 6) (κs .1 .1 .1 .1
+      .1 .1 .0) u32 & mut-tells (named 7) (κs .1 .1 .1 .1 .1 .1 .1 .0) B & tt) (λ κs qs bounds a _ are. via 𝓤 _ (fst∗ 𝓤 _ (emp 𝓤)) (walk 𝓤 H
+      A W mem run (κs .0) (κs .1 .0) (κs .1 .1 .0) (κs .1 .1 .1 .0) (κs .1 .1 .1 .1 .0) (κs .1 .1 .1 .1 .1 .0) (κs .1 .1 .1 .1 .1 .1 .0) (κs
+      .1 .1 .1 .1 .1 .1 .1 .0) (qs .0) (qs .1 .0) (qs .1 .1 .0) (qs .1 .1 .1 .0) (qs .1 .1 .1 .1 .0) (qs .1 .1 .1 .1 .1 .0) (qs .1 .1 .1 .1
+      .1 .1 .0) (qs .1 .1 .1 .1 .1 .1 .1 .0) bounds (a .0) (are .0) (a .1 .0) (are .1 .0) (a .1 .1 .0) (a .1 .1 .1 .0) (a .1 .1 .1 .1 .0) (a
+      .1 .1 .1 .1 .1 .0) (a .1 .1 .1 .1 .1 .1 .0) (a .1 .1 .1 .1 .1 .1 .1 .0) (a .1 .1 .1 .1 .1 .1 .1 .1 .0) (a .1 .1 .1 .1 .1 .1 .1 .1 .1
+      .0) C Λ fm known-core known-conclude (are .1 .1 .0) (are .1 .1 .1 .0) (are .1 .1 .1 .1 .0) (are .1 .1 .1 .1 .1 .0 .0 .1) (are .1 .1 .1
+      .1 .1 .1 .0 .0 .1) (are .1 .1 .1 .1 .1 .1 .1 .0 .0 .1) (are .1 .1 .1 .1 .1 .1 .1 .1 .0 .0 .1)))
 
 rewriting-meets : {M : Type 1} (𝓤 : URA M) (H : Heap 𝓤) (A : Atoms 𝓤) → Given 𝓤 H A → (mem : Memory → SProp 𝓤) (run : Routine → Fun 𝓤)
     (𝓣 : Tables 𝓤 H) → Triple 𝓤 (𝓣 .C #rewrite·rewrite) (Core 𝓤 H A mem run) → Triple 𝓤 (𝓣 .C #rewriting·conclude) (Conclude 𝓤 H A mem run)
     → Meets 𝓤 H A f.signature (WpFn 𝓤 H (𝓣 .C) (𝓣 .Λ) code.function) (f.spec 𝓤 H A mem run)
 rewriting-meets 𝓤 H A W mem run 𝓣 known-core known-conclude =
-    walk-meets 𝓤 H A f.ended stayed W (goes-none 𝓤 H A W 8 (λ _. CB) yes (λ κs x f. refl), (goes-none 𝓤 H A W 8 (λ _. OB) yes (λ κs x f.
-    refl), (goes-none-slice 𝓤 H A W 8 (0 ∷ []) tt (plain (λ _. u32)) yes, (goes-none-slice 𝓤 H A W 8 (1 ∷ []) tt (plain (λ _. u32)) yes,
-    (goes-none-slice 𝓤 H A W 8 (2 ∷ []) tt (plain (λ _. u32)) yes, (goes-gave-slice 𝓤 H A W 8 3 tt (plain (λ _. u64)), (goes-gave-slice 𝓤 H
-    A W 8 4 tt (plain (λ _. u32)), (goes-gave-slice 𝓤 H A W 8 5 tt (plain (λ _. u32)), (goes-gave-slice 𝓤 H A W 8 6 tt (plain (λ _. u32)),
-    (goes-gave-ref 𝓤 H A W 8 7 tt (plain (λ _. B)), tt)))))))))) (f.clauses 𝓤 H A mem run) (WpFn 𝓤 H (𝓣 .C) (𝓣 .Λ) code.function)
+    walk-meets 𝓤 H A f.ended stayed W (goes-none 𝓤 H A W 8 (λ _. CB) yes (λ κs x f. refl) & goes-none 𝓤 H A W 8 (λ _. OB) yes (λ κs x f.
+    refl) & goes-none-slice 𝓤 H A W 8 (0 ∷ []) tt (plain (λ _. u32)) yes & goes-none-slice 𝓤 H A W 8 (1 ∷ []) tt (plain (λ _. u32)) yes &
+    goes-none-slice 𝓤 H A W 8 (2 ∷ []) tt (plain (λ _. u32)) yes & goes-gave-slice 𝓤 H A W 8 3 tt (plain (λ _. u64)) & goes-gave-slice 𝓤 H A
+    W 8 4 tt (plain (λ _. u32)) & goes-gave-slice 𝓤 H A W 8 5 tt (plain (λ _. u32)) & goes-gave-slice 𝓤 H A W 8 6 tt (plain (λ _. u32)) &
+    goes-gave-ref 𝓤 H A W 8 7 tt (plain (λ _. B)) & tt) (f.clauses 𝓤 H A mem run) (WpFn 𝓤 H (𝓣 .C) (𝓣 .Λ) code.function)
     (WpFn-mono 𝓤 H (W .laws) 𝓣 code.function)
     (rewriting-walks 𝓤 H A W mem run (𝓣 .C) (𝓣 .Λ) (fmOf 𝓤 H (W .laws) 𝓣) known-core known-conclude)
 
