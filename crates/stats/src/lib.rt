@@ -53,10 +53,3 @@ pub fn add_absorbed(c: &mut Counters, n: usize)
 {
     c.cliffords_to_frame = c.cliffords_to_frame + n;
 }
-
-// The counters become v: at 0 when a run starts, and after a refusal.
-pub fn store(c: &mut Counters, v: Counters)
-    ensures { λ _. ⌜ now (c .exit) ≡ v ⌝ }
-{
-    *c = v;
-}
