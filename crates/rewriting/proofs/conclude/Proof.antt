@@ -80,7 +80,7 @@ module _ {M : Type 1} (𝓤 : URA M) (H : Heap 𝓤) (A : Atoms 𝓤) (W : Given
   is : Is B (r .counters) (T′.lowered (r .counters) ∷ [])
   is = LL.owed R.the-type R′.the-laws r (LL.val R.the-type R′.the-laws r ∷ []) ir .1 .0
 
-  ia : Is EB (r .answer) (EL.val E.the-type E′.the-laws (r .answer) ∷ [])
+  ia : Is EB given (va ∷ [])
   ia = LL.owed R.the-type R′.the-laws r (LL.val R.the-type R′.the-laws r ∷ []) ir .0
 
   abbrev x : RefT Counters × (Rewritten × Unit {0})
