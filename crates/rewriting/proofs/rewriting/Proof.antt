@@ -230,8 +230,8 @@ module _ {M : Type 1} (𝓤 : URA M) (H : Heap 𝓤) (A : Atoms 𝓤) (W : Given
 
   abbrev vals₉ : Valss rows₉
   vals₉ =
-      (K′.lowered c ∷ []) & (LL.val O.the-type O′.the-laws o ∷ []) & (vn ∷ []) & (vp ∷ []) & (vr ∷ []) & (vw ∷ []) & (vx ∷ []) & (vd ∷ []) &
-      (vm ∷ []) & tt
+      (K′.lowered c ∷ []) & (LL.val O.the-type O′.the-laws o ∷ []) & (vn ∷ []) & (vp ∷ []) & (vr ∷ []) & (vw ∷ []) & (vx ∷ []) &
+      (vd ∷ []) & (vm ∷ []) & tt
 
   -- what comes in
   abbrev rows₁₀ : List RattleType
@@ -244,8 +244,8 @@ module _ {M : Type 1} (𝓤 : URA M) (H : Heap 𝓤) (A : Atoms 𝓤) (W : Given
 
   abbrev vals₁₀ : Valss rows₁₀
   vals₁₀ =
-      (K′.lowered c ∷ []) & (LL.val O.the-type O′.the-laws o ∷ []) & (vn ∷ []) & (vp ∷ []) & (vr ∷ []) & (vw ∷ []) & (vx ∷ []) & (vd ∷ []) &
-      (vm ∷ []) & (vs ∷ []) & tt
+      (K′.lowered c ∷ []) & (LL.val O.the-type O′.the-laws o ∷ []) & (vn ∷ []) & (vp ∷ []) & (vr ∷ []) & (vw ∷ []) & (vx ∷ []) &
+      (vd ∷ []) & (vm ∷ []) & (vs ∷ []) & tt
 
   abbrev passed : List Val
   passed = K′.lowered c ∷ LL.val O.the-type O′.the-laws o ∷ vn ∷ vp ∷ vr ∷ vw ∷ vx ∷ vd ∷ vm ∷ vs ∷ []
