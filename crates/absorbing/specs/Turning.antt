@@ -75,13 +75,9 @@ module _ {z : Shape} {i b k : ℕ} {ws xs : List ℕ} (pre : TurnPre z i b k ws 
     q-clear = inl refl;
   }
 
-  pub turn-small : {at e : ℕ} {ws′ : List ℕ} → StoredProduct (z .l) ws b at at ws′ e
-      → (rowCount * z .u ≤ length xs) × (i < z .u) × (e + k / 2 < 8)
-  turn-small {at} s = (
-    pre .there .numbers-long,
-    pre .there .entry,
-    omega (arith, s .turns, phase-lt (z .l) (wordAt (z .l) ws b) (wordAt (z .l) ws at), pre .quarters .small),
-  )
+  -- the product's phase
+  pub turn-small : {at e : ℕ} {ws′ : List ℕ} → StoredProduct (z .l) ws b at at ws′ e → e < 4
+  turn-small {at} s = omega (arith, s .turns, phase-lt (z .l) (wordAt (z .l) ws b) (wordAt (z .l) ws at))
 
   -- whether it changes: said of the words that were read
   module _ {r : Bool} {p q : List ℕ} {at : ℕ} (place : at ≡ slotPlace (z .limit) (z .l) i)

@@ -133,10 +133,12 @@ module _ {z : Shape} {n m id : ℕ} {ws xs : List ℕ} {t : Touched} (h : CarryP
     unfolding imageOfAxis scratchValue
     the-word = ap (λ (v : Value). v .word) (word .value)
 
-    pub intern-there : {o : ℕ} {y : Sizes} → o ≡ scratchPlace (z .limit) → y ≡ sizesOf z n → InternPre y (m * (6 * z .l)) ws₁ xs o
-    intern-there e f = rw f (record {
+    -- whatever words are counted besides the axes
+    pub intern-there : {o others : ℕ} {y : Sizes} → o ≡ scratchPlace (z .limit) → y ≡ sizesOf z n → others ≤ z .limit
+        → InternPre y others ws₁ xs o
+    intern-there e f counted = rw f (record {
       held = held-stored (now-holds .axes);
-      counted = omega (arith, now-holds .room);
+      counted = counted;
       word-in = omega (arith, long₁);
       behind = omega arith;
     })
@@ -149,12 +151,15 @@ module _ {z : Shape} {n m id : ℕ} {ws xs : List ℕ} {t : Touched} (h : CarryP
     unfolding carriedStore
     store-is = ap₂ (λ (x : ℕ) (w : List ℕ). intern (z .l) x (t .store) w) others-are (sym the-word)
 
+    images-in : m * (6 * z .l) ≤ z .limit
+    images-in = omega (arith, h .axis .at .holds .room)
+
     module _ {r : Interned} {ws₂ xs₂ : List ℕ} {o : ℕ} {y : Sizes} (scratch : o ≡ scratchPlace (z .limit)) (sizes : y ≡ sizesOf z n)
         (said : Stores y (m * (6 * z .l)) ws₁ xs o r ws₂ xs₂) where
       -- what the answer means
       meant : InternedAs (sizesOf z n) (m * (6 * z .l)) ws₁ xs (t .store) (wordAt (z .l) ws₁ (z .limit)) r ws₂ xs₂
       meant =
-          interned-is (sizesOf z n) (m * (6 * z .l)) ws₁ xs (z .limit) (intern-there refl refl) (t .store) (now-holds .axes)
+          interned-is (sizesOf z n) (m * (6 * z .l)) ws₁ xs (z .limit) (intern-there refl refl images-in) (t .store) (now-holds .axes)
           (rw (scratch, sizes) at said)
           (now-holds .peak-in)
 

@@ -128,7 +128,8 @@ module _ {z : Shape} {id q e : ℕ} {ws xs : List ℕ} {t : Touched} (h : Letter
       letter-image-there = record {
         slot = omega (arith, slots-le (z .l) _ _ image-number, h .held .at .holds .room);
         numbers-long = letter-granted .numbers-long;
-        entry = omega (arith, image-number, letter-granted .sized .words-row (3 * h .held .slots) (omega (arith, h .held .at .holds .room)));
+        entry =
+            omega (arith, image-number, letter-granted .sized .words-row (3 * h .held .slots) (omega (arith, h .held .at .holds .room)));
       }
 
       pub letter-image : letterOfAxis z id q t ≡ imageIn z ws xs (3 * (s - 1) + (c - 1))

@@ -3,6 +3,7 @@ use Rattle.absorbing.specs.Turning.{turn-word, turn-slot, turn-longs, tu
 use Rattle.absorbing.specs.Turning.{turn-small}
 use borrow.Author.Tests.{not-true, not-false}
 use borrow.Author.Needs.{needs}
+use native.Mathlib.Omega.{arith}
 use Rattle.absorbing.proofs.turn_image.Statement.{statement}
 use Rattle.absorbing.proofs.turn_image.Tie as tie
 
@@ -78,7 +79,8 @@ add-phase-requires-2 : tie.Need-add-phase-requires-2
 add-phase-requires-2 c κs =
     let at-product-in = c .before .before .before .before in
     let start = at-product-in .before .before .before .before .before .before .before .before .before .before .before in
-    turn-small (start .pre) (at-product-in .product-in .ensures)
+    let phase = turn-small (start .pre) (at-product-in .product-in .ensures) in
+    (start .pre .there .numbers-long, start .pre .there .entry, omega (arith, phase, start .pre .quarters .small))
 
 same-length-4 : tie.Need-same-length-4
 same-length-4 c = search needs

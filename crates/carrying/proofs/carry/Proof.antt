@@ -55,7 +55,7 @@ intern-requires c κs =
     let carry-word = scratch-at .before .before .before .before in
     let start = carry-word .before .before .before .before .before .before .before .before .before .before in
     intern-there (start .pre .it) (carry-word .carry-word .ensures _ (carry-at (start .pre .it))) (scratch-at .scratch-at .ensures)
-    (sizes-of .sizes-of .ensures)
+    (sizes-of .sizes-of .ensures) (omega (arith, start .pre .it .axis .at .holds .room))
 
 enum-known-i : tie.Need-enum-known-i
 enum-known-i c = search needs

@@ -1,0 +1,4 @@
+pub mod Reach
+pub mod Steps
+pub mod Taking
+pub mod Carried

@@ -1,0 +1,283 @@
+-- The steps of a rotation that was carried: put out, left as a zero, absorbed, merged. Assumes nothing.
+use mathlib.Core.Path.{_≡_, refl, sym, ap, ap₂, _∙_, subst}
+use mathlib.Core.Bool.{Bool, true, false, not, _&&_, true≢false}
+use mathlib.Core.List.{List, [], _∷_}
+use Prim.Native.Nat.{ℕ, suc, _+_, _*_, _≤_, _<_}
+use native.Mathlib.Decide.{ℕ-discrete}
+use native.Mathlib.Omega.{arith}
+use lib.Dec.{eqb}
+use lib.ListN.{length}
+use Rattle.store.specs.Row.{Written}
+use Rattle.model.specs.Lists.{allOf, anyOf, member, isEven}
+use Rattle.model.specs.Rules.{Absorption, off, atOnce, lazy}
+use Rattle.model.specs.Words.{wordOf}
+use Rattle.model.specs.Items.{isClifford}
+use Rattle.model.specs.Clifford.{Touched, absorbWord}
+use Rattle.model.specs.Stream.{Pass, leaveZero, putOutRotation, absorb}
+use Rattle.theory.specs.Cases.{if-true, if-false, and-left, and-right}
+use Rattle.layout.specs.declared.Shape.{Shape}
+use Rattle.layout.specs.Rows.{rowCount, outRow, lastRow, waitingRow, fSlot, fPhase}
+use Rattle.layout.specs.Only.{Only, only-none, only-of, only-then, only-written}
+use Rattle.layout.specs.Words.{KeptFrom}
+use Rattle.layout.specs.Shape.{longestRow}
+use Rattle.items.specs.declared.Tagged.{Tagged}
+use Rattle.items.specs.View.{taggedAt, itemSaid, itemAt, tagged-other}
+use Rattle.items.specs.Put.{ItemPut, taggedRotation}
+use Rattle.waiting.specs.Places.{placeIn, Named}
+use Rattle.waiting.specs.Inserting.{InsertPre, Inserted}
+use Rattle.words_wellformed.specs.HeldImages.{IsQuarters}
+use Rattle.clifford.specs.declared.Touching.{Touching}
+use Rattle.clifford.specs.declared.Touching.the-variants.{Slots}
+use Rattle.clifford.specs.Holds.{SomeTouched, LeftF, TouchedAs, maskPlace}
+use Rattle.absorbing.specs.Absorbing.{AbsorbAt}
+use Rattle.stream_states.specs.declared.State.{State}
+use Rattle.stream_states.specs.declared.Stepped.{Stepped}
+use Rattle.stream_states.specs.declared.Stepped.the-variants.{Next, ExpansionLimit}
+use Rattle.stream_states.specs.declared.StreamRules.{StreamRules}
+use Rattle.stream_states.specs.States.{withWaiting, heldOf, isWaiting, HoldsPass, PassAt, SomePass, absorptionSaid, streamRows}
+use Rattle.stream_states.specs.States.{LeftS, SteppedAs, as-next, as-limit}
+use Rattle.stream_states.specs.Output.{WaitsBut, but-quiet, pass-other, with-list, angle-set, last-cleared, withOut, put-waits, rotation-put}
+use Rattle.stream_states.specs.Known.{axes-count}
+
+-- ---- a place waits
+
+-- whether angle k is left to wait
+unfoldable pub isLater : StreamRules → ℕ → Bool
+isLater c k = c .«to_frame» && (c .lazy && isEven k)
+
+pub later-off : (c : StreamRules) (k : ℕ) → c .«to_frame» ≡ false → false ≡ isLater c k
+unfolding isLater
+later-off c k e = ap (λ (t : Bool). t && (c .lazy && isEven k)) (sym e)
+
+pub later-once : (c : StreamRules) (k : ℕ) → c .«to_frame» ≡ true → c .lazy ≡ false → false ≡ isLater c k
+unfolding isLater
+later-once c k e f = sym (ap₂ (λ (s t : Bool). s && (t && isEven k)) e f)
+
+pub later-even : (c : StreamRules) (k : ℕ) → c .«to_frame» ≡ true → c .lazy ≡ true → isEven k ≡ isLater c k
+unfolding isLater
+later-even c k e f = sym (ap₂ (λ (s t : Bool). s && (t && isEven k)) e f)
+
+later-lazy : (c : StreamRules) (k : ℕ) → isLater c k ≡ true → absorptionSaid c ≡ lazy
+unfolding isLater absorptionSaid
+later-lazy c k e =
+    if-true _ _ (and-left (c .«to_frame») _ e) ∙ if-true _ _ (and-left (c .lazy) _ (and-right (c .«to_frame») _ e))
+
+-- what is not left to wait does not wait, in lazy mode
+later-not : (c : StreamRules) (k : ℕ) → isLater c k ≡ false → absorptionSaid c ≡ lazy → isClifford k ≡ false
+unfolding isLater absorptionSaid
+later-not c k e f = go (c .«to_frame») refl (c .lazy) refl (isEven k) refl
+  where
+    go : (a : Bool) → c .«to_frame» ≡ a → (b : Bool) → c .lazy ≡ b → (d : Bool) → isEven k ≡ d → isClifford k ≡ false
+    go false g b h d i = absurd (no-off (sym (if-false {A = Absorption} _ off g) ∙ f))
+      where
+        no-off : off ≡ lazy → ⊥
+        no-off o = let x : _≡_ {A = ℕ} 0 1 = cc in omega arith
+    go true g false h d i = absurd (no-once (sym (if-true {A = Absorption} _ off g ∙ if-false {A = Absorption} lazy atOnce h) ∙ f))
+      where
+        no-once : atOnce ≡ lazy → ⊥
+        no-once o = let x : _≡_ {A = ℕ} 0 1 = cc in omega arith
+    go true g true h true i = absurd (true≢false (sym (ap₂ (λ (s t : Bool). s && t) g (ap₂ (λ (s t : Bool). s && t) h i)) ∙ e))
+    go true g true h false i = ap (λ (t : Bool). t && not (eqb k 0)) i
+
+pub record NamePre (z : Shape) (c : StreamRules) (st : State) (j : ℕ) (xs : List ℕ) : Type 0 where
+  pub numbers-long : rowCount * z .u ≤ length xs
+  pub place : j < longestRow
+  pub few : absorptionSaid c ≡ lazy → st .waiting < z .u
+
+-- place j of the output, by angle k, is named if it waits
+pub record PlaceNamed (z : Shape) (c : StreamRules) (st : State) (j k : ℕ) (xs xs′ : List ℕ) (r : State) : Type 0 where
+  pub state : r ≡ withWaiting (r .waiting) st
+  pub only : Only (waitingRow ∷ []) (z .u) xs xs′
+  pub holds : (m : Absorption) (ws : List ℕ) (p : Pass) → m ≡ absorptionSaid c → HoldsPass z off st ws xs p → j < st .out
+      → (m ≡ lazy → WaitsBut z xs (st .waiting) (st .out) j k) → HoldsPass z m r ws xs′ p
+
+module _ {z : Shape} {c : StreamRules} {st : State} {j k : ℕ} {xs : List ℕ} {t : Bool} (said : t ≡ isLater c k) where
+  -- it does not
+  pub place-quiet : t ≡ false → PlaceNamed z c st j k xs xs st
+  place-quiet e = record {
+    state = refl;
+    only = only-none (waitingRow ∷ []) (z .u) xs;
+    holds = λ m ws p mode h b w.
+        with-list (st .waiting) (only-none (waitingRow ∷ []) (z .u) xs) h
+        (λ f. but-quiet (w f) (later-not c k (sym said ∙ e) (sym mode ∙ f)));
+  }
+
+pub insert-pre : {z : Shape} {c : StreamRules} {st : State} {j : ℕ} (k : ℕ) {xs : List ℕ} {t : Bool} → t ≡ isLater c k → t ≡ true → NamePre z c st j xs
+    → InsertPre (z .u) (st .waiting) j xs
+insert-pre {z} {c} k said e pre = record {
+  numbers-long = pre .numbers-long;
+  space = pre .few (later-lazy c k (sym said ∙ e));
+  small = omega (arith, pre .place);
+}
+
+-- it does
+pub place-named : {z : Shape} {c : StreamRules} {st s : State} {j k n : ℕ} {xs xs′ : List ℕ} → Inserted (z .u) (st .waiting) j xs xs′ n
+    → s ≡ withWaiting n st → PlaceNamed z c st j k xs xs′ s
+unfolding member anyOf
+place-named {z} {c} {st} {s} {j} {k} {n} {xs} {xs′} i e = subst (PlaceNamed z c st j k xs xs′) (sym e) named
+  where
+    go : WaitsBut z xs (st .waiting) (st .out) j k → (x : ℕ) → x < st .out → isWaiting (itemAt xs′ (z .u) outRow x) ≡ true → Dec (x ≡ j)
+        → Named (placeIn (z .u) xs′) 0 n x
+    go w x d g (yes f) = rw f (i .own)
+    go w x d g (no f) =
+        i .others x (w .all x d f (sym (ap (λ (y : Tagged). isWaiting (itemSaid y)) (same x)) ∙ g))
+      where
+        same : (y : ℕ) → taggedAt xs′ (z .u) outRow y ≡ taggedAt xs (z .u) outRow y
+        same y = tagged-other (i .only) outRow (omega arith) refl y
+
+    named : PlaceNamed z c st j k xs xs′ (withWaiting n st)
+    named = record {
+      state = refl;
+      only = i .only;
+      holds = λ m ws p mode h b w. with-list n (i .only) h (λ f. record {
+        rising = i .rising (st .out) (w f .rising) b;
+        all = λ x d g. go (w f) x d g (ℕ-discrete x j);
+      });
+    }
+
+-- ---- put out
+
+pub record PutPre (z : Shape) (c : StreamRules) (st : State) (id : ℕ) (xs : List ℕ) : Type 0 where
+  pub numbers-long : rowCount * z .u ≤ length xs
+  pub space : st .out < z .u
+  pub axis : id < z .u
+  pub small : z .u ≤ longestRow
+  pub few : absorptionSaid c ≡ lazy → st .waiting < z .u
+
+pub record OutPut (z : Shape) (c : StreamRules) (st : State) (id k : ℕ) (xs xs′ : List ℕ) (r : State) : Type 0 where
+  pub state : r ≡ withWaiting (r .waiting) (withOut st)
+  pub left : Only streamRows (z .u) xs xs′
+  pub holds : (m : Absorption) (ws : List ℕ) (p : Pass) → m ≡ absorptionSaid c → HoldsPass z m st ws xs p
+      → HoldsPass z m r ws xs′ (putOutRotation p id k)
+
+module _ {z : Shape} {c : StreamRules} {st : State} {id k : ℕ} {xs xs₁ xs₂ : List ℕ} (pre : PutPre z c st id xs)
+    (wrote : Written xs (z .u) lastRow id (st .out + 1) xs₁) (put : ItemPut xs₁ (z .u) outRow (st .out) (taggedRotation id k) xs₂) where
+  pub put-name : NamePre z c (withOut st) (st .out) xs₂
+  put-name = record {
+    numbers-long = omega (arith, pre .numbers-long, wrote .long, put .only .long);
+    place = omega (arith, pre .space, pre .small);
+    few = pre .few;
+  }
+
+  pub out-put : {xs₃ : List ℕ} {r : State} → PlaceNamed z c (withOut st) (st .out) k xs₂ xs₃ r → OutPut z c st id k xs xs₃ r
+  unfolding allOf member anyOf
+  out-put n = record {
+    state = n .state;
+    left =
+        only-then (only-then (only-of streamRows refl (only-written (pre .numbers-long) (omega arith) (pre .axis) wrote))
+        (only-of streamRows refl (put .only))) (only-of streamRows refl (n .only));
+    holds = λ m ws p mode h.
+        n .holds m ws (putOutRotation p id k) mode (rotation-put h (pre .numbers-long) (pre .axis) wrote put) (omega arith)
+        (put-waits h (pre .numbers-long) (pre .axis) wrote put);
+  }
+
+-- ---- what absorbing leaves: the list of waiting places as it was
+
+abbrev pub absorbRows : List ℕ
+absorbRows = outRow ∷ (outRow + 1) ∷ (outRow + 2) ∷ lastRow ∷ fSlot ∷ fPhase ∷ []
+
+pub record LeftAbsorbed (z : Shape) (st : State) (ws xs : List ℕ) (r : Stepped) (ws′ xs′ : List ℕ) : Type 0 where
+  pub words : KeptFrom (maskPlace z + z .l) ws ws′
+  pub numbers : Only absorbRows (z .u) xs xs′
+  pub list : (s : State) → r ≡ Next s → s .waiting ≡ st .waiting
+
+pub absorbed-left : {z : Shape} {st : State} {ws xs : List ℕ} {r : Stepped} {ws′ xs′ : List ℕ} → LeftAbsorbed z st ws xs r ws′ xs′
+    → LeftS z ws xs ws′ xs′
+unfolding allOf member anyOf
+absorbed-left h = record { words = h .words; numbers = only-of streamRows refl (h .numbers) }
+
+-- ---- a zero is left
+
+pub record ZeroPre (z : Shape) (j id : ℕ) (xs : List ℕ) : Type 0 where
+  pub numbers-long : rowCount * z .u ≤ length xs
+  pub place : j < z .u
+  pub axis : id < z .u
+  pub small : z .u ≤ longestRow
+
+pub record ZeroLeft (z : Shape) (j id : ℕ) (xs xs′ : List ℕ) : Type 0 where
+  pub left : Only absorbRows (z .u) xs xs′
+  pub holds : (m : Absorption) (st : State) (ws : List ℕ) (p : Pass) → HoldsPass z m st ws xs p → j < st .out
+      → HoldsPass z m st ws xs′ (leaveZero j id p)
+
+pub zero-left : {z : Shape} {j id : ℕ} {xs xs₁ xs₂ : List ℕ} → ZeroPre z j id xs → Written xs (z .u) lastRow id 0 xs₁
+    → ItemPut xs₁ (z .u) outRow j (taggedRotation id 0) xs₂ → ZeroLeft z j id xs xs₂
+unfolding leaveZero allOf member anyOf
+zero-left {z} {j} {id} {xs} pre wrote put = record {
+  left = only-then (only-of absorbRows refl (only-written (pre .numbers-long) (omega arith) (pre .axis) wrote)) (only-of absorbRows refl (put .only));
+  holds = λ m st ws p h b.
+      angle-set (last-cleared h (pre .numbers-long) (pre .axis) wrote) put b (λ e. refl);
+}
+
+-- ---- F changes, the output stays
+
+-- the state with other slots, and one rotation more absorbed
+abbrev pub withSlots : ℕ → State → State
+withSlots s st = record {
+  axes = st .axes;
+  slots = s;
+  out = st .out;
+  start = st .start;
+  waiting = st .waiting;
+  merges = st .merges;
+  absorbed = st .absorbed + 1;
+}
+
+pub record AbsorbingAt (z : Shape) (st : State) (id k : ℕ) (ws xs : List ℕ) (m : Absorption) (n : ℕ) (p : Pass) : Type 0 where
+  pub at : PassAt z m n st ws xs p
+  pub id-in : id < st .axes
+  pub quarters : IsQuarters k
+  pub few : st .absorbed < 9223372036854775808
+
+module _ {z : Shape} {st : State} {id k : ℕ} {ws xs : List ℕ} {m : Absorption} {n : ℕ} {p : Pass} (h : AbsorbingAt z st id k ws xs m n p) where
+  pub absorb-there : AbsorbAt z (st .axes) (st .slots) id k ws xs (heldOf p)
+  absorb-there = record {
+    axis = record {
+      at = record { granted = h .at .granted; holds = h .at .holds .f };
+      id-in = h .id-in;
+      inside = h .at .fine .inside .axes .words id (omega (arith, axes-count (h .at .holds), h .id-in));
+    };
+    quarters = h .quarters;
+  }
+
+pub absorb-some : {z : Shape} {st : State} {id k : ℕ} {ws xs : List ℕ} → SomePass (λ m n p. AbsorbingAt z st id k ws xs m n p)
+    → SomeTouched (λ (t : Touched). AbsorbAt z (st .axes) (st .slots) id k ws xs t)
+absorb-some s = record { state = heldOf (s .p); it = absorb-there (s .it) }
+
+-- what the call leaves
+abbrev pub AbsorbLeft : Shape → State → ℕ → ℕ → List ℕ → List ℕ → Touching → List ℕ → List ℕ → Type 0
+AbsorbLeft z st id k ws xs r ws′ xs′ =
+    LeftF z ws xs ws′ xs′
+    × ((t : Touched) → AbsorbAt z (st .axes) (st .slots) id k ws xs t
+    → TouchedAs z (st .axes) r ws′ xs′ (absorbWord (z .l) t (wordOf (t .store .axes) id) k))
+
+module _ {z : Shape} {st : State} {id k : ℕ} {ws xs ws′ xs′ : List ℕ} {r : Touching} (call : AbsorbLeft z st id k ws xs r ws′ xs′)
+    {m : Absorption} {n : ℕ} {p : Pass} (h : AbsorbingAt z st id k ws xs m n p) where
+  pub absorbed-limit : r ≡ Rattle.clifford.specs.declared.Touching.the-variants.ExpansionLimit
+      → SteppedAs z m 0 1 st ExpansionLimit ws′ xs′ (absorb (z .l) p id k)
+  unfolding absorb
+  absorbed-limit e = as-limit (call .1 (heldOf p) (absorb-there h) .refused e)
+
+  pub absorbed-next : (s : ℕ) → r ≡ Slots s → SteppedAs z m 0 1 st (Next (withSlots s st)) ws′ xs′ (absorb (z .l) p id k)
+  unfolding absorb member anyOf
+  absorbed-next s e =
+      as-next (pass-other (call .0 .numbers) refl refl refl (h .at .holds) (absorb (z .l) p id k)
+      (call .1 (heldOf p) (absorb-there h) .held s e) refl refl (h .at .holds .merges-are)
+      (ap suc (h .at .holds .absorbed-are) ∙ (let f : suc (st .absorbed) ≡ st .absorbed + 1 = omega arith in f)))
+      (omega arith) (omega arith)
+
+module _ {z : Shape} {st : State} {ws xs ws′ xs′ : List ℕ} (h : LeftF z ws xs ws′ xs′) where
+  pub f-next : (s : ℕ) → LeftAbsorbed z st ws xs (Next (withSlots s st)) ws′ xs′
+  unfolding allOf member anyOf
+  f-next s = record {
+    words = h .words;
+    numbers = only-of absorbRows refl (h .numbers);
+    list = λ t e. let f : withSlots s st ≡ t = cc in sym (ap (λ (x : State). x .waiting) f);
+  }
+
+  pub f-limit : LeftAbsorbed z st ws xs ExpansionLimit ws′ xs′
+  unfolding allOf member anyOf
+  f-limit = record {
+    words = h .words;
+    numbers = only-of absorbRows refl (h .numbers);
+    list = λ t e. let f : _≡_ {A = ℕ} 0 1 = cc in absurd (omega arith);
+  }

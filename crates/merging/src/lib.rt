@@ -1,0 +1,318 @@
+// A carried rotation: absorbed at once, merged, or put out.
+ghost use mathlib.Core.Path.{_≡_};
+ghost use mathlib.Core.Bool.{_&&_, not};
+ghost use Prim.Native.Nat.{ℕ, _+_, _%_};
+ghost use Rattle.model.specs.Rules.{Absorption, Rules, isAtOnce};
+ghost use Rattle.model.specs.Stream.{Pass, absorb, leaveZero, countMerge, mergeAt, angleAt, takeRotation, carryAxis, imageId, axisImage};
+ghost use Rattle.model.specs.Lists.{isEven};
+ghost use Rattle.model.specs.Items.{withSign};
+ghost use Rattle.stream_states.specs.States.{SomePass, LeftS, SteppedAs, absorptionSaid, RulesAs};
+ghost use Rattle.merging.specs.Reach.{BlocksPre, passes, ReachPre, reaches};
+ghost use Rattle.merging.specs.Steps.{isLater, NamePre, PlaceNamed, PutPre, OutPut, LeftAbsorbed, ZeroPre, ZeroLeft, AbsorbingAt};
+ghost use Rattle.merging.specs.Taking.{MergedAt, MergingAt, lastSaid, LastPre, TakingAt};
+ghost use Rattle.merging.specs.Carried.{CarryingAt};
+use axes::Sizes;
+use carrying::Carried;
+use clifford::Touching;
+use layout::LAST;
+use layout::OUT;
+use layout::Shape;
+use stream_states::State;
+use stream_states::Stepped;
+use stream_states::StreamRules;
+
+// Whether output i, a rotation, stops axis id: it is not by nothing, and anticommutes with it.
+fn blocks(words: &[u64], numbers: &[u32], z: Sizes, i: usize, id: usize) -> bool
+    requires { ⌜ BlocksPre z (now words) (now numbers) i id ⌝ }
+    ensures { λ r. ⌜ r ≡ not (passes z (now (words .entry)) (now (numbers .entry)) i id) ⌝ }
+{
+    if items::angle_at(numbers, z.u, OUT, i) == 0 {
+        return false;
+    }
+    let axis = items::axis_at(numbers, z.u, OUT, i) as usize;
+    axes::anticommute(words, numbers, z, axis, id)
+}
+
+// Whether axis id comes back to place j of the output: it is within lookback, and no later output stops it.
+fn can_reach(
+    words: &[u64],
+    numbers: &[u32],
+    z: Sizes,
+    lookback: usize,
+    out: usize,
+    j: usize,
+    id: usize,
+) -> bool
+    requires { ⌜ ReachPre z out j id (now words) (now numbers) ⌝ }
+    ensures { λ r. ⌜ r ≡ reaches z lookback out j id (now (words .entry)) (now (numbers .entry)) ⌝ }
+{
+    if lookback < out - j - 1 {
+        return false;
+    }
+    let mut i = out;
+    while j + 1 < i {
+        i -= 1;
+        if blocks(words, numbers, z, i, id) {
+            return false;
+        }
+    }
+    true
+}
+
+// Whether angle k is left to wait.
+fn later(rules: StreamRules, k: u32) -> bool
+    ensures { λ r. ⌜ r ≡ isLater rules k ⌝ }
+{
+    if !rules.to_frame {
+        return false;
+    }
+    if !rules.lazy {
+        return false;
+    }
+    k % 2 != 1
+}
+
+// Place j of the output, a rotation by angle k, is named among those that wait, if it is to wait.
+fn name_place(
+    numbers: &mut [u32],
+    shape: Shape,
+    rules: StreamRules,
+    st: State,
+    j: usize,
+    k: u32,
+) -> State
+    requires { ⌜ NamePre shape rules st j (now numbers) ⌝ }
+    ensures { λ r. ⌜ PlaceNamed shape rules st j k (now (numbers .entry)) (now (numbers .exit)) r ⌝ }
+{
+    if !later(rules, k) {
+        return st;
+    }
+    let n = waiting::insert(numbers, shape.u, st.waiting, j);
+    stream_states::with_waiting(st, n)
+}
+
+// Puts out a rotation by angle k about axis id, and lets `last` name it.
+fn put_out(
+    numbers: &mut [u32],
+    shape: Shape,
+    rules: StreamRules,
+    st: State,
+    id: usize,
+    k: u32,
+) -> State
+    requires { ⌜ PutPre shape rules st id (now numbers) ⌝ }
+    ensures { λ r. ⌜ OutPut shape rules st id k (now (numbers .entry)) (now (numbers .exit)) r ⌝ }
+{
+    let out = st.out;
+    store::write(numbers, shape.u, LAST, id, (out + 1) as u32);
+    items::put_rotation(numbers, shape.u, OUT, out, id as u32, k);
+    let s = State {
+        axes: st.axes,
+        slots: st.slots,
+        out: out + 1,
+        start: st.start,
+        waiting: st.waiting,
+        merges: st.merges,
+        absorbed: st.absorbed,
+    };
+    name_place(numbers, shape, rules, s, out, k)
+}
+
+// Place j of the output, a rotation about axis id, becomes a zero, and `last` is cleared for the axis.
+fn leave_zero(numbers: &mut [u32], shape: Shape, j: usize, id: usize)
+    requires { ⌜ ZeroPre shape j id (now numbers) ⌝ }
+    ensures { λ _. ⌜ ZeroLeft shape j id (now (numbers .entry)) (now (numbers .exit)) ⌝ }
+{
+    store::write(numbers, shape.u, LAST, id, 0);
+    items::put_rotation(numbers, shape.u, OUT, j, id as u32, 0);
+}
+
+// F takes in angle k, which is 2, 4 or 6, about axis id.
+fn absorb(
+    words: &mut [u64],
+    numbers: &mut [u32],
+    shape: Shape,
+    st: State,
+    id: usize,
+    k: u32,
+) -> Stepped
+    requires { ⌜ SomePass (λ m n p. AbsorbingAt shape st id k (now words) (now numbers) m n p) ⌝ }
+    ensures { λ r. ⌜ LeftAbsorbed shape st (now (words .entry)) (now (numbers .entry)) r (now (words .exit)) (now (numbers .exit))
+        × ((m : Absorption) (n : ℕ) (p : Pass) → AbsorbingAt shape st id k (now (words .entry)) (now (numbers .entry)) m n p
+        → SteppedAs shape m 0 1 st r (now (words .exit)) (now (numbers .exit)) (absorb (shape .l) p id k)) ⌝ }
+{
+    let t = absorbing::absorb(words, numbers, shape, st.axes, st.slots, id, k);
+    let Touching::Slots(slots) = t else {
+        return Stepped::ExpansionLimit;
+    };
+    Stepped::Next(State {
+        axes: st.axes,
+        slots,
+        out: st.out,
+        start: st.start,
+        waiting: st.waiting,
+        merges: st.merges,
+        absorbed: st.absorbed + 1,
+    })
+}
+
+// Whether angle k is absorbed at its turn.
+fn at_once(rules: StreamRules, k: u32) -> bool
+    ensures { λ r. ⌜ r ≡ isAtOnce (absorptionSaid rules) && isEven k ⌝ }
+{
+    if !rules.to_frame {
+        return false;
+    }
+    if rules.lazy {
+        return false;
+    }
+    k % 2 != 1
+}
+
+// F takes in angle k about axis id, which place j of the output had; a zero is left there.
+pub fn absorb_merged(
+    words: &mut [u64],
+    numbers: &mut [u32],
+    shape: Shape,
+    st: State,
+    j: usize,
+    id: usize,
+    k: u32,
+) -> Stepped
+    requires { ⌜ SomePass (λ m n p. MergedAt shape st j id k (now words) (now numbers) m n p) ⌝ }
+    ensures { λ r. ⌜ LeftAbsorbed shape st (now (words .entry)) (now (numbers .entry)) r (now (words .exit)) (now (numbers .exit))
+        × ((m : Absorption) (n : ℕ) (p : Pass) → MergedAt shape st j id k (now (words .entry)) (now (numbers .entry)) m n p
+        → SteppedAs shape m 0 1 st r (now (words .exit)) (now (numbers .exit)) (leaveZero j id (absorb (shape .l) p id k))) ⌝ }
+{
+    let t = absorb(words, numbers, shape, st, id, k);
+    let Stepped::Next(after) = t else {
+        return Stepped::ExpansionLimit;
+    };
+    leave_zero(numbers, shape, j, id);
+    Stepped::Next(after)
+}
+
+// Merges angle k about axis id into place j of the output, a rotation about it.
+fn merge(
+    words: &mut [u64],
+    numbers: &mut [u32],
+    shape: Shape,
+    rules: StreamRules,
+    st: State,
+    j: usize,
+    id: usize,
+    k: u32,
+) -> Stepped
+    requires { ⌜ SomePass (λ m n p. MergingAt shape rules st j id k (now words) (now numbers) m n p) ⌝ }
+    ensures { λ r. ⌜ LeftS shape (now (words .entry)) (now (numbers .entry)) (now (words .exit)) (now (numbers .exit))
+        × ((m : Absorption) (n : ℕ) (p : Pass) → MergingAt shape rules st j id k (now (words .entry)) (now (numbers .entry)) m n p
+        → SteppedAs shape m 1 1 st r (now (words .exit)) (now (numbers .exit))
+        (mergeAt (shape .l) m (countMerge p) j id ((angleAt (p .out) j + k) % 8))) ⌝ }
+{
+    let old = items::angle_at(&numbers[..], shape.u, OUT, j);
+    let sum = (old % 8 + k) % 8;
+    let s = State {
+        axes: st.axes,
+        slots: st.slots,
+        out: st.out,
+        start: st.start,
+        waiting: st.waiting,
+        merges: st.merges + 1,
+        absorbed: st.absorbed,
+    };
+    if sum == 0 {
+        leave_zero(numbers, shape, j, id);
+        return Stepped::Next(s);
+    }
+    if at_once(rules, sum) {
+        return absorb_merged(words, numbers, shape, s, j, id, sum);
+    }
+    items::put_rotation(numbers, shape.u, OUT, j, id as u32, sum);
+    Stepped::Next(name_place(numbers, shape, rules, s, j, sum))
+}
+
+// The place that `last` names for axis id, plus 1; 0 where there is none, or nothing is merged.
+fn last_of(numbers: &[u32], shape: Shape, rules: StreamRules, st: State, id: usize) -> usize
+    requires { ⌜ LastPre shape id (now numbers) ⌝ }
+    ensures { λ r. ⌜ r ≡ lastSaid shape (rules .merge) (st .start) id (now (numbers .entry)) ⌝ }
+{
+    if !rules.merge {
+        return 0;
+    }
+    let v = store::read(numbers, shape.u, LAST, id) as usize;
+    if st.start < v { v } else { 0 }
+}
+
+// A rotation by angle k about axis id, which was carried: absorbed, merged or put out.
+fn take(
+    words: &mut [u64],
+    numbers: &mut [u32],
+    shape: Shape,
+    rules: StreamRules,
+    st: State,
+    id: usize,
+    k: u32,
+) -> Stepped
+    requires { ⌜ SomePass (λ m n p. TakingAt shape rules st id k (now words) (now numbers) m n p) ⌝ }
+    ensures { λ r. ⌜ LeftS shape (now (words .entry)) (now (numbers .entry)) (now (words .exit)) (now (numbers .exit))
+        × ((g : Rules) (n : ℕ) (p : Pass) → RulesAs rules g
+        → TakingAt shape rules st id k (now (words .entry)) (now (numbers .entry)) (g .absorption) n p
+        → SteppedAs shape (g .absorption) 1 1 st r (now (words .exit)) (now (numbers .exit))
+        (takeRotation (shape .l) g (rules .merge) p id k)) ⌝ }
+{
+    if at_once(rules, k) {
+        return absorb(words, numbers, shape, st, id, k);
+    }
+    let last = last_of(&numbers[..], shape, rules, st, id);
+    if last == 0 {
+        return Stepped::Next(put_out(numbers, shape, rules, st, id, k));
+    }
+    let z = axes::sizes_of(shape, st.axes);
+    let lookback = rules.lookback;
+    if !can_reach(
+        &words[..],
+        &numbers[..],
+        z,
+        lookback,
+        st.out,
+        last - 1,
+        id,
+    ) {
+        return Stepped::Next(put_out(numbers, shape, rules, st, id, k));
+    }
+    merge(words, numbers, shape, rules, st, last - 1, id, k)
+}
+
+// A rotation by an angle about axis a is carried through F, and taken.
+pub fn carry_and_take(
+    words: &mut [u64],
+    numbers: &mut [u32],
+    shape: Shape,
+    rules: StreamRules,
+    st: State,
+    a: usize,
+    angle: u32,
+) -> Stepped
+    requires { ⌜ SomePass (λ m n p. CarryingAt shape rules st a angle (now words) (now numbers) m n p) ⌝ }
+    ensures { λ r. ⌜ LeftS shape (now (words .entry)) (now (numbers .entry)) (now (words .exit)) (now (numbers .exit))
+        × ((g : Rules) (n : ℕ) (p : Pass) → RulesAs rules g
+        → CarryingAt shape rules st a angle (now (words .entry)) (now (numbers .entry)) (g .absorption) n p
+        → SteppedAs shape (g .absorption) 1 1 st r (now (words .exit)) (now (numbers .exit))
+        (takeRotation (shape .l) g (rules .merge) (carryAxis (shape .l) p a) (imageId (shape .l) (carryAxis (shape .l) p a) a)
+        (withSign (axisImage (shape .l) (carryAxis (shape .l) p a) a .turns) angle))) ⌝ }
+{
+    let c = carrying::carry(words, numbers, shape, st.axes, st.slots, a);
+    let Carried::To(to) = c else {
+        return Stepped::ExpansionLimit;
+    };
+    let k = items::with_sign(to.turns, angle);
+    take(
+        words,
+        numbers,
+        shape,
+        rules,
+        stream_states::with_axes(st, to.axes),
+        to.id,
+        k,
+    )
+}

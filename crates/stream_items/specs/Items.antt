@@ -1,0 +1,382 @@
+-- One item of a stream: a rotation, behind those that wait and block it, or a barrier, behind all that wait. Assumes nothing.
+use mathlib.Core.Path.{_≡_, refl, sym, ap, ap₂, _∙_, subst}
+use mathlib.Core.Logic.{_⊎_, inl, inr}
+use mathlib.Core.Bool.{Bool, true, false, true≢false}
+use mathlib.Core.List.{List, [], _∷_, _++_}
+use Prim.Native.Nat.{ℕ, suc, _+_, _-_, _*_, _%_, _≤_, _<_}
+use native.Mathlib.Nat.{lt-of-lt-of-le}
+use native.Mathlib.Omega.{arith}
+use native.Mathlib.Decide.{ℕ-discrete}
+use lib.ListN.{length, getD}
+use Rattle.store.specs.Row.{row}
+use Rattle.pauli.specs.Word.{anticommutes}
+use Rattle.model.specs.Lists.{if_then_else_, allOf, anyOf, member}
+use Rattle.model.specs.Rules.{Absorption, off, atOnce, lazy, Rules}
+use Rattle.model.specs.Words.{Value, wordOf, anticommute, idOf}
+use Rattle.model.specs.Items.{rot, Item, rotation, barrier, withSign}
+use Rattle.model.specs.Stream.{Place, nowhere, at, Pass, withLast, clearedLast, putOut, axisImage, imageId, carryAxis, absorbWaiting, absorbAllWaiting}
+use Rattle.model.specs.Stream.{absorbBlocking, carryRotation, takeRotation, streamItem}
+use Rattle.theory.specs.Cases.{if-true, if-false}
+use Rattle.theory.specs.Ids.{id-word, id-in}
+use Rattle.theory.specs.Peak.{Rises, carryAxis-rises, absorbWaiting-rises, takeRotation-rises}
+use Rattle.theory.specs.StreamState.{axisImage-carried}
+use Rattle.layout.specs.declared.Shape.{Shape}
+use Rattle.layout.specs.Rows.{rowCount, outRow, lastRow, waitingRow}
+use Rattle.layout.specs.Only.{only-of}
+use Rattle.layout.specs.Words.{kept-none}
+use Rattle.layout.specs.Shape.{Granted, longestRow}
+use Rattle.waiting.specs.Places.{placeIn, Named, named-as}
+use Rattle.items.specs.declared.Tagged.{Tagged}
+use Rattle.items.specs.View.{taggedAt, itemSaid, itemAt, itemsIn, said-rotation, said-other}
+use Rattle.items.specs.Put.{EntryPre, ItemPut, put-end-0}
+use Rattle.words_wellformed.specs.PassWords.{absorbBlocking-well, absorbAllWaiting-well}
+use Rattle.run_wellformed.specs.StreamSteps.{absorbBlocking-by, absorbAllWaiting-by}
+use Rattle.run_wellformed.specs.PassInside.{PassInside, inside-kept}
+use Rattle.carrying.specs.declared.CarriedAxis.{CarriedAxis}
+use Rattle.carrying.specs.declared.Carried.{Carried}
+use Rattle.carrying.specs.declared.Carried.the-variants.{To}
+use Rattle.stream_states.specs.declared.State.{State}
+use Rattle.stream_states.specs.declared.Stepped.{Stepped}
+use Rattle.stream_states.specs.declared.Stepped.the-variants.{Next, ExpansionLimit}
+use Rattle.stream_states.specs.declared.StreamRules.{StreamRules}
+use Rattle.stream_states.specs.States.{withAxes, heldOf, placeSaid, lastIn, isWaiting, Waits, HoldsPass, FinePass, PassAt, SomePass, absorptionSaid, RulesAs, LeftS, left-none}
+use Rattle.stream_states.specs.States.{left-then, granted-left, streamRows, SteppedAs, as-next, as-limit, stepped-from}
+use Rattle.stream_states.specs.Output.{never, holds-other, place-none}
+use Rattle.stream_states.specs.Known.{axes-count, out-few}
+use Rattle.stream_states.specs.Carrying.{CarryPass, CarryLeft, carry-pre, carry-left, carry-refused, carried-at, carried-id, carried-in}
+use Rattle.stream_states.specs.Carrying.{carried-turns}
+use Rattle.merging.specs.Carried.{CarryingAt}
+use Rattle.stream_items.specs.Waiting.{pickedBy, WaitAt, waitedAll}
+
+-- ---- the rotations that block axis a
+
+pub record BlockingAt (z : Shape) (st : State) (a : ℕ) (ws xs : List ℕ) (n : ℕ) (p : Pass) : Type 0 where
+  pub carry : CarryPass z st a ws xs lazy n p
+  pub few : st .absorbed + st .out < 9223372036854775808
+
+id-as : (l : ℕ) (p : Pass) (a : ℕ) → a < length (p .store .axes)
+    → imageId l (carryAxis l p a) a ≡ idOf (carryAxis l p a .store .axes) (axisImage l p a .word)
+unfolding imageId
+id-as l p a h = ap (λ (v : Value). idOf (carryAxis l p a .store .axes) (v .word)) (axisImage-carried l p a h)
+
+its-word : (l : ℕ) (p : Pass) (a : ℕ) → wordOf (carryAxis l p a .store .axes) (idOf (carryAxis l p a .store .axes) (axisImage l p a .word))
+    ≡ axisImage l p a .word
+unfolding carryAxis
+its-word l p a = id-word _ (axisImage l p a .word) (id-in l _ (p .store) (axisImage l p a .word))
+
+-- the picks, by the image's id
+blocking-is : (l : ℕ) (p : Pass) (a id : ℕ) → a < length (p .store .axes) → id ≡ imageId l (carryAxis l p a) a
+    → absorbBlocking l p a ≡ absorbWaiting l (pickedBy false l (carryAxis l p a .store .axes) id) (carryAxis l p a) 0 (carryAxis l p a .out)
+unfolding absorbBlocking pickedBy anticommute
+blocking-is l p a id h e =
+    ap (λ (w : List ℕ). absorbWaiting l (λ b. anticommutes l (wordOf (carryAxis l p a .store .axes) b) w) (carryAxis l p a) 0 (carryAxis l p a .out))
+    (sym (ap (wordOf (carryAxis l p a .store .axes)) (e ∙ id-as l p a h) ∙ its-word l p a))
+
+module _ {z : Shape} {st : State} {a : ℕ} {ws xs : List ℕ} {r : Carried} {ws′ xs′ : List ℕ}
+    (call : CarryLeft z st a ws xs r ws′ xs′) {n : ℕ} {p : Pass} (h : BlockingAt z st a ws xs n p) where
+  a-stored : a < length (p .store .axes)
+  a-stored = omega (arith, axes-count (h .carry .at .holds), h .carry .a-in)
+
+  module _ {to : CarriedAxis} (e : r ≡ To to) {s : State} (with-axes : s ≡ withAxes (to .axes) st) where
+    pub wait-there : WaitAt z s false (to .id) ws′ xs′ n (carryAxis (z .l) p a)
+    wait-there = rw with-axes (record {
+      at = carried-at (h .carry) call e;
+      id-in = λ f. carried-in (h .carry) call e;
+      few = h .few;
+    })
+
+    pub blocked-as : {q : Stepped} {ws″ xs″ : List ℕ}
+        → SteppedAs z lazy 0 (s .out) s q ws″ xs″ (waitedAll z false (to .id) (carryAxis (z .l) p a))
+        → SteppedAs z lazy 0 (st .out) st q ws″ xs″ (absorbBlocking (z .l) p a)
+    blocked-as {q} {ws″} {xs″} t =
+        let f = ap (λ (x : State). x .merges) with-axes in
+        let i = ap (λ (x : State). x .absorbed) with-axes in
+        let w = ap (λ (x : State). x .out) with-axes in
+        subst (SteppedAs z lazy 0 (st .out) st q ws″ xs″) (sym (blocking-is (z .l) p a (to .id) a-stored (carried-id (h .carry) call e)))
+        (stepped-from 0 (st .out) t (omega arith) (omega arith))
+
+  pub blocked-limit : r ≡ Rattle.carrying.specs.declared.Carried.the-variants.ExpansionLimit → {ws″ xs″ : List ℕ}
+      → SteppedAs z lazy 0 (st .out) st ExpansionLimit ws″ xs″ (absorbBlocking (z .l) p a)
+  unfolding absorbBlocking
+  blocked-limit e =
+      as-limit (lt-of-lt-of-le (carry-refused (h .carry) call e)
+      (absorbWaiting-rises (z .l) (λ b. anticommutes (z .l) (wordOf (carryAxis (z .l) p a .store .axes) b) (axisImage (z .l) p a .word))
+      (carryAxis (z .l) p a) 0 (carryAxis (z .l) p a .out)))
+
+-- ---- a rotation
+
+pub record RotationAt (z : Shape) (c : StreamRules) (st : State) (a k : ℕ) (ws xs : List ℕ) (m : Absorption) (n : ℕ) (p : Pass) : Type 0 where
+  pub carrying : CarryingAt z c st a k ws xs m n p
+  pub few-all : st .absorbed + st .out < 9223372036854775808
+
+-- not lazy
+plain-is : (l : ℕ) (g : Rules) (merging : Bool) (p : Pass) (a k : ℕ) → (g .absorption ≡ off) ⊎ (g .absorption ≡ atOnce)
+    → streamItem l g merging p (rotation (rot a k))
+    ≡ takeRotation l g merging (carryAxis l p a) (imageId l (carryAxis l p a) a) (withSign (axisImage l (carryAxis l p a) a .turns) k)
+unfolding streamItem carryRotation
+plain-is l g merging p a k (inl e) =
+    ap (λ (m : Absorption). takeRotation l g merging (carryRotation l m p a .pass) (carryRotation l m p a .axis)
+    (withSign (carryRotation l m p a .turns) k)) e
+plain-is l g merging p a k (inr e) =
+    ap (λ (m : Absorption). takeRotation l g merging (carryRotation l m p a .pass) (carryRotation l m p a .axis)
+    (withSign (carryRotation l m p a .turns) k)) e
+
+lazy-is : (l : ℕ) (g : Rules) (merging : Bool) (p : Pass) (a k : ℕ) → g .absorption ≡ lazy
+    → streamItem l g merging p (rotation (rot a k))
+    ≡ takeRotation l g merging (carryAxis l (absorbBlocking l p a) a) (imageId l (carryAxis l (absorbBlocking l p a) a) a)
+    (withSign (axisImage l (carryAxis l (absorbBlocking l p a) a) a .turns) k)
+unfolding streamItem carryRotation
+lazy-is l g merging p a k e =
+    ap (λ (m : Absorption). takeRotation l g merging (carryRotation l m p a .pass) (carryRotation l m p a .axis)
+    (withSign (carryRotation l m p a .turns) k)) e
+
+said-off : (c : StreamRules) → c .«to_frame» ≡ false → absorptionSaid c ≡ off
+unfolding absorptionSaid
+said-off c e = if-false _ _ e
+
+said-once : (c : StreamRules) → c .«to_frame» ≡ true → c .lazy ≡ false → absorptionSaid c ≡ atOnce
+unfolding absorptionSaid
+said-once c e f = if-true _ _ e ∙ if-false _ _ f
+
+pub said-lazy : (c : StreamRules) → c .«to_frame» ≡ true → c .lazy ≡ true → absorptionSaid c ≡ lazy
+unfolding absorptionSaid
+said-lazy c e f = if-true _ _ e ∙ if-true _ _ f
+
+-- more may be absorbed
+more-absorbed : {z : Shape} {m : Absorption} {st : State} {r : Stepped} {ws xs : List ℕ} {p : Pass} → SteppedAs z m 1 1 st r ws xs p
+    → SteppedAs z m 1 (st .out + 1) st r ws xs p
+more-absorbed s = stepped-from 1 _ s (omega arith) (omega arith)
+
+module _ {z : Shape} {c : StreamRules} {g : Rules} (rules : RulesAs c g) {st : State} {a k : ℕ} {ws xs : List ℕ} {n : ℕ} {p : Pass}
+    (h : RotationAt z c st a k ws xs (g .absorption) n p) where
+  -- taken as it is
+  pub rotation-off : {r : Stepped} {ws′ xs′ : List ℕ} → c .«to_frame» ≡ false
+      → SteppedAs z (g .absorption) 1 1 st r ws′ xs′ (takeRotation (z .l) g (c .merge) (carryAxis (z .l) p a) (imageId (z .l) (carryAxis (z .l) p a) a)
+      (withSign (axisImage (z .l) (carryAxis (z .l) p a) a .turns) k))
+      → SteppedAs z (g .absorption) 1 (st .out + 1) st r ws′ xs′ (streamItem (z .l) g (c .merge) p (rotation (rot a k)))
+  rotation-off {r} {ws′} {xs′} e s =
+      subst (SteppedAs z (g .absorption) 1 (st .out + 1) st r ws′ xs′)
+      (sym (plain-is (z .l) g (c .merge) p a k (inl (sym (rules .absorption) ∙ said-off c e)))) (more-absorbed s)
+
+  pub rotation-once : {r : Stepped} {ws′ xs′ : List ℕ} → c .«to_frame» ≡ true → c .lazy ≡ false
+      → SteppedAs z (g .absorption) 1 1 st r ws′ xs′ (takeRotation (z .l) g (c .merge) (carryAxis (z .l) p a) (imageId (z .l) (carryAxis (z .l) p a) a)
+      (withSign (axisImage (z .l) (carryAxis (z .l) p a) a .turns) k))
+      → SteppedAs z (g .absorption) 1 (st .out + 1) st r ws′ xs′ (streamItem (z .l) g (c .merge) p (rotation (rot a k)))
+  rotation-once {r} {ws′} {xs′} e f s =
+      subst (SteppedAs z (g .absorption) 1 (st .out + 1) st r ws′ xs′)
+      (sym (plain-is (z .l) g (c .merge) p a k (inr (sym (rules .absorption) ∙ said-once c e f)))) (more-absorbed s)
+
+-- lazy: those that block it first
+module _ {z : Shape} {c : StreamRules} {st : State} {a k : ℕ} {ws xs : List ℕ} {m : Absorption} {n : ℕ} {p : Pass}
+    (h : RotationAt z c st a k ws xs m n p) (is-lazy : m ≡ lazy) where
+  pub blocking-there : BlockingAt z st a ws xs n p
+  blocking-there = record {
+    carry = subst (λ (x : Absorption). CarryPass z st a ws xs x n p) is-lazy (h .carrying .carry);
+    few = h .few-all;
+  }
+
+  module _ {r : Stepped} {ws₁ xs₁ : List ℕ} (left : LeftS z ws xs ws₁ xs₁)
+      (call : SteppedAs z lazy 0 (st .out) st r ws₁ xs₁ (absorbBlocking (z .l) p a)) {s : State} (e : r ≡ Next s) where
+    blocked-fine : FinePass z n (absorbBlocking (z .l) p a)
+    blocked-fine = record {
+      well = absorbBlocking-well (z .l) (Unit {0}) p a (h .carrying .carry .at .fine .well) .well;
+      inside = absorbBlocking-by (z .l) (PassInside (z .l) (z .qubits)) (inside-kept (z .l) (z .qubits) (h .carrying .carry .at .granted .sized .bits))
+          (λ i q f. f .small) n p a (h .carrying .carry .at .fine .inside);
+    }
+
+    more-axes : st .axes ≤ s .axes
+    more-axes =
+        omega (
+          arith,
+          absorbBlocking-well (z .l) (Unit {0}) p a (h .carrying .carry .at .fine .well) .longer,
+          axes-count (h .carrying .carry .at .holds),
+          axes-count (call .next s e),
+        )
+
+    pub blocked-carrying : CarryingAt z c s a k ws₁ xs₁ m n (absorbBlocking (z .l) p a)
+    blocked-carrying = record {
+      carry = record {
+        at = record {
+          granted = granted-left (h .carrying .carry .at .granted) left;
+          holds = subst (λ (x : Absorption). HoldsPass z x s ws₁ xs₁ (absorbBlocking (z .l) p a)) (sym is-lazy) (call .next s e);
+          fine = blocked-fine;
+          space = h .carrying .carry .at .space;
+        };
+        a-in = omega (arith, more-axes, h .carrying .carry .a-in);
+      };
+      some = h .carrying .some;
+      small = h .carrying .small;
+      mode = h .carrying .mode;
+      few-merges = omega (arith, call .merges s e, h .carrying .few-merges);
+      few = omega (arith, call .absorbed s e, h .few-all);
+    }
+
+module _ (z : Shape) (c : StreamRules) (g : Rules) (st : State) (a k : ℕ) (p : Pass) (is-lazy : g .absorption ≡ lazy) where
+  pub rotation-lazy : {r q : Stepped} {ws₁ xs₁ ws₂ xs₂ : List ℕ} {s : State}
+      → SteppedAs z lazy 0 (st .out) st r ws₁ xs₁ (absorbBlocking (z .l) p a) → r ≡ Next s
+      → SteppedAs z (g .absorption) 1 1 s q ws₂ xs₂ (takeRotation (z .l) g (c .merge) (carryAxis (z .l) (absorbBlocking (z .l) p a) a)
+      (imageId (z .l) (carryAxis (z .l) (absorbBlocking (z .l) p a) a) a)
+      (withSign (axisImage (z .l) (carryAxis (z .l) (absorbBlocking (z .l) p a) a) a .turns) k))
+      → SteppedAs z (g .absorption) 1 (st .out + 1) st q ws₂ xs₂ (streamItem (z .l) g (c .merge) p (rotation (rot a k)))
+  rotation-lazy {q = q} {ws₂ = ws₂} {xs₂} {s} first e second =
+      subst (SteppedAs z (g .absorption) 1 (st .out + 1) st q ws₂ xs₂) (sym (lazy-is (z .l) g (c .merge) p a k is-lazy))
+      (stepped-from 1 _ second (omega (arith, first .merges s e)) (omega (arith, first .absorbed s e)))
+
+  pub rotation-limit : {r : Stepped} {ws₁ xs₁ : List ℕ} → SteppedAs z lazy 0 (st .out) st r ws₁ xs₁ (absorbBlocking (z .l) p a)
+      → r ≡ ExpansionLimit
+      → SteppedAs z (g .absorption) 1 (st .out + 1) st ExpansionLimit ws₁ xs₁ (streamItem (z .l) g (c .merge) p (rotation (rot a k)))
+  rotation-limit {ws₁ = ws₁} {xs₁} first e =
+      let q = absorbBlocking (z .l) p a in
+      subst (SteppedAs z (g .absorption) 1 (st .out + 1) st ExpansionLimit ws₁ xs₁) (sym (lazy-is (z .l) g (c .merge) p a k is-lazy))
+      (as-limit (omega (
+        arith,
+        first .refused e,
+        carryAxis-rises (z .l) (absorbBlocking (z .l) p a) a,
+        takeRotation-rises (z .l) g (c .merge) (carryAxis (z .l) (absorbBlocking (z .l) p a) a)
+            (imageId (z .l) (carryAxis (z .l) (absorbBlocking (z .l) p a) a) a)
+            (withSign (axisImage (z .l) (carryAxis (z .l) (absorbBlocking (z .l) p a) a) a .turns) k),
+      )))
+
+-- ---- all that wait
+
+pub record AllAt (z : Shape) (c : StreamRules) (st : State) (ws xs : List ℕ) (m : Absorption) (n : ℕ) (p : Pass) : Type 0 where
+  pub at : PassAt z m n st ws xs p
+  pub mode : m ≡ absorptionSaid c
+  pub few : st .absorbed + st .out < 9223372036854775808
+
+all-off : (l : ℕ) (m : Absorption) (p : Pass) → (m ≡ off) ⊎ (m ≡ atOnce) → absorbAllWaiting l m p ≡ p
+unfolding absorbAllWaiting
+all-off l m p (inl e) = ap (λ (x : Absorption). absorbAllWaiting l x p) e
+all-off l m p (inr e) = ap (λ (x : Absorption). absorbAllWaiting l x p) e
+
+module _ {z : Shape} {c : StreamRules} {st : State} {ws xs : List ℕ} {m : Absorption} {n : ℕ} {p : Pass} (h : AllAt z c st ws xs m n p) where
+  none-waits : (m ≡ off) ⊎ (m ≡ atOnce) → SteppedAs z m 0 (st .out) st (Next st) ws xs (absorbAllWaiting (z .l) m p)
+  none-waits e =
+      subst (SteppedAs z m 0 (st .out) st (Next st) ws xs) (sym (all-off (z .l) m p e))
+      (as-next (h .at .holds) (omega arith) (omega arith))
+
+  pub all-when-off : c .«to_frame» ≡ false → SteppedAs z m 0 (st .out) st (Next st) ws xs (absorbAllWaiting (z .l) m p)
+  all-when-off e = none-waits (inl (h .mode ∙ said-off c e))
+
+  pub all-when-once : c .«to_frame» ≡ true → c .lazy ≡ false → SteppedAs z m 0 (st .out) st (Next st) ws xs (absorbAllWaiting (z .l) m p)
+  all-when-once e f = none-waits (inr (h .mode ∙ said-once c e f))
+
+  module _ (e : c .«to_frame» ≡ true) (f : c .lazy ≡ true) where
+    is-lazy : m ≡ lazy
+    is-lazy = h .mode ∙ said-lazy c e f
+
+    pub all-there : WaitAt z st true 0 ws xs n p
+    all-there = record {
+      at = subst (λ (x : Absorption). PassAt z x n st ws xs p) is-lazy (h .at);
+      id-in = λ g. absurd (true≢false g);
+      few = h .few;
+    }
+
+    pub all-as : {r : Stepped} {ws′ xs′ : List ℕ} → SteppedAs z lazy 0 (st .out) st r ws′ xs′ (waitedAll z true 0 p)
+        → SteppedAs z m 0 (st .out) st r ws′ xs′ (absorbAllWaiting (z .l) m p)
+    unfolding absorbAllWaiting pickedBy
+    all-as {r} {ws′} {xs′} s = subst (λ (x : Absorption). SteppedAs z x 0 (st .out) st r ws′ xs′ (absorbAllWaiting (z .l) x p)) (sym is-lazy) s
+
+-- ---- a barrier, once none waits
+
+-- behind it a segment begins
+abbrev pub withBarrier : ℕ → State → State
+withBarrier n st = record {
+  axes = n;
+  slots = st .slots;
+  out = st .out + 1;
+  start = st .out + 1;
+  waiting = st .waiting;
+  merges = st .merges;
+  absorbed = st .absorbed;
+}
+
+-- as it is put out
+abbrev pub movedBarrier : Tagged → ℕ → ℕ → Tagged
+movedBarrier x id turns = record { tag = x .tag; axis = id; angle = (turns + x .angle) % 4 }
+
+-- the model's state behind it
+unfoldable pub barrierPut : ℕ → Pass → ℕ → ℕ → ℕ → Pass
+barrierPut l p o a s =
+    putOut (barrier o (imageId l (carryAxis l p a) a) ((axisImage l (carryAxis l p a) a .turns + s) % 4)) (withLast clearedLast (carryAxis l p a))
+
+pub record BarrierAt (z : Shape) (st : State) (x : Tagged) (ws xs : List ℕ) (m : Absorption) (n : ℕ) (p : Pass) : Type 0 where
+  pub carry : CarryPass z st (x .axis) ws xs m n p
+  pub tag : x .tag ≡ 0 → ⊥
+  pub sign : x .angle < 4
+
+module _ {z : Shape} {st : State} {x : Tagged} {ws xs : List ℕ} {r : Carried} {ws′ xs′ : List ℕ}
+    (call : CarryLeft z st (x .axis) ws xs r ws′ xs′) {m : Absorption} {n : ℕ} {p : Pass} (h : BarrierAt z st x ws xs m n p) where
+  pub barrier-limit : r ≡ Rattle.carrying.specs.declared.Carried.the-variants.ExpansionLimit → {ws″ xs″ : List ℕ}
+      → SteppedAs z m 0 0 st ExpansionLimit ws″ xs″ (barrierPut (z .l) p (x .tag - 1) (x .axis) (x .angle))
+  unfolding barrierPut putOut withLast
+  barrier-limit e = as-limit (carry-refused (h .carry) call e)
+
+  module _ {to : CarriedAxis} (e : r ≡ To to) where
+    pub barrier-entry : EntryPre xs′ (z .u) outRow (st .out)
+    barrier-entry = record { long = omega (arith, h .carry .at .granted .numbers-long, call .0 .numbers .long); rows = omega arith; here = out-few (h .carry .at) }
+
+    pub barrier-small : (to .id < longestRow) × (st .out < longestRow)
+    barrier-small =
+        let g = h .carry .at .granted .sized in
+        let k = carried-at (h .carry) call e in (
+          omega (arith, carried-in (h .carry) call e, g .words-row (to .axes) (omega (arith, k .holds .f .room)), g .u-small),
+          omega (arith, out-few (h .carry .at), g .u-small),
+        )
+
+    module _ {xs″ : List ℕ} (put : ItemPut xs′ (z .u) outRow (st .out) (movedBarrier x (to .id) (to .turns)) xs″) where
+      pub barrier-left : LeftS z ws xs ws′ xs″
+      unfolding allOf member anyOf
+      barrier-left = left-then (carry-left (h .carry) call) (record { words = kept-none _ ws′; numbers = only-of streamRows refl (put .only) })
+
+      its-item : itemSaid (movedBarrier x (to .id) (to .turns))
+          ≡ barrier (x .tag - 1) (imageId (z .l) (carryAxis (z .l) p (x .axis)) (x .axis))
+          ((axisImage (z .l) (carryAxis (z .l) p (x .axis)) (x .axis) .turns + x .angle) % 4)
+      its-item =
+          said-other (movedBarrier x (to .id) (to .turns)) (h .tag)
+          ∙ ap₂ (λ (i t : ℕ). barrier (x .tag - 1) i ((t + x .angle) % 4)) (carried-id (h .carry) call e) (carried-turns (h .carry) call e)
+
+      pub barrier-next : SteppedAs z m 0 0 st (Next (withBarrier (to .axes) st)) ws′ xs″
+          (barrierPut (z .l) p (x .tag - 1) (x .axis) (x .angle))
+      unfolding barrierPut putOut withLast member anyOf
+      barrier-next =
+          let k = carried-at (h .carry) call e .holds in
+          as-next (record {
+            f = holds-other (put .only) refl refl refl (k .f);
+            out-is =
+                ap (λ (is : List Item). is ++ (barrier (x .tag - 1) (imageId (z .l) (carryAxis (z .l) p (x .axis)) (x .axis))
+                ((axisImage (z .l) (carryAxis (z .l) p (x .axis)) (x .axis) .turns + x .angle) % 4) ∷ [])) (k .out-is)
+                ∙ sym (put-end-0 put itemSaid ∙ ap (λ (i : Item). itemsIn xs′ (z .u) outRow 0 (st .out) ++ (i ∷ [])) its-item);
+            begun = omega arith;
+            segment = λ i a b. absurd (omega arith);
+            last-is = λ i b. sym (place-none (st .out + 1) (lastIn z xs″ i) (omega (arith, low i b)));
+            named = λ i b. omega (arith, low i b);
+            merges-are = k .merges-are;
+            absorbed-are = k .absorbed-are;
+            waits = λ e. listed (k .waits e);
+          }) (omega arith) (omega arith)
+        where
+          low : (i : ℕ) → i < z .u → lastIn z xs″ i ≤ st .out
+          low i b = rw (put .only .rows lastRow (omega arith) refl) (carried-at (h .carry) call e .holds .named i b)
+
+          -- the barrier does not wait
+          listed : Waits z xs′ (st .waiting) (st .out) → Waits z xs″ (st .waiting) (st .out + 1)
+          listed w =
+              let list : row xs″ (z .u) waitingRow ≡ row xs′ (z .u) waitingRow = put .only .rows waitingRow (omega arith) refl in
+              let same : (i : ℕ) → placeIn (z .u) xs″ i ≡ placeIn (z .u) xs′ i = λ i. ap (λ (r : List ℕ). getD r i 0) list in
+              record {
+                rising = record {
+                  below = λ i a b. omega (arith, same i, w .rising .below i a b);
+                  rises = λ i j a b d. omega (arith, same i, same j, w .rising .rises i j a b d);
+                };
+                all = λ j b f. go w same j b f (ℕ-discrete j (st .out));
+              }
+            where
+              go : Waits z xs′ (st .waiting) (st .out) → ((i : ℕ) → placeIn (z .u) xs″ i ≡ placeIn (z .u) xs′ i) → (j : ℕ) → j < st .out + 1
+                  → isWaiting (itemAt xs″ (z .u) outRow j) ≡ true → Dec (j ≡ st .out) → Named (placeIn (z .u) xs″) 0 (st .waiting) j
+              go w same j b f (yes d) =
+                  absurd (true≢false (sym f ∙ ap (λ (i : ℕ). isWaiting (itemAt xs″ (z .u) outRow i)) d
+                  ∙ ap (λ (y : Tagged). isWaiting (itemSaid y)) (put .own) ∙ ap isWaiting its-item))
+              go w same j b f (no d) =
+                  named-as (λ i a c. same i)
+                  (w .all j (omega arith) (sym (ap (λ (y : Tagged). isWaiting (itemSaid y)) (put .others j d)) ∙ f))
