@@ -46,7 +46,8 @@ use Rattle.stream_states.specs.Known.{axes-count, out-few}
 use Rattle.stream_states.specs.Carrying.{CarryPass, CarryLeft, carry-left, carry-refused, carried-at, carried-id, carried-in}
 use Rattle.stream_states.specs.Carrying.{carried-turns}
 use Rattle.merging.specs.Carried.{CarryingAt}
-use Rattle.stream_items.specs.Waiting.{pickedBy, WaitAt, waitedAll}
+use Rattle.stream_items.specs.Waiting.{pickedBy}
+use Rattle.stream_items.specs.WaitingList.{WaitAt, waitedAll}
 
 -- ---- the rotations that block axis a
 

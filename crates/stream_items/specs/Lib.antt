@@ -1,3 +1,4 @@
 pub mod Waiting
+pub mod WaitingList
 pub mod Items
 pub mod Loop

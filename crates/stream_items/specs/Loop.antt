@@ -30,7 +30,7 @@ use Rattle.stream_states.specs.declared.StreamRules.{StreamRules}
 use Rattle.stream_states.specs.States.{HoldsPass, PassAt, SomePass, absorptionSaid, RulesAs, LeftS, left-none, left-then, granted-left}
 use Rattle.stream_states.specs.States.{SteppedAs, as-limit, stepped-from}
 use Rattle.stream_states.specs.Known.{axes-count, out-long}
-use Rattle.stream_items.specs.Waiting.{step-long}
+use Rattle.stream_items.specs.WaitingList.{step-long}
 use Rattle.stream_items.specs.Items.{RotationAt, AllAt, BarrierAt, barrierPut}
 
 -- ---- one item

@@ -13,9 +13,11 @@ axis-requires-2 c κs = held-axis (c .before .before .before .pre .0) _ (c .befo
 anticommutes-requires : tie.Need-anticommutes-requires
 anticommutes-requires c κs =
     let axis = c .before in
-    let start = axis .before .before .before in
-    (read-long _ _ _ (axis .axis .ensures) (held-axis (start .pre .0) _ (start .pre .1)), read-long _ _ _ (c .axis2 .ensures)
-    (held-axis (start .pre .0) _ (start .pre .2)))
+    let start = axis .before .before .before in (
+      read-long _ _ _ (axis .axis .ensures) (held-axis (start .pre .0) _ (start .pre .1)),
+      read-long _ _ _ (c .axis2 .ensures)
+          (held-axis (start .pre .0) _ (start .pre .2)),
+    )
 
 returns : tie.Need-returns
 returns c =

@@ -46,9 +46,11 @@ loop-again c =
     let same-by = c .before in
     let axis = same-by .before in
     let turn = axis .before in
-    let head = turn .before in
-    (omega arith, id-next _ _ _ _ _ (head .loop .inv .1) (turn .loop-test .taken) (same-by .same-by .ensures) (c .if1 .left)
-    (axis .axis .ensures _ (turn .loop-test .taken)))
+    let head = turn .before in (
+      omega arith,
+      id-next _ _ _ _ _ (head .loop .inv .1) (turn .loop-test .taken) (same-by .same-by .ensures) (c .if1 .left)
+          (axis .axis .ensures _ (turn .loop-test .taken)),
+    )
 
 returns-2 : tie.Need-returns-2 Inv-loop μ-loop
 returns-2 c = id-none _ _ _ _ (omega arith)

@@ -1,6 +1,6 @@
 -- Places i and later have not had their turn. Assumes nothing.
 use Prim.Native.Nat.{_-_}
-use Rattle.stream_items.specs.Waiting.{Scan, scan-first, scan-turn, scan-left, scan-limit, scan-next, scan-end}
+use Rattle.stream_items.specs.WaitingList.{Scan, scan-first, scan-turn, scan-left, scan-limit, scan-next, scan-end}
 use native.Mathlib.Omega.{arith}
 use borrow.Author.Needs.{needs}
 use Rattle.stream_items.proofs.absorb_listed.Statement.{statement}

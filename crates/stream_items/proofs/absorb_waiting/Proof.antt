@@ -1,6 +1,6 @@
 -- The list is gone over from its start, with no place kept. Assumes nothing.
 use Rattle.model.specs.Rules.{off}
-use Rattle.stream_items.specs.Waiting.{listed, listed-as}
+use Rattle.stream_items.specs.WaitingList.{listed, listed-as}
 use borrow.Author.Needs.{needs}
 use Rattle.stream_items.proofs.absorb_waiting.Statement.{statement}
 use Rattle.stream_items.proofs.absorb_waiting.Tie as tie
