@@ -128,13 +128,7 @@ fn item_weight(operations: &[u32], words: &[u64], numbers: &[u32], shape: Shape,
 }
 
 // The weight of what comes out.
-fn weight_after(
-    operations: &[u32],
-    words: &[u64],
-    numbers: &[u32],
-    shape: Shape,
-    k: usize,
-) -> usize
+fn weight_after(operations: &[u32], words: &[u64], numbers: &[u32], shape: Shape, k: usize) -> usize
     requires { ⌜ WeightPre (now operations) (now words) (now numbers) (shape .u) (shape .l) k ⌝ }
     ensures { λ r. ⌜ WeightAfter (now (operations .entry)) (now (words .entry)) (now (numbers .entry)) (shape .u) (shape .l) k r ⌝ }
 {

@@ -9,7 +9,8 @@ use Rattle.counters.proofs.t_before.Statement.{statement}
 use Rattle.counters.proofs.t_before.Tie as tie
 
 abbrev Inv-loop : tie.InvT-loop
-Inv-loop operations count n₀ i₀ n i = (n ≤ i) × (i ≤ count) × TotalTo (λ (j : ℕ). oneIf (isOddSource (operationHere operations j))) count i n
+Inv-loop operations count n₀ i₀ n i =
+    (n ≤ i) × (i ≤ count) × TotalTo (λ (j : ℕ). oneIf (isOddSource (operationHere operations j))) count i n
 
 abbrev μ-loop : tie.MeasureT-loop
 μ-loop operations count n₀ i₀ n i = count - i
