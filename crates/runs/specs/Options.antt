@@ -226,13 +226,13 @@ not-eager : called (options 0 2 16 8 false false false Merge false 64) evenEnd
 unfolding everything
 not-eager = refl
 
--- not lazy: the first absorption makes the others alike, T 0
+-- not lazy: XY:4 is absorbed and does not stand between the others, T 0
 at-once : called (options 0 0 16 1 true true false Merge false 64) waits
     ≡ leaves (2 ∷ 0 ∷ 1 ∷ 0 ∷ 2 ∷ 3 ∷ 0 ∷ 0 ∷ 0 ∷ 4 ∷ 0 ∷ []) ([] room 3)
 unfolding everything
 at-once = refl
 
--- lazy: T 2; refuses lazy dropped
+-- lazy: it waits between them, T 2; refuses lazy dropped
 lazy-waits : called (options 0 0 16 1 true true true Merge false 64) waits
     ≡ leaves (2 ∷ 2 ∷ 0 ∷ 0 ∷ 1 ∷ 3 ∷ 2 ∷ 0 ∷ 0 ∷ 4 ∷ 2 ∷ []) ((rotated 0 7 ∷ rotated 0 7 ∷ []) room 1)
 unfolding everything
