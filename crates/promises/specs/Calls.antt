@@ -43,7 +43,7 @@ module _ {o : Options} {j : Job} {s : Lent} {a : Answer} {c : Counters} {t : Len
 
 -- Checking refused; a tested sum was above the limit; a root was non-Hermitian; or the work was done
 pub data Replied (o : Options) (j : Job) (s : Lent) (x : Reply) : Type 0 where
-  byChecking : accepts (checking o j s) ≡ false → x ≡ refused (checking o j s) s → Replied o j s x
+  byChecking : x ≡ refused (checking o j s) s → Replied o j s x
   byLimit : x ≡ stopped ExpansionLimit s → Replied o j s x
   byRoot : x ≡ stopped NonHermitianAxis s → Replied o j s x
   done : x .answer ≡ Accepted → Replied o j s x
@@ -63,7 +63,7 @@ module _ (o : Options) (j : Job) (s : Lent) where
     where
       go : (b : Bool) → accepts (checking o j s) ≡ b → Replied o j s (rewriting o j s)
       go true e = ran-so (accepts-only (checking o j s) e) (ltb (limitOf o) (runOf o j .peak)) refl
-      go false e = byChecking e (refused-reply o j s (checking o j s) refl e)
+      go false e = byChecking (refused-reply o j s (checking o j s) refl e)
 
 -- a stopped reply's answer
 answer-of : (a : Answer) (s : Lent) {x : Reply} → x ≡ stopped a s → x .answer ≡ a
@@ -81,21 +81,21 @@ checked-number o j s e =
 module _ {o : Options} {j : Job} {s : Lent} {x : Reply} where
   -- no number above 10
   pub number-low : Replied o j s x → numberOf (x .answer) ≤ 10
-  number-low (byChecking n e) = omega (arith, checked-number o j s e)
+  number-low (byChecking e) = omega (arith, checked-number o j s e)
   number-low (byLimit e) = omega (arith, number-of ExpansionLimit s e)
   number-low (byRoot e) = omega (arith, number-of NonHermitianAxis s e)
   number-low (done e) = omega (arith, ap numberOf e)
 
   -- 1 to 8 are Checking's
   pub number-checking : Replied o j s x → 1 ≤ numberOf (x .answer) → numberOf (x .answer) ≤ 8 → x ≡ refused (checking o j s) s
-  number-checking (byChecking n e) h k = e
+  number-checking (byChecking e) h k = e
   number-checking (byLimit e) h k = absurd (omega (arith, number-of ExpansionLimit s e))
   number-checking (byRoot e) h k = absurd (omega (arith, number-of NonHermitianAxis s e))
   number-checking (done e) h k = absurd (omega (arith, ap numberOf e))
 
   -- 9 and 10 stop the work
   pub number-stopped : Replied o j s x → 9 ≤ numberOf (x .answer) → x ≡ stopped (x .answer) s
-  number-stopped (byChecking n e) h = absurd (omega (arith, checked-number o j s e))
+  number-stopped (byChecking e) h = absurd (omega (arith, checked-number o j s e))
   number-stopped (byLimit e) h = e ∙ ap (λ (a : Answer). stopped a s) (sym (answer-of ExpansionLimit s e))
   number-stopped (byRoot e) h = e ∙ ap (λ (a : Answer). stopped a s) (sym (answer-of NonHermitianAxis s e))
   number-stopped (done e) h = absurd (omega (arith, ap numberOf e))

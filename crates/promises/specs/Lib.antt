@@ -2,4 +2,5 @@ pub mod Slices
 pub mod Calls
 pub mod Left
 pub mod Alike
+pub mod Strategies
 pub mod Promises

@@ -18,8 +18,8 @@ use Rattle.model.specs.declared.Counters.{Counters}
 use Rattle.model.specs.Interface.{numberOf, accepts, noCounters}
 use Rattle.model.specs.Program.{Job, Program, programOf}
 use Rattle.model.specs.Rules.{rulesOf}
-use Rattle.model.specs.Rounds.{Work, mergeRounds, litinskiRounds, passes}
-use Rattle.model.specs.Run.{startOf, endOf, answerOf}
+use Rattle.model.specs.Rounds.{Work, mergeRounds, litinskiRounds}
+use Rattle.model.specs.Run.{startOf, answerOf}
 use Rattle.model.specs.Results.{operationResults, rowResults, sourceTCount, resultTCount, countersOf}
 use Rattle.model.specs.Checking.{Lent, checking}
 use Rattle.model.specs.Rewriting.{Reply, thenZeros, zeros, refused, stopped, accepted, rewriting}
@@ -36,14 +36,11 @@ use Rattle.run_effect.specs.RunEffect.{Effects, sourceEffect, resultEffect, run
 use Rattle.promises.specs.Slices.{Agree, agree-then, agree-zeros}
 use Rattle.promises.specs.Calls.{Called, answer-is, counters-are, lent-is, passed-checking, called-of, number-low, number-checking}
 use Rattle.promises.specs.Calls.{number-stopped, nine-exactly}
+use Rattle.promises.specs.Strategies.{endWork, merge-end, litinski-end, no-rounds-end}
 use Rattle.promises.specs.Left.{operationsIn, rowsIn, wordsIn, operations-left, effect-left}
 use Rattle.promises.specs.Alike.{AlikeButRoundsAndLimit, AlikeButLimit, alike-rules, but-limit, not-two}
 
 -- ==== what the sentences speak of
-
--- the work at the end of 01's run of this job: what its passes give, from the packed program on
-abbrev pub endWork : Options → Job → Work
-endWork o j = endOf (rulesOf o) (o .rounds) (programOf j)
 
 -- t is what 9 and 10 leave of s: both work stores zero over their whole length, the results as they were. The program is only read
 pub record Cleared (s t : Lent) : Type 0 where
@@ -123,22 +120,25 @@ acceptance {o} {j} {s} call =
 
 -- ==== Demand 2. Meaning: "Each pass gives exactly what 01's rules give, as an equation with a definition"
 
--- The results of an accepted call are those of `endWork` (`acceptance`, above). Each pass's own contract (crates packing, start, stream,
--- exchange, layering, depth) is an equation with the model's pass. What `endWork` is, by 01's rules:
-module _ (o : Options) (j : Job) where
-  -- "Merge strategy: rounds of stream and exchange, until ..; then one more stream if ..".
+-- Each pass's own contract (crates packing, start, stream, exchange, layering, depth) is an equation with the model's pass; here is what an
+-- accepted call leaves, by its options' strategy and rounds
+module _ {o : Options} {j : Job} {s : Lent} {c : Counters} {t : Lent} (call : Called o j s Accepted c t) where
+  -- "Merge strategy: rounds of stream and exchange, until ..; then one more stream if ..": `mergeRounds`, on the packed program.
   -- Rules out: the program handed back untouched; one round that counts for all
-  pub merge-strategy : o .strategy ≡ Merge
-      → endWork o j ≡ mergeRounds (width (j .counts .qubits)) (rulesOf o) (o .rounds) (startOf (programOf j))
-  unfolding endOf rulesOf programOf passes
-  merge-strategy e = ap (λ m. passes m (width (j .counts .qubits)) (rulesOf o) (o .rounds) (startOf (programOf j))) e
+  pub merge-results : o .strategy ≡ Merge
+      → Holds (programOf j) (mergeRounds (width (j .counts .qubits)) (rulesOf o) (o .rounds) (startOf (programOf j))) s t
+  merge-results e = rw (← merge-end o j e) (acceptance call)
 
-  -- "Otherwise a stream; then each round layers every segment, ends the work if nothing merged, else streams again".
+  -- "Otherwise a stream; then each round layers every segment, ends the work if nothing merged, else streams again": `litinskiRounds`.
   -- Rules out: Merge run for Litinski; streams that merge between the layerings
-  pub litinski-strategy : o .strategy ≡ Litinski
-      → endWork o j ≡ litinskiRounds (width (j .counts .qubits)) (rulesOf o) (o .rounds) (startOf (programOf j))
-  unfolding endOf rulesOf programOf passes
-  litinski-strategy e = ap (λ m. passes m (width (j .counts .qubits)) (rulesOf o) (o .rounds) (startOf (programOf j))) e
+  pub litinski-results : o .strategy ≡ Litinski
+      → Holds (programOf j) (litinskiRounds (width (j .counts .qubits)) (rulesOf o) (o .rounds) (startOf (programOf j))) s t
+  litinski-results e = rw (← litinski-end o j e) (acceptance call)
+
+  -- "Rounds 0 does nothing", by either strategy: the operations as they were packed.
+  -- Rules out: a closing stream without rounds; one stream for rounds 0
+  pub no-rounds-results : o .rounds ≡ 0 → Holds (programOf j) (startOf (programOf j)) s t
+  no-rounds-results e = rw (← no-rounds-end o j e) (acceptance call)
 
 module _ {o : Options} {j : Job} {s : Lent} {a : Answer} {c : Counters} {t : Lent} (call : Called o j s a c t) where
   -- where Checking passes, the answer is that of 01's run at the limit: 9, 10 or 0, "in Rust's order".
@@ -197,7 +197,7 @@ module _ {o : Options} {j : Job} {s : Lent} {c : Counters} {t : Lent} (call : Ca
   )
 
   -- "neither exceeds the source's".
-  -- Rules out: an exchange that is kept though it merges nothing and splits an angle; an even rotation written as two odd ones
+  -- Rules out: an exchange that is kept where the T-count rises; an even rotation written as two odd ones
   pub never-above-source : tCountLeft j t ≤ tCountHanded j
   never-above-source =
       let told = t-counts-told in
@@ -206,7 +206,7 @@ module _ {o : Options} {j : Job} {s : Lent} {c : Counters} {t : Lent} (call : Ca
 
 module _ {o o′ : Options} {j j′ : Job} {s s′ : Lent} {c c′ : Counters} {t t′ : Lent} where
   -- "Of two accepted runs alike but for rounds and word limit, the one with more rounds has no higher T-count".
-  -- Rules out: a last round whose worse result is kept; rounds that start again from the program handed in
+  -- Rules out: a last round whose worse result is kept; another strategy where there are many rounds
   pub more-rounds-never-worse : Called o j s Accepted c t → Called o′ j′ s′ Accepted c′ t′ → AlikeButRoundsAndLimit o o′ j j′
       → o .rounds ≤ o′ .rounds
       → tCountLeft j′ t′ ≤ tCountLeft j t

@@ -4,6 +4,7 @@ pub mod Small
 pub mod Rule
 pub mod Limits
 pub mod Refusals
+pub mod Options
 pub mod Texts
 pub mod Directed1
 pub mod Directed2
