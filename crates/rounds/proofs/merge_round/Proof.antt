@@ -40,7 +40,7 @@ swap-requires c κs =
     let at-e = c .before .before .before in
     let at-one-stream = at-e .before .before .before .before .before .before in
     let start = at-one-stream .before .before .before .before .before in (
-      merged-some (start .args .options) _ _ (at-one-stream .one-stream .ensures .1 _ _ _ (start .pre .0 .at)) _ (at-e .e .given .1)
+      merged-some (start .args .options) 510 _ (at-one-stream .one-stream .ensures .1 510 _ _ (start .pre .0 .at)) _ (at-e .e .given .1)
           (omega arith),
       start .pre .1,
     )
