@@ -17,12 +17,12 @@ use Rattle.model.specs.Rounds.{Work, streamPass, layeringPass, mergeRounds, lit
 use Rattle.theory.specs.Cases.{if-true, if-false}
 use Rattle.theory.specs.Peak.{litinskiFrom-rises}
 use Rattle.layout.specs.declared.Shape.{Shape}
-use Rattle.rounds.specs.declared.Run.{Run}
-use Rattle.rounds.specs.declared.Ended.{Ended}
-use Rattle.rounds.specs.declared.Ended.the-variants.{Done, ExpansionLimit}
+use Rattle.points.specs.declared.Run.{Run}
+use Rattle.points.specs.declared.Ended.{Ended}
+use Rattle.points.specs.declared.Ended.the-variants.{Done, ExpansionLimit}
 use Rattle.rounds.specs.declared.Round.{Round}
 use Rattle.rounds.specs.declared.Round.the-variants as round
-use Rattle.rounds.specs.Points.{RunAt, SomeRun, OptionsIn, SameLong, long-same, long-then, EndedAs, later, ended-at, ended-limit}
+use Rattle.points.specs.Points.{RunAt, SomeRun, OptionsIn, SameLong, long-same, long-then, EndedAs, later, ended-at, ended-limit}
 
 -- nothing merged
 unfoldable pub layersLast : ℕ → Work → Bool

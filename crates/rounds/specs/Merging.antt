@@ -22,12 +22,12 @@ use Rattle.layout.specs.Rows.{itemsRow}
 use Rattle.items.specs.View.{itemsIn}
 use Rattle.item_lists.specs.Count.{RunPre}
 use Rattle.points.specs.Demands.{items-count, items-row}
-use Rattle.rounds.specs.declared.Run.{Run}
-use Rattle.rounds.specs.declared.Ended.{Ended}
-use Rattle.rounds.specs.declared.Ended.the-variants.{Done, ExpansionLimit}
+use Rattle.points.specs.declared.Run.{Run}
+use Rattle.points.specs.declared.Ended.{Ended}
+use Rattle.points.specs.declared.Ended.the-variants.{Done, ExpansionLimit}
 use Rattle.rounds.specs.declared.Round.{Round}
 use Rattle.rounds.specs.declared.Round.the-variants as round
-use Rattle.rounds.specs.Points.{RunAt, SomeRun, OptionsIn, SameLong, long-same, long-then, EndedAs, later, ended-at, ended-limit}
+use Rattle.points.specs.Points.{RunAt, SomeRun, OptionsIn, SameLong, long-same, long-then, EndedAs, later, ended-at, ended-limit}
 
 -- no exchange and no lower T-count than t
 unfoldable pub lasts : ℕ → Work → Work → Bool

@@ -2,114 +2,23 @@
 ghost use Prim.Native.Nat.{ℕ, _+_};
 ghost use Rattle.model.specs.Program.{Program};
 ghost use Rattle.model.specs.Rules.{rulesOf};
-ghost use Rattle.model.specs.Rounds.{Work, streamPass, exchangePass, layeringPass, mergeRound, roundsFrom, noRound};
-ghost use Rattle.model.specs.Rounds.{closingStream, mergeRounds, litinskiFrom, litinskiRounds, passes};
-ghost use mathlib.Core.Bool.{true, false};
-ghost use Rattle.rounds.specs.Points.{SomeRun, OptionsIn, SameLong, RunAt, EndedAs};
+ghost use Rattle.model.specs.Rounds.{Work, mergeRound, roundsFrom, noRound, closingStream, mergeRounds, litinskiFrom, litinskiRounds, passes};
+ghost use mathlib.Core.Bool.{true};
+ghost use Rattle.points.specs.Points.{SomeRun, OptionsIn, SameLong, RunAt, EndedAs};
 ghost use Rattle.rounds.specs.Merging.{RoundAs};
 ghost use Rattle.rounds.specs.Litinski.{LayerRoundAs};
-use exchange::Rules;
 use layout::ITEMS;
 use layout::Shape;
 use model::Options;
 use model::Strategy;
-use stream_states::Stepped;
-use stream_states::StreamRules;
-
-// Where a run stands: items, axes stored, merges, exchanges, absorbed rotations.
-pub struct Run {
-    pub items: usize,
-    pub axes: usize,
-    pub merges: usize,
-    pub swaps: usize,
-    pub absorbed: usize,
-}
-
-// How a part of a run ends.
-pub enum Ended {
-    Done(Run),
-    ExpansionLimit,
-}
+use points::Ended;
+use points::Run;
 
 // How a round ends: with the T-count that the next one is compared with; as the last; refused.
 pub enum Round {
     Again(Run, usize),
     Stop(Run),
     ExpansionLimit,
-}
-
-// One stream.
-fn one_stream(
-    words: &mut [u64],
-    numbers: &mut [u32],
-    shape: Shape,
-    options: Options,
-    merging: bool,
-    run: Run,
-) -> Ended
-    requires { ⌜ SomeRun shape 511 run (now words) (now numbers) × OptionsIn options ⌝ }
-    ensures { λ r. ⌜ SameLong (now (words .entry)) (now (numbers .entry)) (now (words .exit)) (now (numbers .exit))
-        × ((i : ℕ) (p : Program) (w : Work) → RunAt shape i run (now (words .entry)) (now (numbers .entry)) p w
-        → EndedAs shape (i + 1) r (now (words .exit)) (now (numbers .exit)) p (streamPass (shape .l) (rulesOf options) merging w)) ⌝ }
-{
-    let rules = StreamRules {
-        lookback: options.lookback,
-        to_frame: options.clifford_to_frame,
-        lazy: options.lazy_cliffords,
-        merge: merging,
-    };
-    let t = stream::stream(words, numbers, shape, rules, run.items, run.axes);
-    let Stepped::Next(s) = t else {
-        return Ended::ExpansionLimit;
-    };
-    Ended::Done(Run {
-        items: s.out,
-        axes: s.axes,
-        merges: run.merges + s.merges,
-        swaps: run.swaps,
-        absorbed: run.absorbed + s.absorbed,
-    })
-}
-
-// Exchanges within each segment.
-fn swap(words: &[u64], numbers: &mut [u32], shape: Shape, options: Options, run: Run) -> Run
-    requires { ⌜ SomeRun shape 511 run (now words) (now numbers) × OptionsIn options ⌝ }
-    ensures { λ r. ⌜ SameLong (now (words .entry)) (now (numbers .entry)) (now (words .entry)) (now (numbers .exit))
-        × ((i : ℕ) (p : Program) (w : Work) → RunAt shape i run (now (words .entry)) (now (numbers .entry)) p w
-        → RunAt shape (i + 1) r (now (words .entry)) (now (numbers .exit)) p (exchangePass (shape .l) (rulesOf options) w)) ⌝ }
-{
-    let z = axes::sizes_of(shape, run.axes);
-    let rules = Rules {
-        window: options.window,
-        candidates: options.candidates,
-        eager: options.eager_swaps,
-    };
-    let s = exchange::swap_segments(words, numbers, z, rules, run.items);
-    Run {
-        items: s.out,
-        axes: run.axes,
-        merges: run.merges,
-        swaps: run.swaps + s.swaps,
-        absorbed: run.absorbed,
-    }
-}
-
-// Layers in each segment.
-fn layer(words: &[u64], numbers: &mut [u32], shape: Shape, run: Run) -> Run
-    requires { ⌜ SomeRun shape 511 run (now words) (now numbers) ⌝ }
-    ensures { λ r. ⌜ SameLong (now (words .entry)) (now (numbers .entry)) (now (words .entry)) (now (numbers .exit))
-        × ((i : ℕ) (p : Program) (w : Work) → RunAt shape i run (now (words .entry)) (now (numbers .entry)) p w
-        → RunAt shape (i + 1) r (now (words .entry)) (now (numbers .exit)) p (layeringPass (shape .l) w)) ⌝ }
-{
-    let z = axes::sizes_of(shape, run.axes);
-    let s = layering::layer_segments(words, numbers, z, run.items);
-    Run {
-        items: s.out,
-        axes: run.axes,
-        merges: run.merges + s.merged,
-        swaps: run.swaps,
-        absorbed: run.absorbed,
-    }
 }
 
 // A stream, and exchanges behind it.
@@ -125,11 +34,11 @@ fn merge_round(
         × ((i : ℕ) (p : Program) (w : Work) → RunAt shape i run (now (words .entry)) (now (numbers .entry)) p w
         → EndedAs shape (i + 2) r (now (words .exit)) (now (numbers .exit)) p (mergeRound (shape .l) (rulesOf options) w)) ⌝ }
 {
-    let e = one_stream(words, numbers, shape, options, true, run);
+    let e = points::stream_pass(words, numbers, shape, options, true, run);
     let Ended::Done(s) = e else {
         return Ended::ExpansionLimit;
     };
-    Ended::Done(swap(&words[..], numbers, shape, options, s))
+    Ended::Done(points::exchange_pass(&words[..], numbers, shape, options, s))
 }
 
 // A round, the one before having left T-count t: the last if it has no exchange and no lower T-count.
@@ -209,7 +118,7 @@ fn closing_stream(
         return Ended::Done(run);
     }
     if item_lists::any_even(&numbers[..], shape.u, ITEMS, 0, run.items) {
-        return one_stream(words, numbers, shape, options, true, run);
+        return points::stream_pass(words, numbers, shape, options, true, run);
     }
     Ended::Done(run)
 }
@@ -248,11 +157,11 @@ fn layer_round(
         × ((i : ℕ) (p : Program) (w : Work) → RunAt shape i run (now (words .entry)) (now (numbers .entry)) p w
         → LayerRoundAs shape (i + 2) options r (now (words .exit)) (now (numbers .exit)) p w) ⌝ }
 {
-    let s = layer(&words[..], numbers, shape, run);
+    let s = points::layering_pass(&words[..], numbers, shape, run);
     if s.merges == run.merges {
         return Round::Stop(s);
     }
-    let e = one_stream(words, numbers, shape, options, false, s);
+    let e = points::stream_pass(words, numbers, shape, options, false, s);
     let Ended::Done(next) = e else {
         return Round::ExpansionLimit;
     };
@@ -302,7 +211,7 @@ fn litinski_rounds(
     if options.rounds == 0 {
         return Ended::Done(first);
     }
-    let e = one_stream(words, numbers, shape, options, false, first);
+    let e = points::stream_pass(words, numbers, shape, options, false, first);
     let Ended::Done(run) = e else {
         return Ended::ExpansionLimit;
     };

@@ -1,5 +1,5 @@
 -- The rounds, and one more stream. Assumes nothing.
-use Rattle.rounds.specs.Points.{long-then}
+use Rattle.points.specs.Points.{long-then}
 use Rattle.rounds.specs.Merging.{merging-limit, merging-some, merging-end}
 use borrow.Author.Needs.{needs}
 use native.Mathlib.Omega.{arith}

@@ -17,10 +17,10 @@ use Rattle.stream_states.specs.declared.Stepped.the-variants as stepped
 use Rattle.stream_states.specs.declared.StreamRules.{StreamRules}
 use Rattle.stream_states.specs.States.{RulesAs, absorptionSaid}
 use Rattle.stream.specs.Passing.{PassAtWork, PassedAs, SomeWork, LeftP}
 use Rattle.points.specs.Demands as demands
-use Rattle.rounds.specs.declared.Run.{Run}
-use Rattle.rounds.specs.declared.Ended.the-variants.{Done, ExpansionLimit}
-use Rattle.rounds.specs.Points.{RunAt, SomeRun, SameLong, EndedAs, ended-at, ended-limit, most}
+use Rattle.points.specs.declared.Run.{Run}
+use Rattle.points.specs.declared.Ended.the-variants.{Done, ExpansionLimit}
+use Rattle.points.specs.Points.{RunAt, SomeRun, SameLong, EndedAs, ended-at, ended-limit, most}
 
 -- the rules of a stream: the options', and whether rotations merge
 abbrev streamRules : Options → Bool → StreamRules

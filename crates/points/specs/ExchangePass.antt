@@ -1,36 +1,29 @@
--- The passes without a refusal, from a point of a run to the next. Assumes nothing.
+-- An exchange, from a point of a run to the next. Assumes nothing.
 use mathlib.Core.Path.{_≡_, refl, sym, ap, _∙_, subst}
-use mathlib.Core.List.{List, [], _∷_}
-use Prim.Native.Nat.{ℕ, _+_, _*_, _≤_, _<_}
+use mathlib.Core.List.{List}
+use Prim.Native.Nat.{ℕ, _+_, _≤_, _<_}
 use native.Mathlib.Omega.{arith}
-use lib.ListN.{length, getD}
 use Rattle.model.specs.declared.Options.{Options}
 use Rattle.model.specs.Lists.{anyOf, member}
 use Rattle.model.specs.Program.{Program}
 use Rattle.model.specs.Packing.{SignedAxis}
-use Rattle.model.specs.Interface.{defaultsAt}
 use Rattle.model.specs.Rules.{Rules, rulesOf}
 use Rattle.model.specs.Words.{Store}
-use Rattle.model.specs.Rounds.{Work, exchangePass, layeringPass}
+use Rattle.model.specs.Rounds.{Work, exchangePass}
 use Rattle.theory.specs.Cases.{by-if}
 use Rattle.layout.specs.declared.Shape.{Shape}
 use Rattle.layout.specs.Shape.{granted-same}
 use Rattle.axes.specs.declared.Sizes.{Sizes}
 use Rattle.axes.specs.Held.{sizesOf, held-rows, held-as}
 use Rattle.work.specs.Work.{FrameIn, frame-other}
-use Rattle.run_wellformed.specs.WorkWell.{exchange-work, layering-work}
+use Rattle.run_wellformed.specs.WorkWell.{exchange-work}
 use Rattle.exchange.specs.declared.Rules as exchange
 use Rattle.exchange.specs.declared.Progress.{Progress}
 use Rattle.exchange.specs.Segments.{ExchangePre, Exchanged}
 use Rattle.exchange.specs.Pass.{exchange-is}
-use Rattle.layering.specs.declared.Layering.{Layering}
-use Rattle.layering.specs.Contracts.{LayeringPre, LayeredAs}
-use Rattle.layering.specs.LayeringPass.{layered-pass}
-use Rattle.points.specs.Demands.{exchange-pre, layering-pre}
-use Rattle.rounds.specs.declared.Run.{Run}
-use Rattle.rounds.specs.Points.{RunAt, SomeRun, OptionsIn, items-few}
-
--- ---- exchanges
+use Rattle.points.specs.Demands.{exchange-pre}
+use Rattle.points.specs.declared.Run.{Run}
+use Rattle.points.specs.Points.{RunAt, SomeRun, OptionsIn, items-few}
 
 abbrev exchangeRules : Options → exchange.Rules
 exchangeRules o = record { window = o .window; candidates = o .candidates; eager = o .«eager_swaps» }
@@ -86,48 +79,4 @@ module _ {z : Shape} (o : Options) {st : Run} {s : Sizes} (same : s ≡ sizesOf 
           swaps = ap (λ (n : ℕ). n + d .swaps) (r .swaps) ∙ e .1;
           absorbed = r .absorbed ∙ sym (same-absorbed (z .l) g w);
           few = omega (arith, x .few, r .few, items-few r);
-        }
-
--- ---- layers
-
--- layering goes by no rules
-anyRules : Rules
-anyRules = rulesOf (defaultsAt 0)
-
-module _ {z : Shape} {st : Run} {s : Sizes} (same : s ≡ sizesOf z (st .axes)) {ws xs : List ℕ} where
-  pub layer-pre : {i : ℕ} → SomeRun z i st ws xs → LayeringPre s ws xs (st .items)
-  layer-pre a =
-      let r = a .at in
-      subst (λ (n : Sizes). LayeringPre n ws xs (st .items)) (sym same) (layering-pre (r .granted) (r .work) (r .well))
-
-  module _ {d : Layering} {ys : List ℕ} (x : LayeredAs s ws xs (st .items) d ys) where
-    pub layer-fits : SomeRun z 511 st ws xs → st .merges + d .merged < 18446744073709551616
-    layer-fits r = omega (arith, x .size, r .at .few, items-few (r .at))
-
-    pub layered-at : (i : ℕ) (p : Program) (w : Work) → RunAt z i st ws xs p w
-        → RunAt z (i + 1) (record {
-          items = d .out;
-          axes = st .axes;
-          merges = st .merges + d .merged;
-          swaps = st .swaps;
-          absorbed = st .absorbed;
-        }) ws ys p (layeringPass (z .l) w)
-    unfolding member anyOf
-    layered-at i p w r =
-        let b = subst (λ (n : Sizes). LayeredAs n ws xs (st .items) d ys) same x in
-        let e = layered-pass b w (r .work .axes) (sym (r .work .items)) in
-        record {
-          granted = granted-same (r .granted) refl (x .only .long);
-          work = record {
-            axes = held-as (held-rows (r .work .axes) (b .only) refl) (ap (λ (v : Work). v .store .axes) (sym e));
-            within = subst (λ (v : Work). v .store .peak ≤ z .limit) (sym e) (r .work .within);
-            items = ap (λ (v : Work). v .items) (sym e);
-            fits = omega (arith, x .size, r .work .fits);
-            frame = subst (λ (v : Work). FrameIn z p (v .rows) ys) (sym e) (frame-other (b .only) refl (r .work .frame));
-          };
-          well = layering-work anyRules (r .well);
-          merges = ap (λ (n : ℕ). n + d .merged) (r .merges) ∙ ap (λ (v : Work). v .merges) (sym e);
-          swaps = r .swaps ∙ ap (λ (v : Work). v .swaps) (sym e);
-          absorbed = r .absorbed ∙ ap (λ (v : Work). v .absorbed) (sym e);
-          few = omega (arith, x .size, r .few, items-few r);
         }

@@ -1,9 +1,9 @@
 -- The stream's pass. Assumes nothing.
-use Rattle.rounds.specs.Streaming.{stream-pre, stream-long, stream-limit, stream-few, stream-done}
+use Rattle.points.specs.StreamPass.{stream-pre, stream-long, stream-limit, stream-few, stream-done}
 use borrow.Author.Needs.{needs}
 use native.Mathlib.Omega.{arith}
-use Rattle.rounds.proofs.one_stream.Statement.{statement}
-use Rattle.rounds.proofs.one_stream.Tie as tie
+use Rattle.points.proofs.stream_pass.Statement.{statement}
+use Rattle.points.proofs.stream_pass.Tie as tie
 
 stream-requires : tie.Need-stream-requires
 stream-requires c κs =
@@ -79,8 +79,8 @@ returns-2 c =
           (at-t .t .given .1),
     )
 
-pub one-stream-spec : {M : Type 1} → statement M
-one-stream-spec =
+pub stream-pass-spec : {M : Type 1} → statement M
+stream-pass-spec =
     tie.close
     (tie.spec
     stream-requires

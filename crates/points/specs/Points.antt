@@ -11,9 +11,9 @@ use Rattle.layout.specs.declared.Shape.{Shape}
 use Rattle.layout.specs.Shape.{Granted}
 use Rattle.work.specs.Work.{WorkIn}
 use Rattle.run_wellformed.specs.WorkWell.{WorkWell}
-use Rattle.rounds.specs.declared.Run.{Run}
-use Rattle.rounds.specs.declared.Ended.{Ended}
-use Rattle.rounds.specs.declared.Ended.the-variants.{Done, ExpansionLimit}
+use Rattle.points.specs.declared.Run.{Run}
+use Rattle.points.specs.declared.Ended.{Ended}
+use Rattle.points.specs.declared.Ended.the-variants.{Done, ExpansionLimit}
 
 -- one pass raises no counter by more than this
 abbrev pub most : ℕ
