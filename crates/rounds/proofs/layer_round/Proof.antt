@@ -6,7 +6,7 @@ use native.Mathlib.Omega.{arith}
 use Rattle.rounds.proofs.layer_round.Statement.{statement}
 use Rattle.rounds.proofs.layer_round.Tie as tie
 
-layering-pass-requires : tie.Need-layer-requires
+layering-pass-requires : tie.Need-layering-pass-requires
 layering-pass-requires c κs =
     let start = c .before .before .before .before in
     some-later (omega arith) (start .pre .0)
