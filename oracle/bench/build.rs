@@ -1,4 +1,4 @@
-//! Two copies of docs/src in which pack can be called, with its hash and with a scan.
+//! Two copies of docs/src, with its hash and with a scan.
 
 use std::path::Path;
 
@@ -18,11 +18,10 @@ mod scan { pub mod pbc; }
 ";
 
 fn main() {
-    let insertions = Edits::insertions(Path::new("insertions.txt"));
     let scan = Edits::replacements(Path::new("scan.txt"));
     let layout = Layout::from_env();
     layout.root(ROOT);
     layout.circuit();
-    layout.pbc("hash", &[&insertions]);
-    layout.pbc("scan", &[&insertions, &scan]);
+    layout.pbc("hash", &[]);
+    layout.pbc("scan", &[&scan]);
 }

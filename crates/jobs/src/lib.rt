@@ -9,13 +9,15 @@ mod lend;
 mod read;
 
 pub use lend::Lent;
+pub use lend::Room;
 pub use lend::part;
 pub use read::past_blanks;
 
-// A job that is read: its counts and options, what it is lent, and the place of the next job.
+// A job that is read: its counts and options, whether there is room for it, what it is lent, and the place of the next job.
 pub struct Job {
     pub counts: Counts,
     pub options: Options,
+    pub has_room: bool,
     pub lent: Lent,
     pub next: usize,
 }
@@ -28,20 +30,21 @@ fn behind(from: usize, next: usize, end: usize) -> usize
     if from < next { next } else { end }
 }
 
-// Reads the job at a place of the input, its records into memory for all of them; words and numbers say how much room the stores have.
-pub fn read_job(s: &[u8], from: usize, records: &mut [u32], words: usize, numbers: usize) -> Job
-    requires { ⌜ from < length (now s) ⌝ }
-    ensures { λ r. ⌜ (from < r .next) × (r .next ≤ length (now (s .entry))) × Within (r .lent)
-        (length (now (records .entry))) words numbers ⌝ }
+// Reads the job at a place of the input, its records into memory for all of them.
+pub fn read_job(s: &[u8], from: usize, records: &mut [u32], room: Room) -> Job
+    requires { ⌜ (from < length (now s)) × (room .records ≤ length (now records)) ⌝ }
+    ensures { λ r. ⌜ (from < r .next) × (r .next ≤ length (now (s .entry))) × Within (r .lent) room ⌝ }
 {
     let h = read::read_header(s, from);
-    let size = lend::following(h, records.len());
-    let end = read::numbers(s, h.next, size.nodes + size.operations + size.rows, records);
+    let size = lend::following(h, room.records);
+    let at = read::numbers(s, h.next, size.nodes + size.operations + size.rows, records);
+    let end = read::pass_over(s, at, size.passed);
     let next = behind(from, past_blanks(s, end), s.len());
     Job {
         counts: read::counts(h),
         options: read::options(h),
-        lent: lend::lend(h, size, records.len(), words, numbers),
+        has_room: lend::has_room(h, size, room),
+        lent: lend::lend(h, size, room),
         next,
     }
 }

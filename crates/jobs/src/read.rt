@@ -95,6 +95,22 @@ pub fn numbers(s: &[u8], from: usize, count: usize, to: &mut [u32]) -> usize
     at
 }
 
+// Passes over so many numbers, or over all that are left; the place behind them.
+pub fn pass_over(s: &[u8], from: usize, count: usize) -> usize
+    requires { ⌜ from ≤ length (now s) ⌝ }
+    ensures { λ r. ⌜ r ≤ length (now (s .entry)) ⌝ }
+{
+    let mut at = from;
+    for i in 0..count {
+        if at == s.len() {
+            return at;
+        }
+        let g = number(s, at);
+        at = g.next;
+    }
+    at
+}
+
 // A job's first 17 numbers, and the place behind them.
 pub struct Header {
     pub qubits: u32,

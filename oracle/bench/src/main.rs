@@ -1,17 +1,14 @@
-//! The time of packing: ours through the static library, the original's `pack` with a hash (the standard library's), and
-//! with a scan in its place. All three in one run, in turn; what they give must be equal.
+//! The time of Rewriting: ours through the static library, the original with a hash (the standard library's), and with a scan
+//! in its place. All three in one run, in turn; what they count and the operations that come out must be equal.
 
 use std::time::Duration;
 
-use jobs::Job;
-use ours::{Call, Packing};
+use jobs::{Job, Memory, Seen};
+use ours::{Call, Counted, OPERATIONS};
 
 include!(concat!(env!("OUT_DIR"), "/src/root.rs"));
 
 const RUNS: usize = 5;
-
-/// How much longer than the original with a scan ours may take.
-const MOST: f64 = 2.0;
 
 unsafe extern "C" {
     /// C's: microseconds of processor time that this process has used.
@@ -19,7 +16,7 @@ unsafe extern "C" {
 }
 
 /// The processor time of `work`, which others on the same machine do not lengthen as they do a watch's.
-pub fn timed<T>(work: impl FnOnce() -> T) -> (Duration, T) {
+fn timed<T>(work: impl FnOnce() -> T) -> (Duration, T) {
     // SAFETY: `clock` only reads.
     let now = || unsafe { clock() };
     let began = now();
@@ -28,54 +25,93 @@ pub fn timed<T>(work: impl FnOnce() -> T) -> (Duration, T) {
 }
 
 fn main() {
-    let small = generator::large::job(1, 64, 60_000, 20_000);
+    let narrow = generator::large::job(1, 64, 60_000, 20_000);
     let wide = generator::large::job(2, 1_000, 5_000, 2_000);
-    let ratios = [compare(&small), compare(&wide)];
-    if ratios.iter().any(|ratio| *ratio > MOST) {
-        println!("more than {MOST} x the Rust with a scan");
-        std::process::exit(1);
+    for job in [narrow, wide] {
+        for rounds in [0, 1, 8] {
+            let mut job = job.clone();
+            job.options.rounds = rounds;
+            compare(&job);
+        }
     }
 }
 
-/// Times all three on a job and prints it; the ratio of the best times, ours to the original's with a scan.
-fn compare(job: &Job) -> f64 {
-    let limit = job.options.limit;
-    let (hash, scan) = (hash::pbc::to_pbc(job), scan::pbc::to_pbc(job));
-    let mut call = Call::new(job);
+/// What a run counts and the kind and angle of every operation that comes out.
+#[derive(PartialEq, Eq)]
+struct Given {
+    t_after: usize,
+    merges: usize,
+    swaps: usize,
+    absorbed: usize,
+    operations: Vec<[i64; 2]>,
+}
+
+/// Times all three on a job and prints it.
+fn compare(job: &Job) {
     let mut times: [Vec<Duration>; 3] = Default::default();
-    let mut axes = 0;
+    let mut last = None;
     for _ in 0..RUNS {
         let runs = [
-            hash.time_pack(limit),
-            scan.time_pack(limit),
-            time_ours(&mut call),
+            time_rust(|run| hash::pbc::PbcCircuit::run_clocked(job, run)),
+            time_rust(|run| scan::pbc::PbcCircuit::run_clocked(job, run)),
+            time_ours(job),
         ];
-        let given = &runs[0].1;
-        assert!(runs[1].1 == *given, "the scan gives something else");
-        assert!(runs[2].1 == *given, "our packing gives something else");
-        axes = given.words.len() / (2 * job.width());
+        assert!(runs[1].1 == runs[0].1, "the scan gives something else");
+        assert!(runs[2].1 == runs[0].1, "ours gives something else");
         for (times, (took, _)) in times.iter_mut().zip(&runs) {
             times.push(*took);
         }
+        last = runs.into_iter().next();
     }
     times.iter_mut().for_each(|times| times.sort());
-    print(job, axes, &times)
+    let given = last.expect("there are runs").1;
+    print(job, &given, &times);
 }
 
-/// Checking and packing, timed together.
-fn time_ours(call: &mut Call) -> (Duration, Packing) {
-    call.refill();
-    let (took, (answer, axes)) = timed(|| call.run());
-    assert!(answer == 0, "our packing answers {answer}");
-    (took, call.packing(axes))
+type Clock = fn(&mut dyn FnMut()) -> Duration;
+
+fn time_rust(run: impl FnOnce(Clock) -> (Duration, Seen)) -> (Duration, Given) {
+    let (took, seen) = run(|run| timed(run).0);
+    let accepted = seen.unwrap_or_else(|refusal| panic!("answer {}", refusal.answer()));
+    let c = accepted.counters;
+    let operations = accepted.records.operations.iter();
+    let given = Given {
+        t_after: c.t_after,
+        merges: c.merges,
+        swaps: c.swaps,
+        absorbed: c.absorbed,
+        operations: operations.map(|o| [o[0], o[3]]).collect(),
+    };
+    (took, given)
 }
 
-fn print(job: &Job, axes: usize, times: &[Vec<Duration>; 3]) -> f64 {
+fn time_ours(job: &Job) -> (Duration, Given) {
+    let mut call = Call::new(job, &Memory::ones(job.lent()));
+    let (took, (answer, counted)) = timed(|| call.run());
+    assert!(answer == 0, "our answer is {answer}");
+    (took, given(&counted, &call.memory()))
+}
+
+fn given(counted: &Counted, memory: &Memory) -> Given {
+    let operations = memory.operations.chunks(6).take(counted[OPERATIONS]);
+    Given {
+        t_after: counted[1],
+        merges: counted[2],
+        swaps: counted[3],
+        absorbed: counted[4],
+        operations: operations.map(|o| [o[0].into(), o[3].into()]).collect(),
+    }
+}
+
+fn print(job: &Job, given: &Given, times: &[Vec<Duration>; 3]) {
     println!(
-        "{} qubits, {} nodes, {} operations, {axes} axes; best and median of {RUNS}",
+        "{} qubits, {} nodes, {} operations, {} rounds: {} operations, T {}; best and median of {RUNS}",
         job.qubits,
         job.nodes.len(),
-        job.operations.len()
+        job.operations.len(),
+        job.options.rounds,
+        given.operations.len(),
+        given.t_after
     );
     for (name, times) in ["Rust with a hash", "Rust with a scan", "ours"]
         .iter()
@@ -91,5 +127,4 @@ fn print(job: &Job, axes: usize, times: &[Vec<Duration>; 3]) -> f64 {
         let (best, median) = (ratio(to, 0), ratio(to, RUNS / 2));
         println!("  {name:<24}{best:>9.2}   {median:>9.2}");
     }
-    ratio(1, 0)
 }

@@ -4,8 +4,10 @@
 pub struct Flags {
     /// One job in 01's listing form, answered by 01's listing.
     pub listing: bool,
-    /// What packing alone gives, in place of the run's answer.
-    pub packing: bool,
+    /// No largest tested sum in the answers' first lines.
+    pub no_sum: bool,
+    /// What the lent slices hold after the call, in place of its results.
+    pub memory: bool,
     /// Every tested sum before each answer, in lines that begin with #.
     pub sums: bool,
     /// A summary of all jobs on standard error.
@@ -22,7 +24,8 @@ impl Flags {
         for arg in std::env::args().skip(1) {
             let flag = match arg.as_str() {
                 "--listing" => &mut flags.listing,
-                "--packing" => &mut flags.packing,
+                "--no-sum" => &mut flags.no_sum,
+                "--memory" => &mut flags.memory,
                 "--sums" => &mut flags.sums,
                 "--stats" => &mut flags.stats,
                 "--quiet" => &mut flags.quiet,

@@ -1,6 +1,6 @@
 //! Reads jobs, runs both copies of the original on each, asserts that they agree, and prints document 01's output.
 //!
-//! driver [--listing] [--packing] [--sums] [--stats] [--quiet] [--time] < jobs
+//! driver [--listing] [--no-sum] [--memory] [--sums] [--stats] [--quiet] [--time] < jobs
 
 mod agree;
 mod flags;
@@ -32,8 +32,10 @@ fn main() -> io::Result<()> {
             write_sums(&mut out, &record)?;
         }
         if !flags.quiet {
-            let answer = if flags.packing {
-                jobs::packing
+            let answer = if flags.memory {
+                jobs::memory
+            } else if flags.no_sum {
+                jobs::answer_without_sum
             } else {
                 jobs::answer
             };

@@ -1,7 +1,7 @@
 //! Jobs at Checking's bounds and for packing's order, each under a comment that names its rule. Those that Checking
 //! accepts are for the driver; to those that it refuses 01's answer is written down here: the Rust has no counterpart.
 
-use jobs::{Job, MAX_LIMIT, NO_TARGET};
+use jobs::{Job, Lengths, MAX_LIMIT, NO_TARGET};
 
 use super::notation;
 
@@ -17,7 +17,15 @@ pub struct Handed {
     job: Job,
     /// Qubits, nodes and operations where they are too many to lend: no records follow, and the three slices are empty.
     counts: Option<[usize; 3]>,
+    /// The job may be lent less than it asks, as much as there is room for.
+    cut: bool,
 }
+
+/// The room that crates/rewriting_main has for words, numbers and either result.
+const ROOM: Lengths = [4_200, 80_000, 8_000, 8_000];
+
+/// What says so in the slack of the result rows.
+const CUT: usize = 10_000;
 
 /// Six nodes (0 identity, 1 X, 2 Z, 3 X Z, 4 and 5 for the rows), a rotation, a measurement and a conditional rotation.
 fn plain() -> Handed {
@@ -37,7 +45,11 @@ fn plain() -> Handed {
     ];
     job.rows = vec![[0, 0, 4, 0], [0, 1, 5, 0]];
     job.options.limit = 64;
-    Handed { job, counts: None }
+    Handed {
+        job,
+        counts: None,
+        cut: false,
+    }
 }
 
 /// A program slice that is one short: the slack of words, numbers and result operations, 10,000 more, says so of nodes,
@@ -64,10 +76,10 @@ pub fn refused() -> String {
     refusals().map(Case::text).collect()
 }
 
-/// What packing's program prints for them.
+/// What the program prints for them.
 pub fn refusal_answers() -> String {
     refusals()
-        .map(|c| format!("{} 0\nend\n", c.answer))
+        .map(|case| jobs::refused_memory(case.answer, case.handed().lent()))
         .collect()
 }
 
@@ -80,22 +92,47 @@ fn refusals() -> impl Iterator<Item = &'static Case> {
 }
 
 impl Case {
-    fn text(&self) -> String {
+    fn handed(&self) -> Handed {
         let mut handed = plain();
         (self.change)(&mut handed);
-        let job = handed.job.to_string();
-        let records = match handed.counts {
-            None => job,
-            Some([qubits, nodes, operations]) => {
-                let header = job.lines().next().expect("a job has a header");
-                let options = header
-                    .splitn(4, ' ')
-                    .last()
-                    .expect("options follow the counts");
-                format!("{qubits} {nodes} {operations} {options}\n")
-            }
+        handed.cut |= handed.counts.is_some();
+        if handed.cut {
+            handed.job.slack[3] += CUT;
+        }
+        handed
+    }
+
+    fn text(&self) -> String {
+        format!("# {}: {}\n{}", self.answer, self.rule, self.handed().text())
+    }
+}
+
+impl Handed {
+    fn text(&self) -> String {
+        let job = self.job.to_string();
+        let Some([qubits, nodes, operations]) = self.counts else {
+            return job;
         };
-        format!("# {}: {}\n{records}", self.answer, self.rule)
+        let header = job.lines().next().expect("a job has a header");
+        let options = header
+            .splitn(4, ' ')
+            .last()
+            .expect("options follow the counts");
+        format!("{qubits} {nodes} {operations} {options}\n")
+    }
+
+    fn lent(&self) -> Lengths {
+        let [qubits, nodes, operations] = self.counts.unwrap_or([
+            self.job.qubits,
+            self.job.nodes.len(),
+            self.job.operations.len(),
+        ]);
+        let lent = self.job.lent_for(qubits, nodes, operations);
+        if self.cut {
+            std::array::from_fn(|i| lent[i].min(ROOM[i]))
+        } else {
+            lent
+        }
     }
 }
 
@@ -202,8 +239,14 @@ const OPTIONS: &[Case] = &[
         MAX_LIMIT + 1),
     case!(2, "candidates 1048577", |h| h.job.options.candidates =
         MAX_LIMIT + 1),
-    case!(2, "limit 1048577", |h| h.job.options.limit = MAX_LIMIT + 1),
-    case!(3, "limit 1048576", |h| h.job.options.limit = MAX_LIMIT),
+    case!(2, "limit 1048577", |h| {
+        h.job.options.limit = MAX_LIMIT + 1;
+        h.cut = true;
+    }),
+    case!(3, "limit 1048576", |h| {
+        h.job.options.limit = MAX_LIMIT;
+        h.cut = true;
+    }),
 ];
 
 /// Refusal 3, each slice one short.

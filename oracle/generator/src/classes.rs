@@ -4,11 +4,13 @@ use std::collections::BTreeMap;
 
 use jobs::Job;
 
-use super::random::{self, Shape};
+use super::random::Shape;
 use super::rng::Rng;
 
 /// What a list is made of.
 pub struct Recipe<'a> {
+    /// A job of a shape.
+    pub make: fn(&mut Rng, &Shape) -> Job,
     /// One job in so many has the wide shape, the others the small one.
     pub wide_every: usize,
     pub wide: &'a Shape,
@@ -29,7 +31,7 @@ pub fn list(
     while list.len() < count {
         let wide = list.len() % recipe.wide_every == recipe.wide_every - 1;
         let shape = if wide { recipe.wide } else { &Shape::SMALL };
-        let mut job = random::job(&mut rng, shape);
+        let mut job = (recipe.make)(&mut rng, shape);
         job.options.limit = job.options.limit.min(recipe.largest_limit);
         let (class, most) = class(&job);
         let of_class = taken.entry(class).or_default();

@@ -3,15 +3,15 @@
 
 use jobs::Job;
 
-use super::notation;
+use super::{notation, pinned};
 
 pub struct Case {
     /// The rule or example, printed as a comment.
     pub rule: &'static str,
     /// Operations in the notation of notation.rs.
-    operations: &'static str,
+    pub operations: &'static str,
     /// What differs from Rust's default options, an identity frame and a wide limit.
-    change: fn(&mut Job),
+    pub change: fn(&mut Job),
     /// How the answer begins: answer, T before, T after, merges, swaps, absorbed, operations, axes.
     pub begins: &'static str,
 }
@@ -31,7 +31,9 @@ pub fn text() -> String {
 }
 
 pub fn cases() -> impl Iterator<Item = &'static Case> {
-    [SELDOM, SHOW_MUCH, STARRED, RULES].into_iter().flatten()
+    [SELDOM, SHOW_MUCH, STARRED, RULES, pinned::CASES]
+        .into_iter()
+        .flatten()
 }
 
 fn as_is(_: &mut Job) {}
@@ -42,6 +44,7 @@ macro_rules! options {
         |job| { $(job.options.$field = $value;)* }
     };
 }
+pub(crate) use options;
 
 /// The three wrong readings that random runs do not tell apart.
 const SELDOM: &[Case] = &[

@@ -3,13 +3,14 @@
 use jobs::Job;
 
 use super::classes::{self, Recipe};
-use super::random::Shape;
+use super::random::{self, Shape};
 
 /// How many jobs are taken of a class of runs that end in a refusal or change nothing, and of another.
 const MOST_PLAIN: usize = 10;
 const MOST_OTHER: usize = 2;
 
 const RECIPE: Recipe = Recipe {
+    make: random::job,
     wide_every: 20,
     wide: &Shape::WIDE,
     largest_limit: 4096,

@@ -1,4 +1,4 @@
-//! Large programs to time packing on: shared products with phases, and axes from one letter to dense ones.
+//! Large programs, to be timed: shared products with phases, and axes from one letter to dense ones.
 
 use jobs::{Job, MAX_LIMIT, Options};
 

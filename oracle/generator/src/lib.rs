@@ -1,4 +1,4 @@
-//! Jobs for the driver: random ones from a seed, directed ones for single rules, the fixed list, and those for packing alone.
+//! Jobs for the driver: random ones from a seed, directed ones for single rules, the fixed list, and those for the gate.
 
 pub mod checked;
 mod classes;
@@ -11,7 +11,9 @@ mod notation;
 mod operations;
 mod options;
 pub mod packing;
+mod pinned;
 mod pool;
 mod program;
 pub mod random;
+pub mod rewriting;
 pub mod rng;

@@ -2,13 +2,15 @@
 //! generator --limits SEED COUNT: small jobs, each with every limit that refuses it at another sum.
 //! generator --fixed SEED COUNT: small jobs, at most a few of each class.
 //! generator --packing SEED COUNT: small jobs, at most a few of each class of packing.
+//! generator --rewriting SEED COUNT: small jobs, at most a few of each class of runs and options.
+//! generator --large SEED QUBITS NODES OPERATIONS: one large job, with Rust's default options.
 //! generator --directed: the directed cases, each with a comment.
 //! generator --accepted, --refused: jobs at Checking's bounds, each with a comment.
 //! generator --answers: 01's answers to the refused ones.
 
 use generator::random::{self, Shape};
 use generator::rng::Rng;
-use generator::{checked, directed, fixed, limit, packing};
+use generator::{checked, directed, fixed, large, limit, packing, rewriting};
 use jobs::Job;
 
 fn main() {
@@ -24,10 +26,20 @@ fn main() {
                 print!("{job}");
             }
         }
+        ["--rewriting", seed, count] => {
+            for job in rewriting::list(number(seed), number(count) as usize) {
+                print!("{job}");
+            }
+        }
         ["--fixed", seed, count] => {
             for job in fixed::list(number(seed), number(count) as usize) {
                 print!("{job}");
             }
+        }
+        ["--large", seed, qubits, nodes, operations] => {
+            let [qubits, nodes, operations] =
+                [qubits, nodes, operations].map(|n| number(n) as usize);
+            print!("{}", large::job(number(seed), qubits, nodes, operations));
         }
         ["--limits", seed, count] => {
             for job in random_jobs(seed, count, &Shape::SMALL) {
@@ -40,7 +52,8 @@ fn main() {
             }
         }
         _ => {
-            eprintln!("generator [--limits | --fixed | --packing] SEED COUNT");
+            eprintln!("generator [--limits | --fixed | --packing | --rewriting] SEED COUNT");
+            eprintln!("generator --large SEED QUBITS NODES OPERATIONS");
             eprintln!("generator --directed | --accepted | --refused | --answers");
             std::process::exit(2);
         }

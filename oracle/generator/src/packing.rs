@@ -1,22 +1,23 @@
-//! The list for packing alone: small jobs and some on 0, 64, 65 and 130 qubits, at most a few of each class.
+//! The gate's jobs for packing: small ones and some on 0, 64, 65 and 130 qubits, at most a few of each class.
 
 use jobs::Job;
 use record::{Place, Record};
 
 use super::classes::{self, Recipe};
-use super::random::Shape;
+use super::random::{self, Shape};
 
 /// How many jobs are taken of a class.
-const MOST: usize = 3;
+const MOST: usize = 2;
 
-const WIDE: Shape = Shape {
+pub const WIDE: Shape = Shape {
     most_qubits: 3,
     most_operations: 8,
     wide_percent: 100,
-    wide: &[0, 0, 64, 65, 130],
+    wide: &[0, 64, 64, 65, 130],
 };
 
 const RECIPE: Recipe = Recipe {
+    make: random::job,
     wide_every: 10,
     wide: &WIDE,
     largest_limit: 1024,
@@ -38,12 +39,16 @@ fn class(job: &Job) -> String {
         }
         (None, Ok(_)) => unreachable!("a run packs first"),
     };
-    let wide = if job.qubits > 6 || job.qubits == 0 {
-        job.qubits
-    } else {
+    format!("{end} {} {:?}", width(job), met(job, &record))
+}
+
+/// The qubits where they are none or many.
+pub fn width(job: &Job) -> usize {
+    if (1..=6).contains(&job.qubits) {
         1
-    };
-    format!("{end} {wide} {:?}", met(job, &record))
+    } else {
+        job.qubits
+    }
 }
 
 /// A product used twice, a node not used, a used leaf with letter I, a slot used again, a row that is no root.

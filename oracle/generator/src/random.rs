@@ -1,6 +1,6 @@
 //! Random jobs that Checking passes.
 
-use jobs::Job;
+use jobs::{Job, Options};
 
 use super::operations::Operations;
 use super::program::Program;
@@ -40,7 +40,20 @@ impl Shape {
 }
 
 pub fn job(rng: &mut Rng, shape: &Shape) -> Job {
-    let mut job = unlimited(rng, shape);
+    let job = unlimited(rng, shape);
+    finished(rng, job)
+}
+
+/// The same with these options.
+pub fn job_with(rng: &mut Rng, shape: &Shape, options: Options) -> Job {
+    let job = Job {
+        options,
+        ..unlimited(rng, shape)
+    };
+    finished(rng, job)
+}
+
+fn finished(rng: &mut Rng, mut job: Job) -> Job {
     spoil(rng, &mut job);
     litter(rng, &mut job);
     limit::choose(rng, &mut job);

@@ -8,18 +8,17 @@ use super::word::Word;
 
 /// The driver's text: the first line with all counters and the largest tested sum, the records, `end`.
 pub fn answer(job: &Job, seen: &Seen, record: &Record) -> String {
-    let mut first = vec![0; 14];
-    match seen {
-        Ok(accepted) => {
-            let c = &accepted.counters;
-            first = head(accepted, record);
-            first.extend([c.rotations_before, c.rotations_after]);
-            first.extend([c.t_depth_before, c.t_depth_after]);
-            first.extend([c.weight_before, c.weight_after]);
-        }
-        Err(refusal) => first[0] = refusal.answer(),
-    }
+    let mut first = first(seen, record);
     first.push(record.peak());
+    text(first, job, seen, record)
+}
+
+/// The same without the sum.
+pub fn answer_without_sum(job: &Job, seen: &Seen, record: &Record) -> String {
+    text(first(seen, record), job, seen, record)
+}
+
+fn text(first: Vec<usize>, job: &Job, seen: &Seen, record: &Record) -> String {
     let mut lines = vec![first.into_iter().map(|n| n as i64).collect()];
     lines.extend(body(job, seen, record));
     let text = |line: Vec<i64>| {
@@ -29,28 +28,19 @@ pub fn answer(job: &Job, seen: &Seen, record: &Record) -> String {
     lines.into_iter().map(text).collect::<String>() + "end\n"
 }
 
-/// The driver's text for packing alone: answer and axes; id and sign (0 or 2 quarter turns) of each operation and each
-/// row, -1 0 for a row that is no root; the words of each stored axis; `end`. After a refusal only the first line and `end`.
-pub fn packing(job: &Job, seen: &Seen, record: &Record) -> String {
-    let Some(packed) = &record.packed else {
-        let refusal = seen.as_ref().expect_err("pack did not end");
-        return format!("{} 0\nend\n", refusal.answer());
-    };
-    let signed = |&(id, sign): &(u32, i8)| format!("{id} {}", 1 - sign);
-    let word = |axis: &Vec<u64>| {
-        let words: Vec<String> = axis.iter().map(u64::to_string).collect();
-        words.join(" ")
-    };
-    let (operations, roots) = packed.roots.split_at(job.operations.len());
-    let mut rows = vec!["-1 0".to_string(); 2 * job.qubits];
-    for (&(qubit, is_z), root) in packed.rows.iter().zip(roots) {
-        rows[2 * qubit + usize::from(is_z)] = signed(root);
+/// Answer, counters, and how many operations and axes there are; zeros after a refusal.
+pub fn first(seen: &Seen, record: &Record) -> Vec<usize> {
+    match seen {
+        Ok(accepted) => {
+            let c = &accepted.counters;
+            let mut first = head(accepted, record);
+            first.extend([c.rotations_before, c.rotations_after]);
+            first.extend([c.t_depth_before, c.t_depth_after]);
+            first.extend([c.weight_before, c.weight_after]);
+            first
+        }
+        Err(refusal) => [vec![refusal.answer()], vec![0; 13]].concat(),
     }
-    let mut lines = vec![format!("0 {}", packed.axes)];
-    lines.extend(operations.iter().map(signed));
-    lines.extend(rows);
-    lines.extend(record.axes[..packed.axes].iter().map(word));
-    lines.join("\n") + "\nend\n"
 }
 
 /// 01's listing: eight fields in the first line, 8 columns each, right-justified.
@@ -90,7 +80,7 @@ fn body(job: &Job, seen: &Seen, record: &Record) -> Vec<Vec<i64>> {
 }
 
 /// Only a measurement keeps its sign; the others have theirs in the angle already.
-fn operations(accepted: &Accepted, record: &Record) -> Vec<Vec<i64>> {
+pub fn operations(accepted: &Accepted, record: &Record) -> Vec<Vec<i64>> {
     let results = accepted.records.operations.iter().zip(&record.operations);
     results
         .map(|(&[kind, _, _, angle, outcome, target], &(id, sign))| {
@@ -101,7 +91,7 @@ fn operations(accepted: &Accepted, record: &Record) -> Vec<Vec<i64>> {
 }
 
 /// A row that was not given is kept.
-fn rows(job: &Job, record: &Record) -> Vec<Vec<i64>> {
+pub fn rows(job: &Job, record: &Record) -> Vec<Vec<i64>> {
     let mut rows: Vec<Vec<i64>> = (0..2 * job.qubits as i64)
         .map(|i| vec![i / 2, i % 2, -1, 0])
         .collect();

@@ -59,8 +59,12 @@ pub struct Job {
 impl Job {
     /// u64 words of one bit plane.
     pub fn width(&self) -> usize {
-        self.qubits.div_ceil(64).max(1)
+        width(self.qubits)
     }
+}
+
+pub fn width(qubits: usize) -> usize {
+    qubits.div_ceil(64).max(1)
 }
 
 fn line<const N: usize>(f: &mut fmt::Formatter<'_>, fields: &[i64; N]) -> fmt::Result {

@@ -1,22 +1,31 @@
-//! Our packing, through the static library: lent memory, called as C calls it.
+//! Our Rewriting, through the static library: lent memory, called as C calls it.
 
-use jobs::{Job, NO_TARGET};
+mod guarded;
 
-/// What packing gives.
-#[derive(PartialEq, Eq)]
-pub struct Packing {
-    /// The stored words, in order of id.
-    pub words: Vec<u64>,
-    /// Id and sign of each operation, then of each frame row; none for a row that is no root.
-    pub references: Vec<Option<(u32, i8)>>,
-}
+use guarded::Guarded;
+use jobs::{Job, Memory, NO_TARGET};
+
+/// T before and after, merges, swaps, absorbed, operations, axes, rotations, T-depth and weight before and after.
+pub type Counted = [usize; 13];
+
+pub const OPERATIONS: usize = 5;
+pub const AXES: usize = 6;
 
 // A slice is a pointer and a length.
 unsafe extern "C" {
-    fn werdutxa_pack(
+    fn werdutxa_rewrite(
         qubits: usize,
         node_count: usize,
         operation_count: usize,
+        lookback: usize,
+        window: usize,
+        candidates: usize,
+        rounds: usize,
+        clifford_to_frame: bool,
+        eager_swaps: bool,
+        lazy_cliffords: bool,
+        litinski: bool,
+        measure_depth: bool,
         limit: usize,
         nodes: *const u32,
         nodes_length: usize,
@@ -28,113 +37,102 @@ unsafe extern "C" {
         words_length: usize,
         numbers: *mut u32,
         numbers_length: usize,
-        result_operations: *const u32,
+        result_operations: *mut u32,
         result_operations_length: usize,
-        result_rows: *const u32,
+        result_rows: *mut u32,
         result_rows_length: usize,
-        axes: *mut usize,
+        counted: *mut Counted,
     ) -> u32;
 }
 
-/// Rows of the number store (crates/layout).
-const ROOT_AXIS: usize = 15;
-const ROOT_SIGN: usize = 16;
-const NO_AXIS: u32 = u32::MAX;
-
-/// A job's records as numbers in a row, and the memory that a call is lent: just as much as refusal 3 asks.
-pub struct Call {
-    qubits: usize,
+/// A job's records as numbers in a row, and the memory that a call is lent, each slice between guards.
+pub struct Call<'a> {
+    job: &'a Job,
     nodes: Vec<u32>,
     operations: Vec<u32>,
     rows: Vec<u32>,
-    limit: usize,
-    /// Words of a stored axis.
-    stride: usize,
-    /// Length of a row of the number store.
-    row: usize,
-    words: Vec<u64>,
-    numbers: Vec<u32>,
+    words: Guarded<u64>,
+    numbers: Guarded<u32>,
+    result_operations: Guarded<u32>,
+    result_rows: Guarded<u32>,
 }
 
-impl Call {
-    pub fn new(job: &Job) -> Self {
-        let (l, limit) = (job.width(), job.options.limit);
-        let row = job.nodes.len() + job.operations.len() + 2 * job.qubits + limit / (2 * l) + 1;
+impl<'a> Call<'a> {
+    /// A call on this memory.
+    pub fn new(job: &'a Job, memory: &Memory) -> Self {
         Self {
-            qubits: job.qubits,
+            job,
             nodes: numbers(&job.nodes),
             operations: numbers(&job.operations),
             rows: numbers(&job.rows),
-            limit,
-            stride: 2 * l,
-            row,
-            words: vec![0; limit + 16 * l],
-            numbers: vec![0; 24 * row],
+            words: Guarded::new(&memory.words),
+            numbers: Guarded::new(&memory.numbers),
+            result_operations: Guarded::new(&memory.operations),
+            result_rows: Guarded::new(&memory.rows),
         }
     }
 
-    /// What packing gives, or the number of the refusal.
-    pub fn pack(&mut self) -> Result<Packing, u32> {
-        self.refill();
-        let (answer, axes) = self.run();
-        if answer == 0 {
-            Ok(self.packing(axes))
-        } else {
-            Err(answer)
-        }
-    }
-
-    /// Fills the memory with ones: nothing of an earlier run is left to be taken for the next one's.
-    pub fn refill(&mut self) {
-        self.words.fill(u64::MAX);
-        self.numbers.fill(u32::MAX);
-    }
-
-    /// Checking and packing: the answer, and how many axes there are.
-    pub fn run(&mut self) -> (u32, usize) {
-        let mut axes = usize::MAX;
-        // SAFETY: each pointer comes with the length of the vector it points into; no vector that is written overlaps another.
+    /// Rewriting: the answer, and what it counts.
+    pub fn run(&mut self) -> (u32, Counted) {
+        let o = &self.job.options;
+        let mut counted = [usize::MAX; 13];
+        // SAFETY: each pointer comes with the length of what it points into; no slice that is written overlaps another.
         let answer = unsafe {
-            werdutxa_pack(
-                self.qubits,
-                self.nodes.len() / 5,
-                self.operations.len() / 6,
-                self.limit,
+            werdutxa_rewrite(
+                self.job.qubits,
+                self.job.nodes.len(),
+                self.job.operations.len(),
+                o.lookback,
+                o.window,
+                o.candidates,
+                o.rounds,
+                o.clifford_to_frame,
+                o.eager_swaps,
+                o.lazy_cliffords,
+                o.litinski,
+                o.measure_depth,
+                o.limit,
                 self.nodes.as_ptr(),
                 self.nodes.len(),
                 self.operations.as_ptr(),
                 self.operations.len(),
                 self.rows.as_ptr(),
                 self.rows.len(),
-                self.words.as_mut_ptr(),
-                self.words.len(),
-                self.numbers.as_mut_ptr(),
-                self.numbers.len(),
-                // The results' place: packing only asks that it is long enough.
-                self.operations.as_ptr(),
-                self.operations.len(),
-                self.rows.as_ptr(),
-                self.rows.len(),
-                &mut axes,
+                self.words.inside_mut().as_mut_ptr(),
+                self.words.inside().len(),
+                self.numbers.inside_mut().as_mut_ptr(),
+                self.numbers.inside().len(),
+                self.result_operations.inside_mut().as_mut_ptr(),
+                self.result_operations.inside().len(),
+                self.result_rows.inside_mut().as_mut_ptr(),
+                self.result_rows.inside().len(),
+                &mut counted,
             )
         };
-        (answer, axes)
+        (answer, counted)
     }
 
-    /// What a run that was accepted with so many axes left.
-    pub fn packing(&self, axes: usize) -> Packing {
-        let at = |row: usize, i: usize| self.numbers[row * self.row + i];
-        let reference = |i: usize| match (at(ROOT_AXIS, i), at(ROOT_SIGN, i)) {
-            (NO_AXIS, _) => None,
-            (id, 0) => Some((id, 1)),
-            (id, 2) => Some((id, -1)),
-            (_, sign) => panic!("reference {i} has sign {sign}"),
-        };
-        Packing {
-            words: self.words[..axes * self.stride].to_vec(),
-            references: (0..self.operations.len() / 6 + 2 * self.qubits)
-                .map(reference)
-                .collect(),
+    /// What the slices hold now. The guards and the program must be as they were.
+    pub fn memory(&self) -> Memory {
+        assert!(
+            self.words.holds()
+                && self.numbers.holds()
+                && self.result_operations.holds()
+                && self.result_rows.holds(),
+            "something is written beside a slice"
+        );
+        let job = self.job;
+        assert!(
+            self.nodes == numbers(&job.nodes)
+                && self.operations == numbers(&job.operations)
+                && self.rows == numbers(&job.rows),
+            "the program is changed"
+        );
+        Memory {
+            words: self.words.inside().to_vec(),
+            numbers: self.numbers.inside().to_vec(),
+            operations: self.result_operations.inside().to_vec(),
+            rows: self.result_rows.inside().to_vec(),
         }
     }
 }

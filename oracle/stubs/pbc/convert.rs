@@ -106,9 +106,18 @@ fn options(given: &Options) -> OptimizeOptions {
 impl PbcCircuit {
     /// Run a job and read back all that this copy shows of it.
     pub fn run_job(job: &Job) -> Seen {
+        Self::run_clocked(job, |run| run()).1
+    }
+
+    /// The same; `clock` is handed the run alone, without the making of the circuit and the reading back.
+    pub fn run_clocked<T>(job: &Job, clock: impl FnOnce(&mut dyn FnMut()) -> T) -> (T, Seen) {
         let mut circuit = to_pbc(job);
         let before = circuit.records();
-        match circuit.optimize_rotations(options(&job.options)) {
+        let mut ended = None;
+        let clocked = clock(&mut || {
+            ended = Some(circuit.optimize_rotations(options(&job.options)));
+        });
+        let seen = match ended.expect("the clock runs it") {
             Ok(stats) => Ok(circuit.seen(stats)),
             Err(error) => {
                 assert!(circuit.records() == before, "an error changed the circuit");
@@ -118,6 +127,7 @@ impl PbcCircuit {
                     other => panic!("the optimizer ended in {other}"),
                 })
             }
-        }
+        };
+        (clocked, seen)
     }
 }

@@ -1,0 +1,80 @@
+-- Each part that is lent is within its slice. Assumes nothing.
+use mathlib.Core.Path.{sym}
+use lib.Seq.{length-take-le}
+use native.Mathlib.Omega.{arith}
+use borrow.Author.Needs.{needs}
+use Rattle.rewriting_main.proofs.job.lend.Statement.{statement}
+use Rattle.rewriting_main.proofs.job.lend.Tie as tie
+
+part-requires : tie.Need-part-requires
+part-requires c κs = search needs
+
+part-requires-2 : tie.Need-part-requires-2
+part-requires-2 c κs = search needs
+
+part-requires-3 : tie.Need-part-requires-3
+part-requires-3 c κs = search needs
+
+slice-relend-prefix-rewrite : tie.Need-slice-relend-prefix-rewrite
+slice-relend-prefix-rewrite c = search needs
+
+slice-aggregate-rewrite : tie.Need-slice-aggregate-rewrite
+slice-aggregate-rewrite c = sym (length-take-le _ _ (omega arith))
+
+slice-relend-prefix-rewrite-2 : tie.Need-slice-relend-prefix-rewrite-2
+slice-relend-prefix-rewrite-2 c = search needs
+
+slice-aggregate-rewrite-2 : tie.Need-slice-aggregate-rewrite-2
+slice-aggregate-rewrite-2 c = sym (length-take-le _ _ (omega arith))
+
+slice-relend-prefix-rewrite-3 : tie.Need-slice-relend-prefix-rewrite-3
+slice-relend-prefix-rewrite-3 c = search needs
+
+slice-aggregate-rewrite-3 : tie.Need-slice-aggregate-rewrite-3
+slice-aggregate-rewrite-3 c = sym (length-take-le _ _ (omega arith))
+
+slice-relend-prefix-rewrite-4 : tie.Need-slice-relend-prefix-rewrite-4
+slice-relend-prefix-rewrite-4 c = search needs
+
+slice-aggregate-rewrite-4 : tie.Need-slice-aggregate-rewrite-4
+slice-aggregate-rewrite-4 c = sym (length-take-le _ _ (omega arith))
+
+call-requires : tie.Need-call-requires
+call-requires c κs = search needs
+
+same-length : tie.Need-same-length
+same-length c = search needs
+
+same-length-2 : tie.Need-same-length-2
+same-length-2 c = search needs
+
+same-length-3 : tie.Need-same-length-3
+same-length-3 c = search needs
+
+same-length-4 : tie.Need-same-length-4
+same-length-4 c = search needs
+
+returns : tie.Need-returns
+returns c = search needs
+
+pub lend-spec : {M : Type 1} → statement M
+lend-spec =
+    tie.close
+    (tie.spec
+    part-requires
+    part-requires-2
+    part-requires-3
+    slice-relend-prefix-rewrite
+    slice-aggregate-rewrite
+    slice-relend-prefix-rewrite-2
+    slice-aggregate-rewrite-2
+    slice-relend-prefix-rewrite-3
+    slice-aggregate-rewrite-3
+    slice-relend-prefix-rewrite-4
+    slice-aggregate-rewrite-4
+    call-requires
+    same-length
+    same-length-2
+    same-length-3
+    same-length-4
+    returns)

@@ -1,0 +1,27 @@
+// The memory of the program: room for the list's jobs. Each result has as much as the records.
+ghost use mathlib.Core.Path.{_≡_};
+ghost use lib.ListN.{length};
+
+pub fn input() -> [u8; 262144]
+    ensures { λ r. ⌜ 262144 ≡ length r ⌝ }
+{
+    [0; 262144]
+}
+
+pub fn records() -> [u32; 8000]
+    ensures { λ r. ⌜ 8000 ≡ length r ⌝ }
+{
+    [0; 8000]
+}
+
+pub fn words() -> [u64; 4200]
+    ensures { λ r. ⌜ 4200 ≡ length r ⌝ }
+{
+    [0; 4200]
+}
+
+pub fn numbers() -> [u32; 80000]
+    ensures { λ r. ⌜ 80000 ≡ length r ⌝ }
+{
+    [0; 80000]
+}
