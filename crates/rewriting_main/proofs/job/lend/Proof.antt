@@ -15,29 +15,29 @@ part-requires-2 c κs = search needs
 part-requires-3 : tie.Need-part-requires-3
 part-requires-3 c κs = search needs
 
-slice-relend-prefix-rewrite : tie.Need-slice-relend-prefix-rewrite
-slice-relend-prefix-rewrite c = search needs
+slice-relend-prefix-call : tie.Need-slice-relend-prefix-call
+slice-relend-prefix-call c = search needs
 
-slice-aggregate-rewrite : tie.Need-slice-aggregate-rewrite
-slice-aggregate-rewrite c = sym (length-take-le _ _ (omega arith))
+slice-aggregate-call : tie.Need-slice-aggregate-call
+slice-aggregate-call c = sym (length-take-le _ _ (omega arith))
 
-slice-relend-prefix-rewrite-2 : tie.Need-slice-relend-prefix-rewrite-2
-slice-relend-prefix-rewrite-2 c = search needs
+slice-relend-prefix-call-2 : tie.Need-slice-relend-prefix-call-2
+slice-relend-prefix-call-2 c = search needs
 
-slice-aggregate-rewrite-2 : tie.Need-slice-aggregate-rewrite-2
-slice-aggregate-rewrite-2 c = sym (length-take-le _ _ (omega arith))
+slice-aggregate-call-2 : tie.Need-slice-aggregate-call-2
+slice-aggregate-call-2 c = sym (length-take-le _ _ (omega arith))
 
-slice-relend-prefix-rewrite-3 : tie.Need-slice-relend-prefix-rewrite-3
-slice-relend-prefix-rewrite-3 c = search needs
+slice-relend-prefix-call-3 : tie.Need-slice-relend-prefix-call-3
+slice-relend-prefix-call-3 c = search needs
 
-slice-aggregate-rewrite-3 : tie.Need-slice-aggregate-rewrite-3
-slice-aggregate-rewrite-3 c = sym (length-take-le _ _ (omega arith))
+slice-aggregate-call-3 : tie.Need-slice-aggregate-call-3
+slice-aggregate-call-3 c = sym (length-take-le _ _ (omega arith))
 
-slice-relend-prefix-rewrite-4 : tie.Need-slice-relend-prefix-rewrite-4
-slice-relend-prefix-rewrite-4 c = search needs
+slice-relend-prefix-call-4 : tie.Need-slice-relend-prefix-call-4
+slice-relend-prefix-call-4 c = search needs
 
-slice-aggregate-rewrite-4 : tie.Need-slice-aggregate-rewrite-4
-slice-aggregate-rewrite-4 c = sym (length-take-le _ _ (omega arith))
+slice-aggregate-call-4 : tie.Need-slice-aggregate-call-4
+slice-aggregate-call-4 c = sym (length-take-le _ _ (omega arith))
 
 call-requires : tie.Need-call-requires
 call-requires c κs = search needs
@@ -64,14 +64,14 @@ lend-spec =
     part-requires
     part-requires-2
     part-requires-3
-    slice-relend-prefix-rewrite
-    slice-aggregate-rewrite
-    slice-relend-prefix-rewrite-2
-    slice-aggregate-rewrite-2
-    slice-relend-prefix-rewrite-3
-    slice-aggregate-rewrite-3
-    slice-relend-prefix-rewrite-4
-    slice-aggregate-rewrite-4
+    slice-relend-prefix-call
+    slice-aggregate-call
+    slice-relend-prefix-call-2
+    slice-aggregate-call-2
+    slice-relend-prefix-call-3
+    slice-aggregate-call-3
+    slice-relend-prefix-call-4
+    slice-aggregate-call-4
     call-requires
     same-length
     same-length-2
