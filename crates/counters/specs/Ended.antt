@@ -4,9 +4,8 @@ use mathlib.Core.List.{List, [], _∷_, map}
 use Prim.Native.Nat.{ℕ, zero, suc, _+_, _-_, _<_}
 use native.Mathlib.Omega.{arith}
 use lib.ListN.{length, getD}
-use Rattle.pauli.specs.Word.{width}
 use Rattle.model.specs.Lists.{countOf, sumOf}
-use Rattle.model.specs.Program.{Operation, Program, programOf}
+use Rattle.model.specs.Program.{Operation, Program}
 use Rattle.model.specs.Words.{wordOf}
 use Rattle.model.specs.Value.{valueAt}
 use Rattle.model.specs.Packing.{valuesOf}
@@ -21,7 +20,7 @@ use Rattle.layout.specs.Shape.{Granted}
 use Rattle.axes.specs.View.{axesOf}
 use Rattle.axes.specs.Held.{sizesOf, HoldsAxes, held-count, held-axis}
 use Rattle.records.specs.Operations.{operationsIn, operationHere}
-use Rattle.records.specs.Given.{Given, programIn, operations-in}
+use Rattle.records.specs.Given.{Given, programIn, operations-in, width-in}
 use Rattle.items.specs.declared.Tagged.{Tagged}
 use Rattle.items.specs.View.{taggedAt, itemSaid, itemOfTag, itemsIn, view-at-0, view-length}
 use Rattle.work.specs.Rows.{rootAt}
@@ -43,11 +42,6 @@ sum-same : {A : Type 0} (f g : A → ℕ) (xs : List A) → ((x : A) → f x ≡
 unfolding sumOf
 sum-same f g [] h = refl
 sum-same f g (x ∷ xs) h = ap₂ (λ (a b : ℕ). a + b) (h x) (sum-same f g xs h)
-
--- l is the width of the program's words
-width-is : {z : Shape} {ws xs : List ℕ} (ns os rs : List ℕ) → Granted z ws xs → z .l ≡ width (programIn z ns os rs .qubits)
-unfolding programIn programOf
-width-is ns os rs granted = granted .sized .l-is
 
 -- ---- before
 
@@ -82,7 +76,7 @@ module _ {z : Shape} {ns os rs : List ℕ} (given : Given z ns os rs) {ws xs : L
   weight-before-is words b =
       let p = programIn z ns os rs in
       b n roots
-      ∙ ap₂ (λ (k : ℕ) (a : List (List ℕ)). total (sourceSaid k a os xs (z .u)) 0 (z .operations)) (width-is ns os rs granted) (held .are)
+      ∙ ap₂ (λ (k : ℕ) (a : List (List ℕ)). total (sourceSaid k a os xs (z .u)) 0 (z .operations)) (width-in ns os rs granted) (held .are)
       ∙ source-weight p axes os xs (z .u) (z .operations) (operations-in z ns os rs) words
 
 -- ---- after
@@ -135,5 +129,5 @@ module _ {z : Shape} {ns os rs : List ℕ} (given : Given z ns os rs) {w : Work}
         (sym (operations-in z ns os rs))
         ∙ ap (λ (axes : List (List ℕ)). sumOf (weightSaid (z .l) (p .operations) axes) (itemsIn xs (z .u) itemsRow 0 k)) (work .axes .are)
         ∙ ap (sumOf (weightSaid (z .l) (p .operations) (w .store .axes))) (work .items)
-        ∙ ap (λ (m : ℕ). sumOf (weightSaid m (p .operations) (w .store .axes)) (w .items)) (width-is ns os rs granted)
+        ∙ ap (λ (m : ℕ). sumOf (weightSaid m (p .operations) (w .store .axes)) (w .items)) (width-in ns os rs granted)
         ∙ sum-same _ _ (w .items) (weights-are p w)

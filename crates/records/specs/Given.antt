@@ -4,6 +4,7 @@ use mathlib.Core.List.{List}
 use Prim.Native.Nat.{ℕ, _*_, _≤_}
 use native.Mathlib.Omega.{arith}
 use lib.ListN.{length}
+use Rattle.pauli.specs.Word.{width}
 use Rattle.model.specs.declared.Options.{Options}
 use Rattle.model.specs.declared.Answer.the-variants.{Accepted}
 use Rattle.model.specs.Program.{Job, Program, programOf}
@@ -11,7 +12,7 @@ use Rattle.model.specs.Checking.{Lent, checking}
 use Rattle.theory.specs.Checked.{Fine, checked-fine}
 use Rattle.layout.specs.declared.Shape.{Shape}
 use Rattle.layout.specs.Bounds.{program-long, passed}
-use Rattle.layout.specs.Shape.{shapeOf}
+use Rattle.layout.specs.Shape.{shapeOf, Granted}
 use Rattle.records.specs.Nodes.{nodesIn}
 use Rattle.records.specs.Operations.{operationsIn}
 
@@ -33,6 +34,11 @@ nodes-in z ns os rs = refl
 pub operations-in : (z : Shape) (ns os rs : List ℕ) → programIn z ns os rs .operations ≡ operationsIn (z .operations) os
 unfolding programIn programOf operationsIn
 operations-in z ns os rs = refl
+
+-- its words' width
+pub width-in : {z : Shape} {ws xs : List ℕ} (ns os rs : List ℕ) → Granted z ws xs → z .l ≡ width (programIn z ns os rs .qubits)
+unfolding programIn programOf
+width-in ns os rs granted = granted .sized .l-is
 
 -- it is fine, and its records are there
 pub record Given (z : Shape) (ns os rs : List ℕ) : Type 0 where
