@@ -1,5 +1,5 @@
 -- What a stream adds to the run's counters. Assumes nothing.
-use mathlib.Core.Path.{_≡_, refl, sym, ap, _∙_, subst}
+use mathlib.Core.Path.{_≡_, refl, sym, ap, subst}
 use mathlib.Core.List.{List}
 use Prim.Native.Nat.{ℕ, _+_, _≤_, _<_, _^_}
 use native.Mathlib.Omega.{arith}
@@ -51,21 +51,22 @@ pub record CountedAs (z : Shape) (c : StreamRules) (k n : ℕ) (ws xs : List ℕ
   pub few : r .merges + r .absorbed ≤ 8589934592
 
 -- what the stream leaves, the counters lent
-pub record StreamedAs (z : Shape) (c : StreamRules) (k n : ℕ) (ws xs : List ℕ) (h : Counters) (r : Stepped) (ws′ xs′ : List ℕ) (h′ : Counters)
-    : Type 0 where
+pub record StreamedAs (z : Shape) (c : StreamRules) (k n : ℕ) (ws xs : List ℕ) (h : Counters) (r : Stepped)
+    (ws′ xs′ : List ℕ) (h′ : Counters) : Type 0 where
   pub left : LeftP z ws xs ws′ xs′
   pub passed : (prog : Program) (w : Work) (g : Rules) → PassAtWork z c prog w n k ws xs g → PassedAs z c prog w g r ws′ xs′
   pub counters : h′ ≡ raised h (mergesOf r) (absorbedOf r)
 
-few-of : {z : Shape} {c : StreamRules} {prog : Program} {w : Work} {g : Rules} (t : Stepped) {ws xs : List ℕ} → PassedAs z c prog w g t ws xs
-    → mergesOf t + absorbedOf t ≤ 8589934592
+few-of : {z : Shape} {c : StreamRules} {prog : Program} {w : Work} {g : Rules} (t : Stepped) {ws xs : List ℕ}
+    → PassedAs z c prog w g t ws xs → mergesOf t + absorbedOf t ≤ 8589934592
 unfolding mergesOf absorbedOf
 few-of (Next s) h = h .few s refl
 few-of ExpansionLimit h = omega arith
 
 pub counted : {z : Shape} {c : StreamRules} {k n : ℕ} {ws xs ws′ xs′ : List ℕ} {t : Stepped} {m a : ℕ}
     → SomeWork (λ prog w g. PassAtWork z c prog w n k ws xs g)
-    → LeftP z ws xs ws′ xs′ × ((prog : Program) (w : Work) (g : Rules) → PassAtWork z c prog w n k ws xs g → PassedAs z c prog w g t ws′ xs′)
+    → LeftP z ws xs ws′ xs′
+    × ((prog : Program) (w : Work) (g : Rules) → PassAtWork z c prog w n k ws xs g → PassedAs z c prog w g t ws′ xs′)
     → m ≡ mergesOf t → a ≡ absorbedOf t → CountedAs z c k n ws xs (record { outcome = t; merges = m; absorbed = a }) ws′ xs′
 counted {t = t} h call e f = record {
   left = call .0;

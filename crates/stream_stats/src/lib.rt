@@ -15,6 +15,7 @@ pub struct Counted {
     pub absorbed: usize,
 }
 
+// 01's `merges` of one stream.
 fn merges_of(t: Stepped) -> usize
     ensures { λ r. ⌜ r ≡ mergesOf t ⌝ }
 {
@@ -24,6 +25,7 @@ fn merges_of(t: Stepped) -> usize
     }
 }
 
+// 01's `cliffords_to_frame` of one stream.
 fn absorbed_of(t: Stepped) -> usize
     ensures { λ r. ⌜ r ≡ absorbedOf t ⌝ }
 {
@@ -33,7 +35,7 @@ fn absorbed_of(t: Stepped) -> usize
     }
 }
 
-// The core by value.
+// The core by value: the stream, and what it counted.
 fn stream_counted(
     words: &mut [u64],
     numbers: &mut [u32],
@@ -43,7 +45,8 @@ fn stream_counted(
     axes: usize,
 ) -> Counted
     requires { ⌜ SomeWork (λ prog w g. PassAtWork shape rules prog w axes items (now words) (now numbers) g) ⌝ }
-    ensures { λ r. ⌜ CountedAs shape rules items axes (now (words .entry)) (now (numbers .entry)) r (now (words .exit)) (now (numbers .exit)) ⌝ }
+    ensures { λ r. ⌜ CountedAs shape rules items axes (now (words .entry)) (now (numbers .entry)) r
+        (now (words .exit)) (now (numbers .exit)) ⌝ }
 {
     let outcome = stream::stream(words, numbers, shape, rules, items, axes);
     let merges = merges_of(outcome);

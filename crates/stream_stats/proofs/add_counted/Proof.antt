@@ -120,7 +120,8 @@ module _ {M : Type 1} (𝓤 : URA M) (H : Heap 𝓤) (A : Atoms 𝓤) (W : Given
       owned ! EB (Is EB) (EL.makes E.the-type E′.the-plain 𝓤 H A) (r .outcome) _ ia $ move ! (1 ∷ 0 ∷ []) $ done !
 
   module _ (C : Calls 𝓤 H) (Λ : Loops 𝓤 H) where
-    walk : ent 𝓤 (onEntry 𝓤 H A f.signature (κ, tt) (q, tt) x at) (WpFn 𝓤 H C Λ code.function (vptr b o ∷ LL.val P.the-type P′.the-laws r ∷ []) Post)
+    walk : ent 𝓤 (onEntry 𝓤 H A f.signature (κ, tt) (q, tt) x at)
+        (WpFn 𝓤 H C Λ code.function (vptr b o ∷ LL.val P.the-type P′.the-laws r ∷ []) Post)
     walk =
         qed W ((‵ (flft κ q) ⊛ ‵ ftrue) ∷ ‵ (owns (MutRef (named 0) κ B ∷ PB ∷ []) x at) ∷ []) ∵ enter ! C Λ code.function
         (vptr b o ∷ LL.val P.the-type P′.the-laws r ∷ []) _ $

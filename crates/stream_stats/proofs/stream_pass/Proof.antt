@@ -114,7 +114,8 @@ module _ {M : Type 1} (𝓤 : URA M) (H : Heap 𝓤) (A : Atoms 𝓤) (mem : Mem
 
 module _ {M : Type 1} (𝓤 : URA M) (H : Heap 𝓤) (A : Atoms 𝓤) (W : Given 𝓤 H A) (mem : Memory → SProp 𝓤) (run : Routine → Fun 𝓤)
     (κs₃ : Lfts 3) (qs₃ : Shares 3) (bounds : AllOutlive 3 (f.signature .outlives) κs₃) (xw xx : RefT (List ℕ))
-    (z : Shape) (iz : Is SB z (LL.val S.the-type S′.the-laws z ∷ [])) (l : StreamRules) (il : Is LB l (LL.val L.the-type L′.the-laws l ∷ []))
+    (z : Shape) (iz : Is SB z (LL.val S.the-type S′.the-laws z ∷ []))
+    (l : StreamRules) (il : Is LB l (LL.val L.the-type L′.the-laws l ∷ []))
     (k n : ℕ) (fk : k < 2 ^ 64) (fn : n < 2 ^ 64) (xs : RefT Counters)
     (work : SomeWork (λ prog v g. PassAtWork z l prog v n k (now xw) (now xx) g)) (room : counted.Room (now xs)) where
   abbrev κw : Lft
@@ -241,7 +242,8 @@ module _ {M : Type 1} (𝓤 : URA M) (H : Heap 𝓤) (A : Atoms 𝓤) (W : Given
       fjoin ! $ done !
 
   module _ (C : Calls 𝓤 H) (Λ : Loops 𝓤 H) (fm : FmC 𝓤 H (W .laws) C)
-      (known-core : Triple 𝓤 (C #stream-stats·stream-counted) (Core 𝓤 H A mem run)) (known-add : Triple 𝓤 (C #stream-stats·add-counted) (Add 𝓤 H A mem run)) where
+      (known-core : Triple 𝓤 (C #stream-stats·stream-counted) (Core 𝓤 H A mem run))
+      (known-add : Triple 𝓤 (C #stream-stats·add-counted) (Add 𝓤 H A mem run)) where
     walk : Room u64 (length (now xw)) → Room u32 (length (now xx)) → ent 𝓤 Entry (WpFn 𝓤 H C Λ code.function passed Post)
     walk gw gx =
         qed W (raw Entry ∷ []) ∵ enter ! C Λ code.function passed _ $ alloc1 ! (λ l0. alloc1 ! (λ l1. alloc1 ! (λ l2. alloc1 ! (λ l3.
