@@ -1,0 +1,87 @@
+// The streaming pass, lent the run's counters: the core by value, then one adder.
+ghost use mathlib.Core.Path.{_≡_};
+ghost use Prim.Native.Nat.{_+_, _<_, _^_};
+ghost use Rattle.stream.specs.Passing.{PassAtWork, SomeWork};
+ghost use Rattle.stream_stats.specs.Counted.{mergesOf, absorbedOf, raised, Room, CountedAs, StreamedAs};
+use layout::Shape;
+use model::Counters;
+use stream_states::Stepped;
+use stream_states::StreamRules;
+
+// How a stream ends, and what it counted: 0 where it is refused.
+pub struct Counted {
+    pub outcome: Stepped,
+    pub merges: usize,
+    pub absorbed: usize,
+}
+
+// 01's `merges` of one stream.
+fn merges_of(t: Stepped) -> usize
+    ensures { λ r. ⌜ r ≡ mergesOf t ⌝ }
+{
+    match t {
+        Stepped::Next(s) => s.merges,
+        Stepped::ExpansionLimit => 0,
+    }
+}
+
+// 01's `cliffords_to_frame` of one stream.
+fn absorbed_of(t: Stepped) -> usize
+    ensures { λ r. ⌜ r ≡ absorbedOf t ⌝ }
+{
+    match t {
+        Stepped::Next(s) => s.absorbed,
+        Stepped::ExpansionLimit => 0,
+    }
+}
+
+// The core by value: the stream, and what it counted.
+fn stream_counted(
+    words: &mut [u64],
+    numbers: &mut [u32],
+    shape: Shape,
+    rules: StreamRules,
+    items: usize,
+    axes: usize,
+) -> Counted
+    requires { ⌜ SomeWork (λ prog w g. PassAtWork shape rules prog w axes items (now words) (now numbers) g) ⌝ }
+    ensures { λ r. ⌜ CountedAs shape rules items axes (now (words .entry)) (now (numbers .entry)) r
+        (now (words .exit)) (now (numbers .exit)) ⌝ }
+{
+    let outcome = stream::stream(words, numbers, shape, rules, items, axes);
+    let merges = merges_of(outcome);
+    let absorbed = absorbed_of(outcome);
+    Counted {
+        outcome,
+        merges,
+        absorbed,
+    }
+}
+
+// What the stream counted is added, and how it ended is given.
+fn add_counted(stats: &mut Counters, r: Counted) -> Stepped
+    requires { ⌜ (now stats .merges + r .merges < 2 ^ 64) × (now stats .«cliffords_to_frame» + r .absorbed < 2 ^ 64) ⌝ }
+    ensures { λ t. ⌜ (now (stats .exit) ≡ raised (now (stats .entry)) (r .merges) (r .absorbed)) × (t ≡ r .outcome) ⌝ }
+{
+    stats.merges = stats.merges + r.merges;
+    stats.cliffords_to_frame = stats.cliffords_to_frame + r.absorbed;
+    r.outcome
+}
+
+// A stream as a pass, with the counters raised by what it merged and absorbed.
+pub fn stream_pass(
+    words: &mut [u64],
+    numbers: &mut [u32],
+    shape: Shape,
+    rules: StreamRules,
+    items: usize,
+    axes: usize,
+    stats: &mut Counters,
+) -> Stepped
+    requires { ⌜ SomeWork (λ prog w g. PassAtWork shape rules prog w axes items (now words) (now numbers) g) × Room (now stats) ⌝ }
+    ensures { λ r. ⌜ StreamedAs shape rules items axes (now (words .entry)) (now (numbers .entry)) (now (stats .entry)) r
+        (now (words .exit)) (now (numbers .exit)) (now (stats .exit)) ⌝ }
+{
+    let r = stream_counted(words, numbers, shape, rules, items, axes);
+    add_counted(stats, r)
+}
