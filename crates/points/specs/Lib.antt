@@ -1,1 +1,5 @@
 pub mod Demands
+pub mod Points
+pub mod StreamPass
+pub mod ExchangePass
+pub mod LayeringPass

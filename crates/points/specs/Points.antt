@@ -1,0 +1,91 @@
+-- A point of a run as it lies in memory, and what holds of it. Assumes nothing.
+use mathlib.Core.Path.{_≡_, refl, sym, ap, _∙_, subst}
+use mathlib.Core.List.{List, [], _∷_}
+use Prim.Native.Nat.{ℕ, _+_, _*_, _≤_, _<_}
+use native.Mathlib.Omega.{arith}
+use lib.ListN.{length}
+use Rattle.model.specs.declared.Options.{Options}
+use Rattle.model.specs.Program.{Program}
+use Rattle.model.specs.Rounds.{Work}
+use Rattle.layout.specs.declared.Shape.{Shape}
+use Rattle.layout.specs.Shape.{Granted}
+use Rattle.work.specs.Work.{WorkIn}
+use Rattle.run_wellformed.specs.WorkWell.{WorkWell}
+use Rattle.points.specs.declared.Run.{Run}
+use Rattle.points.specs.declared.Ended.{Ended}
+use Rattle.points.specs.declared.Ended.the-variants.{Done, ExpansionLimit}
+
+-- one pass raises no counter by more than this
+abbrev pub most : ℕ
+most = 8589934592
+
+-- w, after at most i passes, in memory
+pub record RunAt (z : Shape) (i : ℕ) (st : Run) (ws xs : List ℕ) (p : Program) (w : Work) : Type 0 where
+  pub granted : Granted z ws xs
+  pub work : WorkIn z p w (st .axes) (st .items) ws xs
+  pub well : WorkWell (z .l) (z .qubits) w
+  pub merges : st .merges ≡ w .merges
+  pub swaps : st .swaps ≡ w .swaps
+  pub absorbed : st .absorbed ≡ w .absorbed
+  pub few : st .merges + st .swaps + st .absorbed ≤ i * most
+
+-- so some work lies in memory
+pub record SomeRun (z : Shape) (i : ℕ) (st : Run) (ws xs : List ℕ) : Type 0 where
+  pub p : Program
+  pub w : Work
+  pub at : RunAt z i st ws xs p w
+
+-- refusal 2 grants these
+pub record OptionsIn (o : Options) : Type 0 where
+  pub rounds : o .rounds ≤ 255
+  pub candidates : o .candidates ≤ 1048576
+
+-- stores as long as before
+pub record SameLong (ws xs ws′ xs′ : List ℕ) : Type 0 where
+  pub words : length ws′ ≡ length ws
+  pub numbers : length xs′ ≡ length xs
+
+pub long-same : (ws xs : List ℕ) → SameLong ws xs ws xs
+long-same ws xs = record { words = refl; numbers = refl }
+
+pub long-then : {ws xs ws₁ xs₁ ws₂ xs₂ : List ℕ} → SameLong ws xs ws₁ xs₁ → SameLong ws₁ xs₁ ws₂ xs₂ → SameLong ws xs ws₂ xs₂
+long-then a b = record { words = b .words ∙ a .words; numbers = b .numbers ∙ a .numbers }
+
+-- what an answer means, where v is the model's work then
+pub record EndedAs (z : Shape) (i : ℕ) (r : Ended) (ws xs : List ℕ) (p : Program) (v : Work) : Type 0 where
+  pub done : (s : Run) → r ≡ Done s → RunAt z i s ws xs p v
+  pub refused : r ≡ ExpansionLimit → z .limit < v .store .peak
+
+-- ---- what holds of a point
+
+pub items-few : {z : Shape} {i : ℕ} {st : Run} {ws xs : List ℕ} {p : Program} {w : Work} → RunAt z i st ws xs p w → st .items ≤ 65535
+items-few r = omega (arith, r .work .fits, r .granted .sized .operations)
+
+-- at most i passes are at most j
+pub later : {z : Shape} {i j : ℕ} {st : Run} {ws xs : List ℕ} {p : Program} {w : Work} → i ≤ j → RunAt z i st ws xs p w → RunAt z j st ws xs p w
+later {i = i} {j = j} h r = record {
+  granted = r .granted;
+  work = r .work;
+  well = r .well;
+  merges = r .merges;
+  swaps = r .swaps;
+  absorbed = r .absorbed;
+  few = omega (arith, r .few, h);
+}
+
+pub some-later : {z : Shape} {i j : ℕ} {st : Run} {ws xs : List ℕ} → i ≤ j → SomeRun z i st ws xs → SomeRun z j st ws xs
+some-later h s = record { p = s .p; w = s .w; at = later h (s .at) }
+
+-- an answer that is no refusal
+pub ended-at : {z : Shape} {i j : ℕ} {st : Run} {ws xs : List ℕ} {p : Program} {w : Work} → i ≤ j → RunAt z i st ws xs p w
+    → EndedAs z j (Done st) ws xs p w
+ended-at {z} {i} {j} {st} {ws} {xs} {p} {w} h r = record {
+  done = λ s e. let a : st ≡ s = cc in subst (λ (x : Run). RunAt z j x ws xs p w) a (later h r);
+  refused = λ e. let b : _≡_ {A = ℕ} 0 1 = cc in absurd (omega arith);
+}
+
+pub ended-limit : {z : Shape} {i : ℕ} {ws xs : List ℕ} {p : Program} {w : Work} → z .limit < w .store .peak → EndedAs z i ExpansionLimit ws xs p w
+ended-limit h = record {
+  done = λ s e. let b : _≡_ {A = ℕ} 0 1 = cc in absurd (omega arith);
+  refused = λ e. h;
+}

@@ -1,0 +1,79 @@
+-- The stream, from a point of a run to the next, or refused. Assumes nothing.
+use mathlib.Core.Path.{_≡_, refl, sym, ap, _∙_, subst}
+use mathlib.Core.Bool.{Bool}
+use mathlib.Core.List.{List}
+use Prim.Native.Nat.{ℕ, _+_, _*_, _≤_, _<_}
+use native.Mathlib.Omega.{arith}
+use lib.ListN.{length}
+use Rattle.model.specs.declared.Options.{Options}
+use Rattle.model.specs.Program.{Program}
+use Rattle.model.specs.Rules.{Rules, rulesOf, absorptionOf}
+use Rattle.model.specs.Rounds.{Work, streamPass}
+use Rattle.layout.specs.declared.Shape.{Shape}
+use Rattle.layout.specs.Shape.{granted-same}
+use Rattle.stream_states.specs.declared.State.{State}
+use Rattle.stream_states.specs.declared.Stepped.{Stepped}
+use Rattle.stream_states.specs.declared.Stepped.the-variants as stepped
+use Rattle.stream_states.specs.declared.StreamRules.{StreamRules}
+use Rattle.stream_states.specs.States.{RulesAs, absorptionSaid}
+use Rattle.stream.specs.Passing.{PassAtWork, PassedAs, SomeWork, LeftP}
+use Rattle.points.specs.Demands as demands
+use Rattle.points.specs.declared.Run.{Run}
+use Rattle.points.specs.declared.Ended.the-variants.{Done, ExpansionLimit}
+use Rattle.points.specs.Points.{RunAt, SomeRun, SameLong, EndedAs, ended-at, ended-limit, most}
+
+-- the rules of a stream: the options', and whether rotations merge
+abbrev streamRules : Options → Bool → StreamRules
+streamRules o merging = record {
+  lookback = o .lookback;
+  «to_frame» = o .«clifford_to_frame»;
+  lazy = o .«lazy_cliffords»;
+  merge = merging;
+}
+
+rules-as : (o : Options) (merging : Bool) → RulesAs (streamRules o merging) (rulesOf o)
+unfolding rulesOf absorptionOf absorptionSaid
+rules-as o merging = record { lookback = refl; absorption = refl }
+
+pub stream-long : {z : Shape} {ws xs ws′ xs′ : List ℕ} → LeftP z ws xs ws′ xs′ → SameLong ws xs ws′ xs′
+stream-long left = record { words = left .words .long; numbers = left .numbers .long }
+
+module _ (o : Options) (merging : Bool) (st : Run) {z : Shape} {ws xs : List ℕ} where
+  stream-at : {i : ℕ} {p : Program} {w : Work} → RunAt z i st ws xs p w
+      → PassAtWork z (streamRules o merging) p w (st .axes) (st .items) ws xs (rulesOf o)
+  stream-at r = demands.stream-pre (r .granted) (r .work) (r .well) (streamRules o merging) (rulesOf o) (rules-as o merging)
+
+  pub stream-pre : {i : ℕ} → SomeRun z i st ws xs
+      → SomeWork (λ prog w g. PassAtWork z (streamRules o merging) prog w (st .axes) (st .items) ws xs g)
+  stream-pre s = record { prog = s .p; w = s .w; g = rulesOf o; it = stream-at (s .at) }
+
+  module _ {r : Stepped} {ws′ xs′ : List ℕ} (left : LeftP z ws xs ws′ xs′)
+      (call : (prog : Program) (w : Work) (g : Rules) → PassAtWork z (streamRules o merging) prog w (st .axes) (st .items) ws xs g
+      → PassedAs z (streamRules o merging) prog w g r ws′ xs′) where
+    pub stream-limit : r ≡ stepped.ExpansionLimit → (i : ℕ) (p : Program) (w : Work) → RunAt z i st ws xs p w
+        → EndedAs z (i + 1) ExpansionLimit ws′ xs′ p (streamPass (z .l) (rulesOf o) merging w)
+    stream-limit e i p w h = ended-limit (call p w (rulesOf o) (stream-at h) .refused e)
+
+    module _ {d : State} (e : r ≡ stepped.Next d) where
+      pub stream-few : {i : ℕ} → SomeRun z i st ws xs → d .merges + d .absorbed ≤ most
+      stream-few s = call (s .p) (s .w) (rulesOf o) (stream-at (s .at)) .few d e
+
+      pub stream-done : (i : ℕ) (p : Program) (w : Work) → RunAt z i st ws xs p w
+          → EndedAs z (i + 1) (Done (record {
+            items = d .out;
+            axes = d .axes;
+            merges = st .merges + d .merges;
+            swaps = st .swaps;
+            absorbed = st .absorbed + d .absorbed;
+          })) ws′ xs′ p (streamPass (z .l) (rulesOf o) merging w)
+      stream-done i p w h =
+          let a = call p w (rulesOf o) (stream-at h) in
+          ended-at {i = i + 1} (omega arith) (record {
+            granted = granted-same (h .granted) (left .words .long) (left .numbers .long);
+            work = a .work d e;
+            well = demands.stream-at (h .granted .sized) (rulesOf o) (h .well) merging;
+            merges = ap (λ (n : ℕ). n + d .merges) (h .merges) ∙ sym (a .merges d e);
+            swaps = h .swaps ∙ (unfold streamPass in refl);
+            absorbed = ap (λ (n : ℕ). n + d .absorbed) (h .absorbed) ∙ sym (a .absorbed d e);
+            few = omega (arith, h .few, a .few d e);
+          })
