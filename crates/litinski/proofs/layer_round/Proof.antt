@@ -1,41 +1,32 @@
 -- Layers, then a stream unless nothing merged. Assumes nothing.
 use Rattle.points.specs.Points.{later, some-later, long-then}
-use Rattle.rounds.specs.Litinski.{layer-stop, layer-limit, layer-again}
-use borrow.Author.Needs.{needs}
+use Rattle.litinski.specs.LayerRound.{round-stop, round-limit, round-again}
 use native.Mathlib.Omega.{arith}
-use Rattle.rounds.proofs.layer_round.Statement.{statement}
-use Rattle.rounds.proofs.layer_round.Tie as tie
+use borrow.Author.Needs.{needs}
+use Rattle.litinski.proofs.layer_round.Statement.{statement}
+use Rattle.litinski.proofs.layer_round.Tie as tie
 
 layering-pass-requires : tie.Need-layering-pass-requires
-layering-pass-requires c κs =
-    let start = c .before .before .before .before in
-    some-later (omega arith) (start .pre .0)
+layering-pass-requires c κs = some-later (omega arith) (c .before .before .before .before .pre .0)
 
 same-length : tie.Need-same-length
-same-length c =
-    let at-layering-pass = c .before .before .before .before .before in
-    at-layering-pass .layering-pass .ensures .0 .words
+same-length c = c .before .before .before .before .before .layering-pass .ensures .0 .words
 
 same-length-2 : tie.Need-same-length-2
-same-length-2 c =
-    let at-layering-pass = c .before .before .before .before .before in
-    at-layering-pass .layering-pass .ensures .0 .numbers
+same-length-2 c = c .before .before .before .before .before .layering-pass .ensures .0 .numbers
 
 returns : tie.Need-returns
 returns c =
-    let at-layering-pass = c .before .before .before .before .before in
-    let start = at-layering-pass .before .before .before .before .before in (
-      at-layering-pass .layering-pass .ensures .0,
-      λ i p w h. layer-stop (start .args .options) h (at-layering-pass .layering-pass .ensures .1 i p w h) (c .if1 .taken),
-    )
+    let layering-pass = c .before .before .before .before .before in
+    let start = layering-pass .before .before .before .before .before in
+    (layering-pass .layering-pass .ensures .0, λ i p w h. round-stop (start .args .options) h
+    (layering-pass .layering-pass .ensures .1 i p w h) (c .if1 .taken))
 
 stream-pass-requires : tie.Need-stream-pass-requires
 stream-pass-requires c κs =
-    let at-layering-pass = c .before .before .before .before .before .before .before in
-    let start = at-layering-pass .before .before .before .before .before in (
-      record { p = _; w = _; at = later (omega arith) (at-layering-pass .layering-pass .ensures .1 _ _ _ (start .pre .0 .at)) },
-      start .pre .1,
-    )
+    let layering-pass = c .before .before .before .before .before .before .before in
+    let start = layering-pass .before .before .before .before .before in
+    (record { p = _; w = _; at = later (omega arith) (layering-pass .layering-pass .ensures .1 _ _ _ (start .pre .0 .at)) }, start .pre .1)
 
 enum-known-e : tie.Need-enum-known-e
 enum-known-e c = search needs
@@ -45,52 +36,48 @@ enum-told c = search needs
 
 same-length-3 : tie.Need-same-length-3
 same-length-3 c =
-    let at-stream-pass = c .before .before .before .before .before .before in
-    let at-layering-pass = at-stream-pass .before .before .before .before .before .before .before .before in
-    long-then (at-layering-pass .layering-pass .ensures .0) (at-stream-pass .stream-pass .ensures .0) .words
+    let stream-pass = c .before .before .before .before .before .before in
+    let layering-pass = stream-pass .before .before .before .before .before .before .before .before in
+    long-then (layering-pass .layering-pass .ensures .0) (stream-pass .stream-pass .ensures .0) .words
 
 same-length-4 : tie.Need-same-length-4
 same-length-4 c =
-    let at-stream-pass = c .before .before .before .before .before .before in
-    let at-layering-pass = at-stream-pass .before .before .before .before .before .before .before .before in
-    long-then (at-layering-pass .layering-pass .ensures .0) (at-stream-pass .stream-pass .ensures .0) .numbers
+    let stream-pass = c .before .before .before .before .before .before in
+    let layering-pass = stream-pass .before .before .before .before .before .before .before .before in
+    long-then (layering-pass .layering-pass .ensures .0) (stream-pass .stream-pass .ensures .0) .numbers
 
 returns-2 : tie.Need-returns-2
 returns-2 c =
-    let at-stream-pass = c .before .before .before .before .before .before in
-    let at-if1 = at-stream-pass .before .before .before in
-    let at-layering-pass = at-if1 .before .before .before .before .before in
-    let start = at-layering-pass .before .before .before .before .before in (
-      long-then (at-layering-pass .layering-pass .ensures .0) (at-stream-pass .stream-pass .ensures .0),
-      λ i p w h.
-          let a = at-layering-pass .layering-pass .ensures .1 i p w h in
-          layer-limit (start .args .options) h a (at-if1 .if1 .left) (at-stream-pass .stream-pass .ensures .1 _ p _ a) (c .enum-told .given .1),
-    )
+    let stream-pass = c .before .before .before .before .before .before in
+    let test = stream-pass .before .before .before in
+    let layering-pass = test .before .before .before .before .before in
+    let start = layering-pass .before .before .before .before .before in
+    (long-then (layering-pass .layering-pass .ensures .0) (stream-pass .stream-pass .ensures .0), λ i p w h. let a =
+    layering-pass .layering-pass .ensures .1 i p w h in round-limit (start .args .options) h a (test .if1 .left)
+    (stream-pass .stream-pass .ensures .1 _ p _ a) (c .enum-told .given .1))
 
 same-length-5 : tie.Need-same-length-5
 same-length-5 c =
-    let at-stream-pass = c .before .before .before .before .before .before .before in
-    let at-layering-pass = at-stream-pass .before .before .before .before .before .before .before .before in
-    long-then (at-layering-pass .layering-pass .ensures .0) (at-stream-pass .stream-pass .ensures .0) .words
+    let stream-pass = c .before .before .before .before .before .before .before in
+    let layering-pass = stream-pass .before .before .before .before .before .before .before .before in
+    long-then (layering-pass .layering-pass .ensures .0) (stream-pass .stream-pass .ensures .0) .words
 
 same-length-6 : tie.Need-same-length-6
 same-length-6 c =
-    let at-stream-pass = c .before .before .before .before .before .before .before in
-    let at-layering-pass = at-stream-pass .before .before .before .before .before .before .before .before in
-    long-then (at-layering-pass .layering-pass .ensures .0) (at-stream-pass .stream-pass .ensures .0) .numbers
+    let stream-pass = c .before .before .before .before .before .before .before in
+    let layering-pass = stream-pass .before .before .before .before .before .before .before .before in
+    long-then (layering-pass .layering-pass .ensures .0) (stream-pass .stream-pass .ensures .0) .numbers
 
 returns-3 : tie.Need-returns-3
 returns-3 c =
-    let at-e = c .before in
-    let at-stream-pass = at-e .before .before .before .before .before .before in
-    let at-if1 = at-stream-pass .before .before .before in
-    let at-layering-pass = at-if1 .before .before .before .before .before in
-    let start = at-layering-pass .before .before .before .before .before in (
-      long-then (at-layering-pass .layering-pass .ensures .0) (at-stream-pass .stream-pass .ensures .0),
-      λ i p w h.
-          let a = at-layering-pass .layering-pass .ensures .1 i p w h in
-          layer-again (start .args .options) h a (at-if1 .if1 .left) (at-stream-pass .stream-pass .ensures .1 _ p _ a) _ _ (at-e .e .given .1),
-    )
+    let e = c .before in
+    let stream-pass = e .before .before .before .before .before .before in
+    let test = stream-pass .before .before .before in
+    let layering-pass = test .before .before .before .before .before in
+    let start = layering-pass .before .before .before .before .before in
+    (long-then (layering-pass .layering-pass .ensures .0) (stream-pass .stream-pass .ensures .0), λ i p w h. let a =
+    layering-pass .layering-pass .ensures .1 i p w h in round-again (start .args .options) h a (test .if1 .left)
+    (stream-pass .stream-pass .ensures .1 _ p _ a) _ (e .e .given .1))
 
 pub layer-round-spec : {M : Type 1} → statement M
 layer-round-spec =
