@@ -1,0 +1,2 @@
+pub mod LayerRound
+pub mod LayerRounds

@@ -1,0 +1,143 @@
+// The merge strategy: rounds of stream and exchange, and one more stream.
+ghost use Prim.Native.Nat.{ℕ, _+_};
+ghost use Rattle.model.specs.Program.{Program};
+ghost use Rattle.model.specs.Rules.{rulesOf};
+ghost use Rattle.model.specs.Rounds.{Work, mergeRound, roundsFrom, noRound, closingStream, mergeRounds};
+ghost use mathlib.Core.Bool.{true};
+ghost use Rattle.points.specs.Points.{SomeRun, OptionsIn, SameLong, RunAt, EndedAs};
+ghost use Rattle.merge_rounds.specs.OneRound.{RoundAs};
+use layout::ITEMS;
+use layout::Shape;
+use model::Options;
+use points::Ended;
+use points::Run;
+
+// How a round ends: with the T-count that it left; as the last; refused by the limit.
+pub enum Round {
+    Again(Run, usize),
+    Stop(Run),
+    ExpansionLimit,
+}
+
+// A stream, and exchanges behind it.
+fn merge_round(
+    words: &mut [u64],
+    numbers: &mut [u32],
+    shape: Shape,
+    options: Options,
+    run: Run,
+) -> Ended
+    requires { ⌜ SomeRun shape 510 run (now words) (now numbers) × OptionsIn options ⌝ }
+    ensures { λ r. ⌜ SameLong (now (words .entry)) (now (numbers .entry)) (now (words .exit)) (now (numbers .exit))
+        × ((i : ℕ) (p : Program) (w : Work) → RunAt shape i run (now (words .entry)) (now (numbers .entry)) p w
+        → EndedAs shape (i + 2) r (now (words .exit)) (now (numbers .exit)) p (mergeRound (shape .l) (rulesOf options) w)) ⌝ }
+{
+    let e = points::stream_pass(words, numbers, shape, options, true, run);
+    let Ended::Done(s) = e else {
+        return Ended::ExpansionLimit;
+    };
+    Ended::Done(points::exchange_pass(&words[..], numbers, shape, options, s))
+}
+
+// A round, the one before having left T-count t: the last if it has no exchange and no lower T-count.
+fn one_round(
+    words: &mut [u64],
+    numbers: &mut [u32],
+    shape: Shape,
+    options: Options,
+    run: Run,
+    t: usize,
+) -> Round
+    requires { ⌜ SomeRun shape 510 run (now words) (now numbers) × OptionsIn options ⌝ }
+    ensures { λ r. ⌜ SameLong (now (words .entry)) (now (numbers .entry)) (now (words .exit)) (now (numbers .exit))
+        × ((i : ℕ) (p : Program) (w : Work) → RunAt shape i run (now (words .entry)) (now (numbers .entry)) p w
+        → RoundAs shape (i + 2) t r (now (words .exit)) (now (numbers .exit)) p w (mergeRound (shape .l) (rulesOf options) w)) ⌝ }
+{
+    let e = merge_round(words, numbers, shape, options, run);
+    let Ended::Done(s) = e else {
+        return Round::ExpansionLimit;
+    };
+    let left = item_lists::t_count(&numbers[..], shape.u, ITEMS, 0, s.items);
+    if (s.swaps == run.swaps) & (t <= left) {
+        return Round::Stop(s);
+    }
+    Round::Again(s, left)
+}
+
+// Rounds until one is the last.
+fn rounds_from(
+    words: &mut [u64],
+    numbers: &mut [u32],
+    shape: Shape,
+    options: Options,
+    first: Run,
+) -> Ended
+    requires { ⌜ SomeRun shape 0 first (now words) (now numbers) × OptionsIn options ⌝ }
+    ensures { λ r. ⌜ SameLong (now (words .entry)) (now (numbers .entry)) (now (words .exit)) (now (numbers .exit))
+        × ((p : Program) (w : Work) → RunAt shape 0 first (now (words .entry)) (now (numbers .entry)) p w
+        → EndedAs shape 510 r (now (words .exit)) (now (numbers .exit)) p
+        (roundsFrom (shape .l) (rulesOf options) (options .rounds) true noRound w)) ⌝ }
+{
+    let mut run = first;
+    // above every T-count, so that the first round is not the last
+    let mut t = shape.operations + 1;
+    for j in 0..options.rounds {
+        let r = one_round(words, numbers, shape, options, run, t);
+        match r {
+            Round::Again(s, left) => {
+                run = s;
+                t = left;
+            }
+            Round::Stop(s) => return Ended::Done(s),
+            Round::ExpansionLimit => return Ended::ExpansionLimit,
+        }
+    }
+    Ended::Done(run)
+}
+
+// One more stream, if even rotations are to be absorbed and one is left.
+fn closing_stream(
+    words: &mut [u64],
+    numbers: &mut [u32],
+    shape: Shape,
+    options: Options,
+    run: Run,
+) -> Ended
+    requires { ⌜ SomeRun shape 511 run (now words) (now numbers) × OptionsIn options ⌝ }
+    ensures { λ r. ⌜ SameLong (now (words .entry)) (now (numbers .entry)) (now (words .exit)) (now (numbers .exit))
+        × ((i : ℕ) (p : Program) (w : Work) → RunAt shape i run (now (words .entry)) (now (numbers .entry)) p w
+        → EndedAs shape (i + 1) r (now (words .exit)) (now (numbers .exit)) p
+        (closingStream (shape .l) (rulesOf options) (options .rounds) w)) ⌝ }
+{
+    if options.rounds == 0 {
+        return Ended::Done(run);
+    }
+    if !options.clifford_to_frame {
+        return Ended::Done(run);
+    }
+    if item_lists::any_even(&numbers[..], shape.u, ITEMS, 0, run.items) {
+        return points::stream_pass(words, numbers, shape, options, true, run);
+    }
+    Ended::Done(run)
+}
+
+// The merge strategy.
+pub fn merge_rounds(
+    words: &mut [u64],
+    numbers: &mut [u32],
+    shape: Shape,
+    options: Options,
+    first: Run,
+) -> Ended
+    requires { ⌜ SomeRun shape 0 first (now words) (now numbers) × OptionsIn options ⌝ }
+    ensures { λ r. ⌜ SameLong (now (words .entry)) (now (numbers .entry)) (now (words .exit)) (now (numbers .exit))
+        × ((p : Program) (w : Work) → RunAt shape 0 first (now (words .entry)) (now (numbers .entry)) p w
+        → EndedAs shape 511 r (now (words .exit)) (now (numbers .exit)) p
+        (mergeRounds (shape .l) (rulesOf options) (options .rounds) w)) ⌝ }
+{
+    let e = rounds_from(words, numbers, shape, options, first);
+    let Ended::Done(run) = e else {
+        return Ended::ExpansionLimit;
+    };
+    closing_stream(words, numbers, shape, options, run)
+}
