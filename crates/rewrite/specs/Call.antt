@@ -1,6 +1,6 @@
 -- A call of Rewriting. Assumes nothing.
 use mathlib.Core.Path.{_≡_, sym, ap, _∙_, subst}
-use mathlib.Core.Bool.{true, false}
+use mathlib.Core.Bool.{false}
 use mathlib.Core.List.{List}
 use Prim.Native.Nat.{ℕ, _≤_}
 use lib.ListN.{length}
@@ -31,8 +31,8 @@ use Rattle.rewrite.specs.declared.Rewritten.{Rewritten}
 use Rattle.rewrite.specs.Reply.{Replies, replies-as, refusedBy, replies-refused}
 use Rattle.rewrite.specs.Conclusion.{replyIn, RunPre}
 
--- what a call answers and leaves: answer, counters and lent slices as the model has them; where it is accepted, also how many operations came
--- out and how many axes are stored
+-- what a call answers and leaves: answer, counters and lent slices as the model has them; where it is accepted, also how many operations
+-- came out and how many axes are stored
 pub record RewritingCall (o : Options) (j : Job) (s : Lent) (r : Rewritten) (s′ : Lent) : Type 0 where
   pub answer : r .answer ≡ rewriting o j s .answer
   pub counters : r .counters ≡ rewriting o j s .counters
