@@ -1,9 +1,8 @@
 -- How a run ends: its last refusal, or its end. Assumes nothing.
 use mathlib.Core.Path.{_≡_, refl, sym, ap, _∙_, subst}
 use mathlib.Core.List.{List}
-use Prim.Native.Nat.{ℕ, _≤_, _<_}
+use Prim.Native.Nat.{ℕ, _<_}
 use native.Mathlib.Omega.{arith}
-use lib.ListN.{length}
 use Rattle.pauli.specs.Word.{width}
 use Rattle.model.specs.declared.Options.{Options}
 use Rattle.model.specs.declared.Answer.{Answer}
@@ -12,7 +11,7 @@ use Rattle.model.specs.Interface.{numberOf}
 use Rattle.model.specs.Program.{Program}
 use Rattle.model.specs.Packing.{packed}
 use Rattle.model.specs.Rules.{rulesOf}
-use Rattle.model.specs.Rounds.{passes}
+use Rattle.model.specs.Rounds.{Work, passes}
 use Rattle.model.specs.Run as model
 use Rattle.model.specs.Run.{startOf, endOf, run, answerOf}
 use Rattle.theory.specs.Limit.{beyond-answer}
@@ -58,8 +57,8 @@ limit-other : answers.ExpansionLimit ≡ answers.Accepted → ⊥
 limit-other e = let b : _≡_ {A = ℕ} 10 0 = ap numberOf e in omega arith
 
 -- a refusal
-decides-refused : {z : Shape} {o : Options} {ns os rs ws xs vs ys : List ℕ} {a : Answer} → SameLong ws xs vs ys → RefusedAs z o ns os rs a
-    → DecisionAs z o ns os rs ws xs (Refused a) vs ys
+decides-refused : {z : Shape} {o : Options} {ns os rs ws xs vs ys : List ℕ} {a : Answer} → SameLong ws xs vs ys
+    → RefusedAs z o ns os rs a → DecisionAs z o ns os rs ws xs (Refused a) vs ys
 decides-refused {z} {o} {ns} {os} {rs} {a = a} long r = record {
   long = long;
   done = λ x e. let b : _≡_ {A = ℕ} 0 1 = cc in absurd (omega arith);
@@ -69,10 +68,12 @@ decides-refused {z} {o} {ns} {os} {rs} {a = a} long r = record {
 -- ---- the passes
 
 -- where they start
+abbrev firstRun : Started → ℕ → Run
+firstRun s n = record { items = s .items; axes = n; merges = 0; swaps = 0; absorbed = 0 }
+
 pub first-run : {z : Shape} {o : Options} {ns os rs : List ℕ} {n : ℕ} {ws xs : List ℕ} {s : Started} {ys : List ℕ}
     → PackedIn z ns os rs n ws xs → StartedAs z o ns os rs n ws xs s ys
-    → RunAt z 0 (record { items = s .items; axes = n; merges = 0; swaps = 0; absorbed = 0 }) ws ys (programIn z ns os rs)
-    (startOf (programIn z ns os rs))
+    → RunAt z 0 (firstRun s n) ws ys (programIn z ns os rs) (startOf (programIn z ns os rs))
 unfolding startOf
 first-run h a = record {
   granted = granted-same (packed-granted h) refl (a .long);
@@ -92,14 +93,15 @@ end-is o l p e = ap (λ (m : ℕ). passes (o .strategy) m (rulesOf o) (o .rounds
 
 module _ (o : Options) {z : Shape} {ns os rs : List ℕ} {n : ℕ} {ws xs : List ℕ} {s : Started} {t : List ℕ}
     (h : PackedIn z ns os rs n ws xs) (a : StartedAs z o ns os rs n ws xs s t)
-    {e : Ended} {vs ys : List ℕ} (long : SameLong ws t vs ys)
-    (call : EndedAs z 511 e vs ys (programIn z ns os rs)
-    (passes (o .strategy) (z .l) (rulesOf o) (o .rounds) (startOf (programIn z ns os rs)))) where
+    {e : Ended} {vs ys : List ℕ} (ran : SameLong ws t vs ys × ((p : Program) (w : Work) → RunAt z 0 (firstRun s n) ws t p w
+    → EndedAs z 511 e vs ys p (passes (o .strategy) (z .l) (rulesOf o) (o .rounds) w))) where
   ended-as : EndedAs z 511 e vs ys (programIn z ns os rs) (endIn z o ns os rs)
-  ended-as = subst (EndedAs z 511 e vs ys (programIn z ns os rs)) (end-is o (z .l) (programIn z ns os rs) (width-is h)) call
+  ended-as =
+      let p = programIn z ns os rs in
+      subst (EndedAs z 511 e vs ys p) (end-is o (z .l) p (width-is h)) (ran .1 p (startOf p) (first-run h a))
 
   long-here : SameLong ws xs vs ys
-  long-here = record { words = long .words; numbers = long .numbers ∙ a .long }
+  long-here = record { words = ran .0 .words; numbers = ran .0 .numbers ∙ a .long }
 
   -- where packing refuses nothing, the run's peak is its end's
   pub passes-limit : e ≡ ended.ExpansionLimit → DecisionAs z o ns os rs ws xs (Refused answers.ExpansionLimit) vs ys
@@ -123,7 +125,7 @@ module _ (o : Options) {z : Shape} {ns os rs : List ℕ} {n : ℕ} {ws xs : List
 
   pub passes-done : {d : Decided} {us : List ℕ} → DecidedAs z o ns os rs vs ys d us → DecisionAs z o ns os rs ws xs (Done d) vs us
   passes-done {d} {us} k = record {
-    long = record { words = long .words; numbers = k .long ∙ long-here .numbers };
+    long = record { words = ran .0 .words; numbers = k .long ∙ long-here .numbers };
     done = λ x f.
         let b : d ≡ x = cc in
         subst (λ (y : Decided). DecidedAs z o ns os rs vs us y us) b (record {

@@ -1,5 +1,5 @@
 -- The end of a run that is not refused, and its counters. Assumes nothing.
-use mathlib.Core.Path.{_≡_, refl, sym, ap, _∙_, subst}
+use mathlib.Core.Path.{_≡_, refl, sym, ap, _∙_}
 use mathlib.Core.Bool.{false, not}
 use mathlib.Core.List.{List}
 use Prim.Native.Nat.{ℕ}
@@ -107,7 +107,8 @@ module _ {z : Shape} {o : Options} {ns os rs : List ℕ} {s : Started} {st : Run
     }
 
     pub end-done : {c : Counters} → Summed z os ws ys (st .items) counts c
-        → DecidedAs z o ns os rs ws xs (record { items = st .items; axes = st .axes; changed = not (eqb (st .absorbed) 0); counters = c }) ys
+        → DecidedAs z o ns os rs ws xs
+        (record { items = st .items; axes = st .axes; changed = not (eqb (st .absorbed) 0); counters = c }) ys
     end-done m = record {
       given = h .given;
       hermitian = h .hermitian;

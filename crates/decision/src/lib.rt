@@ -38,7 +38,14 @@ pub enum Decision {
 }
 
 // The T-depth of the items, or 0 where it is not measured.
-fn depth_of(words: &[u64], numbers: &mut [u32], shape: Shape, on: bool, axes: usize, items: usize) -> usize
+fn depth_of(
+    words: &[u64],
+    numbers: &mut [u32],
+    shape: Shape,
+    on: bool,
+    axes: usize,
+    items: usize,
+) -> usize
     requires { ⌜ DepthPre (sizesOf shape axes) (now words) (now numbers) items ⌝ }
     ensures { λ r. ⌜ DepthAs (sizesOf shape axes) on (now (words .entry)) (now (numbers .entry)) items r (now (numbers .exit)) ⌝ }
 {
@@ -90,7 +97,14 @@ fn end_run(
     ensures { λ d. ⌜ DecidedAs shape options (now (nodes .entry)) (now (operations .entry)) (now (rows .entry))
         (now (words .entry)) (now (numbers .entry)) d (now (numbers .exit)) ⌝ }
 {
-    let depth = depth_of(words, numbers, shape, options.measure_depth, run.axes, run.items);
+    let depth = depth_of(
+        words,
+        numbers,
+        shape,
+        options.measure_depth,
+        run.axes,
+        run.items,
+    );
     let counts = RunCounts {
         merges: run.merges,
         swaps: run.swaps,

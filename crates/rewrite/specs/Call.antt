@@ -1,6 +1,6 @@
 -- A call of Rewriting. Assumes nothing.
 use mathlib.Core.Path.{_≡_, sym, ap, _∙_, subst}
-use mathlib.Core.Bool.{true, false}
+use mathlib.Core.Bool.{false}
 use mathlib.Core.List.{List}
 use Prim.Native.Nat.{ℕ, _≤_}
 use lib.ListN.{length}
@@ -31,9 +31,18 @@ use Rattle.rewrite.specs.declared.Rewritten.{Rewritten}
 use Rattle.rewrite.specs.Reply.{Replies, replies-as, refusedBy, replies-refused}
 use Rattle.rewrite.specs.Conclusion.{replyIn, RunPre}
 
--- what a call answers and leaves is the model's reply
-abbrev pub RewritingCall : Options → Job → Lent → Rewritten → Lent → Type 0
-RewritingCall o j s r s′ = Replies (rewriting o j s) (endOf (rulesOf o) (o .rounds) (programOf j)) r s′
+-- what a call answers and leaves: answer, counters and lent slices as the model has them; where it is accepted, also how many operations
+-- came out and how many axes are stored
+pub record RewritingCall (o : Options) (j : Job) (s : Lent) (r : Rewritten) (s′ : Lent) : Type 0 where
+  pub answer : r .answer ≡ rewriting o j s .answer
+  pub counters : r .counters ≡ rewriting o j s .counters
+  pub lent : s′ ≡ rewriting o j s .lent
+  pub operations : rewriting o j s .answer ≡ Accepted → r .operations ≡ length (endOf (rulesOf o) (o .rounds) (programOf j) .items)
+  pub axes : rewriting o j s .answer ≡ Accepted → r .axes ≡ length (endOf (rulesOf o) (o .rounds) (programOf j) .store .axes)
+
+call-as : (o : Options) (j : Job) (s : Lent) {r : Rewritten} {s′ : Lent}
+    → Replies (rewriting o j s) (endOf (rulesOf o) (o .rounds) (programOf j)) r s′ → RewritingCall o j s r s′
+call-as o j s h = record { answer = h .answer; counters = h .counters; lent = h .lent; operations = h .operations; axes = h .axes }
 
 -- what refusal 2 grants
 options-in : (o : Options) → badOption o ≡ false → OptionsIn o
@@ -55,10 +64,12 @@ module _ (o : Options) (c : Counts) (ns os rs ws xs to rt : List ℕ) {a : Answe
   s = lentOf ws xs to rt
 
   -- 1 to 8
-  pub call-refused : (m ≡ 0 → ⊥) → {r : Rewritten} → r ≡ refusedBy a → RewritingCall o (jobOf c ns os rs) (lentOf ws xs to rt) r (lentOf ws xs to rt)
+  pub call-refused : (m ≡ 0 → ⊥) → {r : Rewritten} → r ≡ refusedBy a
+      → RewritingCall o (jobOf c ns os rs) (lentOf ws xs to rt) r (lentOf ws xs to rt)
   call-refused n f =
-      replies-as (sym (refused-reply o j s a (sym checked) (ne-eqb (numberOf a) 0 (λ e. n (number ∙ e)))))
-      (replies-refused a (endOf (rulesOf o) (o .rounds) (programOf j)) s (λ e. n (number ∙ ap numberOf e)) f)
+      call-as o j s
+      (replies-as (sym (refused-reply o j s a (sym checked) (ne-eqb (numberOf a) 0 (λ e. n (number ∙ e)))))
+      (replies-refused a (endOf (rulesOf o) (o .rounds) (programOf j)) s (λ e. n (number ∙ ap numberOf e)) f))
 
   module _ (zero : m ≡ 0) where
     passes : checking o (jobOf c ns os rs) (lentOf ws xs to rt) ≡ Accepted
@@ -73,7 +84,7 @@ module _ (o : Options) (c : Counts) (ns os rs ws xs to rt : List ℕ) {a : Answe
         (endIn (shapeOf c (o .«max_packed_words»)) o ns os rs) r s′
         → RewritingCall o (jobOf c ns os rs) (lentOf ws xs to rt) r s′
     unfolding rewriting programIn shapeOf
-    run-called k = replies-as (sym (if-true _ _ (ap accepts passes))) k
+    run-called k = call-as o j s (replies-as (sym (if-true _ _ (ap accepts passes))) k)
 
     module _ {z : Shape} (shape : z ≡ shapeOf c (o .«max_packed_words»)) where
       pub call-run : RunPre z o ns os rs ws xs to rt

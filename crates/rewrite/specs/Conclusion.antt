@@ -12,11 +12,10 @@ use Rattle.model.specs.declared.Answer.{Answer}
 use Rattle.model.specs.declared.Answer.the-variants.{Accepted, NonHermitianAxis, ExpansionLimit}
 use Rattle.model.specs.Lists.{if_then_else_}
 use Rattle.model.specs.Program.{Program}
-use Rattle.model.specs.Packing.{packed}
 use Rattle.model.specs.Rules.{Rules, rulesOf}
 use Rattle.model.specs.Run.{Run, Ending, nonHermitian, finished, endAnswer, answerOf}
 use Rattle.model.specs.Checking.{Lent}
-use Rattle.model.specs.Rewriting.{Reply, zeros, thenZeros, stopped, accepted, afterEnding, afterRun}
+use Rattle.model.specs.Rewriting.{Reply, stopped, accepted, afterEnding, afterRun}
 use Rattle.theory.specs.Cases.{if-true, if-false}
 use Rattle.theory.specs.AcceptedRun.{hermitian-ending, hermitian-peak}
 use Rattle.layout.specs.declared.Shape.{Shape}
@@ -32,7 +31,7 @@ use Rattle.decision.specs.declared.Decided.{Decided}
 use Rattle.decision.specs.declared.Decision.{Decision}
 use Rattle.decision.specs.declared.Decision.the-variants.{Done, Refused}
 use Rattle.decision.specs.End.{endIn, finishedIn, end-barriers, DecidedAs}
-use Rattle.decision.specs.Decision.{runIn, RefusedAs, DecisionAs}
+use Rattle.decision.specs.Decision.{runIn, DecisionAs}
 use Rattle.checking.specs.Call.{lentOf}
 use Rattle.rewrite.specs.declared.Rewritten.{Rewritten}
 use Rattle.rewrite.specs.Reply.{Replies, replies-as, StoppedAs, replies-stopped}
@@ -133,7 +132,8 @@ pub record ConcludePre (z : Shape) (o : Options) (ns os rs : List ℕ) (d : Deci
   pub decision : DecisionAs z o ns os rs ws₀ xs₀ d ws xs
   pub fit : ResultsFit z to rt
 
-module _ (o : Options) {z : Shape} {ns os rs : List ℕ} {d : Decision} {ws xs to rt : List ℕ} (h : ConcludePre z o ns os rs d ws xs to rt) where
+module _ (o : Options) {z : Shape} {ns os rs : List ℕ} {d : Decision} {ws xs to rt : List ℕ}
+    (h : ConcludePre z o ns os rs d ws xs to rt) where
   pub conclude-accept : (x : Decided) → d ≡ Done x → AcceptPre z o ns os rs x ws xs to rt
   conclude-accept x e = record { decided = h .decision .done x e; fit = h .fit }
 

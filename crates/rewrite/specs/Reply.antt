@@ -37,7 +37,8 @@ pub refused-is : (a : Answer) {k : Counters} → k ≡ noCounters
 refused-is a e = ap (λ (k : Counters). record { answer = a; counters = k; operations = 0; axes = 0 }) e
 
 -- 1 to 8
-pub replies-refused : (a : Answer) (w : Work) (s : Lent) {r : Rewritten} → (a ≡ Accepted → ⊥) → r ≡ refusedBy a → Replies (refused a s) w r s
+pub replies-refused : (a : Answer) (w : Work) (s : Lent) {r : Rewritten} → (a ≡ Accepted → ⊥) → r ≡ refusedBy a
+    → Replies (refused a s) w r s
 unfolding refused
 replies-refused a w s n e = record {
   answer = ap (λ (x : Rewritten). x .answer) e;

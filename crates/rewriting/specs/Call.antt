@@ -5,9 +5,9 @@ use Rattle.model.specs.declared.Counters.{Counters}
 use Rattle.model.specs.declared.Options.{Options}
 use Rattle.model.specs.Program.{Job}
 use Rattle.model.specs.Checking.{Lent}
-use Rattle.model.specs.Rewriting.{Reply}
+use Rattle.model.specs.Rewriting.{Reply, rewriting}
 use Rattle.rewrite.specs.declared.Rewritten.{Rewritten}
-use Rattle.rewrite.specs.Call.{rewriting, RewritingCall}
+use Rattle.rewrite.specs.Call.{RewritingCall}
 
 -- an answer, the counters and the lent slices, as one reply
 abbrev pub replyOf : Answer → Counters → Lent → Reply

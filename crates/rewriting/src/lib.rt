@@ -1,7 +1,7 @@
 // The public call of Rewriting: the core by value, then the lent counters become the run's.
 ghost use mathlib.Core.Path.{_≡_};
 ghost use Rattle.checking.specs.Call.{jobOf, lentOf};
-ghost use Rattle.rewrite.specs.Call.{rewriting};
+ghost use Rattle.model.specs.Rewriting.{rewriting};
 ghost use Rattle.rewriting.specs.Call.{replyOf};
 use model::Answer;
 use model::Counters;

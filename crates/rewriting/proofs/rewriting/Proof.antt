@@ -60,7 +60,7 @@ use Rattle.rewrite.specs.declared.Rewritten.{Rewritten}
 use Rattle.rewrite.proofs.Rewritten as R
 use Rattle.rewrite.proofs.Rewritten.Laws as R′
 use Rattle.checking.specs.Call.{jobOf, lentOf}
-use Rattle.rewrite.specs.Call.{rewriting}
+use Rattle.model.specs.Rewriting.{rewriting}
 use Rattle.rewrite.specs.Call.{RewritingCall}
 use Rattle.rewriting.specs.Call.{replyOf, replied}
 use Rattle.rewrite.proofs.rewrite as core
