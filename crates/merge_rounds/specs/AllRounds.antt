@@ -13,7 +13,7 @@ use Rattle.model.specs.Lists.{sumOf}
 use Rattle.model.specs.Program.{Program}
 use Rattle.model.specs.Rules.{Rules, rulesOf}
 use Rattle.model.specs.Items.{Item, tCount}
-use Rattle.model.specs.Rounds.{Work, mergeRound, RoundBefore, noRound, tCountWas, notLower, goesOn, roundsFrom}
+use Rattle.model.specs.Rounds.{Work, RoundBefore, noRound, tCountWas, notLower, goesOn, roundsFrom}
 use Rattle.theory.specs.Peak.{roundsFrom-rises}
 use Rattle.layout.specs.declared.Shape.{Shape}
 use Rattle.points.specs.declared.Run.{Run}

@@ -1,7 +1,7 @@
 -- An exchange, from a point of a run to the next. Assumes nothing.
 use mathlib.Core.Path.{_≡_, refl, sym, ap, _∙_, subst}
 use mathlib.Core.List.{List}
-use Prim.Native.Nat.{ℕ, _+_, _≤_, _<_}
+use Prim.Native.Nat.{ℕ, _+_, _≤_}
 use native.Mathlib.Omega.{arith}
 use Rattle.model.specs.declared.Options.{Options}
 use Rattle.model.specs.Lists.{anyOf, member}
@@ -49,9 +49,6 @@ module _ {z : Shape} (o : Options) {st : Run} {s : Sizes} (same : s ≡ sizesOf 
       (exchange-pre (r .granted) (r .work) (r .well) (exchangeRules o) (k .candidates))
 
   module _ {d : Progress} {ys : List ℕ} (x : Exchanged s (exchangeRules o) ws xs (st .items) d ys) where
-    pub swap-fits : SomeRun z 511 st ws xs → st .swaps + d .swaps < 18446744073709551616
-    swap-fits r = omega (arith, x .few, r .at .few, items-few (r .at))
-
     pub swapped-at : (i : ℕ) (p : Program) (w : Work) → RunAt z i st ws xs p w
         → RunAt z (i + 1) (record {
           items = d .out;
@@ -72,7 +69,8 @@ module _ {z : Shape} (o : Options) {st : Run} {s : Sizes} (same : s ≡ sizesOf 
             within = subst (λ (t : Store). t .peak ≤ z .limit) (e .2) (r .work .within);
             items = e .0;
             fits = omega (arith, x .fewer, r .work .fits);
-            frame = subst (λ (fs : List SignedAxis). FrameIn z p fs ys) (sym (same-rows (z .l) g w)) (frame-other (b .only) refl (r .work .frame));
+            frame = subst (λ (fs : List SignedAxis). FrameIn z p fs ys) (sym (same-rows (z .l) g w))
+                (frame-other (b .only) refl (r .work .frame));
           };
           well = exchange-work g (r .well);
           merges = r .merges ∙ sym (same-merges (z .l) g w);

@@ -1,7 +1,7 @@
 -- Layering, from a point of a run to the next. Assumes nothing.
 use mathlib.Core.Path.{_≡_, refl, sym, ap, _∙_, subst}
 use mathlib.Core.List.{List}
-use Prim.Native.Nat.{ℕ, _+_, _≤_, _<_}
+use Prim.Native.Nat.{ℕ, _+_, _≤_}
 use native.Mathlib.Omega.{arith}
 use Rattle.model.specs.Lists.{anyOf, member}
 use Rattle.model.specs.Program.{Program}
@@ -32,9 +32,6 @@ module _ {z : Shape} {st : Run} {s : Sizes} (same : s ≡ sizesOf z (st .axes)) 
       subst (λ (n : Sizes). LayeringPre n ws xs (st .items)) (sym same) (layering-pre (r .granted) (r .work) (r .well))
 
   module _ {d : Layering} {ys : List ℕ} (x : LayeredAs s ws xs (st .items) d ys) where
-    pub layer-fits : SomeRun z 511 st ws xs → st .merges + d .merged < 18446744073709551616
-    layer-fits r = omega (arith, x .size, r .at .few, items-few (r .at))
-
     pub layered-at : (i : ℕ) (p : Program) (w : Work) → RunAt z i st ws xs p w
         → RunAt z (i + 1) (record {
           items = d .out;

@@ -1,6 +1,6 @@
 -- A point of a run as it lies in memory, and what holds of it. Assumes nothing.
-use mathlib.Core.Path.{_≡_, refl, sym, ap, _∙_, subst}
-use mathlib.Core.List.{List, [], _∷_}
+use mathlib.Core.Path.{_≡_, refl, _∙_, subst}
+use mathlib.Core.List.{List}
 use Prim.Native.Nat.{ℕ, _+_, _*_, _≤_, _<_}
 use native.Mathlib.Omega.{arith}
 use lib.ListN.{length}
@@ -15,11 +15,12 @@ use Rattle.points.specs.declared.Run.{Run}
 use Rattle.points.specs.declared.Ended.{Ended}
 use Rattle.points.specs.declared.Ended.the-variants.{Done, ExpansionLimit}
 
--- one pass raises no counter by more than this
+-- one pass raises the counters by no more than this, 2 ^ 33, all together
 abbrev pub most : ℕ
 most = 8589934592
 
--- w, after at most i passes, in memory
+-- a point of a run: w, after at most i passes, lies in memory, well-formed, with its counters; with at most 511 passes, two a round and one
+-- more, no counter runs over
 pub record RunAt (z : Shape) (i : ℕ) (st : Run) (ws xs : List ℕ) (p : Program) (w : Work) : Type 0 where
   pub granted : Granted z ws xs
   pub work : WorkIn z p w (st .axes) (st .items) ws xs
@@ -29,7 +30,7 @@ pub record RunAt (z : Shape) (i : ℕ) (st : Run) (ws xs : List ℕ) (p : Progra
   pub absorbed : st .absorbed ≡ w .absorbed
   pub few : st .merges + st .swaps + st .absorbed ≤ i * most
 
--- so some work lies in memory
+-- some work is at this point
 pub record SomeRun (z : Shape) (i : ℕ) (st : Run) (ws xs : List ℕ) : Type 0 where
   pub p : Program
   pub w : Work
@@ -62,7 +63,8 @@ pub items-few : {z : Shape} {i : ℕ} {st : Run} {ws xs : List ℕ} {p : Program
 items-few r = omega (arith, r .work .fits, r .granted .sized .operations)
 
 -- at most i passes are at most j
-pub later : {z : Shape} {i j : ℕ} {st : Run} {ws xs : List ℕ} {p : Program} {w : Work} → i ≤ j → RunAt z i st ws xs p w → RunAt z j st ws xs p w
+pub later : {z : Shape} {i j : ℕ} {st : Run} {ws xs : List ℕ} {p : Program} {w : Work} → i ≤ j → RunAt z i st ws xs p w
+    → RunAt z j st ws xs p w
 later {i = i} {j = j} h r = record {
   granted = r .granted;
   work = r .work;
@@ -84,7 +86,8 @@ ended-at {z} {i} {j} {st} {ws} {xs} {p} {w} h r = record {
   refused = λ e. let b : _≡_ {A = ℕ} 0 1 = cc in absurd (omega arith);
 }
 
-pub ended-limit : {z : Shape} {i : ℕ} {ws xs : List ℕ} {p : Program} {w : Work} → z .limit < w .store .peak → EndedAs z i ExpansionLimit ws xs p w
+pub ended-limit : {z : Shape} {i : ℕ} {ws xs : List ℕ} {p : Program} {w : Work} → z .limit < w .store .peak
+    → EndedAs z i ExpansionLimit ws xs p w
 ended-limit h = record {
   done = λ s e. let b : _≡_ {A = ℕ} 0 1 = cc in absurd (omega arith);
   refused = λ e. h;
