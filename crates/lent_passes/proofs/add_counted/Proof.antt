@@ -1,4 +1,4 @@
--- `stream_stats::add_counted` meets its contract: a walk of its MIR, by hand. The borrow is opened, each field is read and its sum written,
+-- `lent_passes::add_counted` meets its contract: a walk of its MIR, by hand. The borrow is opened, each field is read and its sum written,
 -- the borrow is closed at the record with both new values, and the outcome is given.
 -- Assumes nothing.
 use mathlib.Core.Path.{refl}
@@ -41,20 +41,20 @@ use denote.Triple.Walked.{says, needs, Stays, stay-ref, stay-none, walkOf, goes-
 use denote.Exit.{yes}
 use Rattle.stats.specs.Raised.{moreMerges}
 use Rattle.stats.proofs.Fields.{fields}
-use Rattle.stream_stats.specs.Counted.{raised}
+use Rattle.lent_passes.specs.Counted.{raised}
 use Rattle.model.specs.declared.Counters.{Counters}
 use Rattle.model.proofs.Counters as T
 use Rattle.model.proofs.Counters.Laws as T′
 use Rattle.stream_states.proofs.Stepped as E
 use Rattle.stream_states.proofs.Stepped.Laws as E′
 use denote.Enum.Laws as EL
-use Rattle.stream_stats.specs.declared.Counted.{Counted}
-use Rattle.stream_stats.proofs.Counted as P
-use Rattle.stream_stats.proofs.Counted.Laws as P′
-use Rattle.stream_stats.proofs.add_counted.Key.{name as #stream-stats·add-counted}
-use Rattle.stream_stats.proofs.add_counted as f
-use Rattle.stream_stats.proofs.add_counted.Statement as stated
-use Rattle.stream_stats.proofs.add_counted.Code as code
+use Rattle.lent_passes.specs.declared.Counted.{Counted}
+use Rattle.lent_passes.proofs.Counted as P
+use Rattle.lent_passes.proofs.Counted.Laws as P′
+use Rattle.lent_passes.proofs.add_counted.Key.{name as #lent-passes·add-counted}
+use Rattle.lent_passes.proofs.add_counted as f
+use Rattle.lent_passes.proofs.add_counted.Statement as stated
+use Rattle.lent_passes.proofs.add_counted.Code as code
 
 -- the struct's type
 abbrev B : RattleType
@@ -179,5 +179,5 @@ pub add-counted-spec : {M : Type 1} → stated.statement M
 unfolding code.routine tablesOf
 add-counted-spec 𝓤 H 𝓜 𝓖 𝓡 =
     entered 𝓤 H (tripleOf 𝓤 H (𝓖 .A) f.signature (f.spec 𝓤 H (𝓖 .A) (𝓜 .mem) (𝓡 .run)))
-    (tables 𝓤 H 𝓜 𝓡 code.env .C) (tables 𝓤 H 𝓜 𝓡 code.env .Λ) #stream-stats·add-counted code.function (code.unfolded 𝓤 H 𝓜 𝓡)
+    (tables 𝓤 H 𝓜 𝓡 code.env .C) (tables 𝓤 H 𝓜 𝓡 code.env .Λ) #lent-passes·add-counted code.function (code.unfolded 𝓤 H 𝓜 𝓡)
     (add-counted-meets 𝓤 H (𝓖 .A) (givenOf 𝓤 H 𝓜 𝓖) (𝓜 .mem) (𝓡 .run) (tablesOf 𝓤 H 𝓜 (tables 𝓤 H 𝓜 𝓡 code.env)))

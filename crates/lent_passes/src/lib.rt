@@ -1,8 +1,15 @@
-// The streaming pass, lent the run's counters: the core by value, then one adder.
+// Each pass, lent the run's counters: the core by value, then one adder.
 ghost use mathlib.Core.Path.{_≡_};
 ghost use Prim.Native.Nat.{_+_, _<_, _^_};
+ghost use Rattle.stats.specs.Raised.{moreMerges, moreSwaps};
 ghost use Rattle.stream.specs.Passing.{PassAtWork, SomeWork};
-ghost use Rattle.stream_stats.specs.Counted.{mergesOf, absorbedOf, raised, Room, CountedAs, StreamedAs};
+ghost use Rattle.exchange.specs.Segments.{ExchangePre, Exchanged};
+ghost use Rattle.layering.specs.Contracts.{LayeringPre, LayeredAs};
+ghost use Rattle.lent_passes.specs.Counted.{mergesOf, absorbedOf, raised, Room, CountedAs, StreamedAs};
+use axes::Sizes;
+use exchange::Progress;
+use exchange::Rules;
+use layering::Layering;
 use layout::Shape;
 use model::Counters;
 use stream_states::Stepped;
@@ -84,4 +91,55 @@ pub fn stream_pass(
 {
     let r = stream_counted(words, numbers, shape, rules, items, axes);
     add_counted(stats, r)
+}
+
+// What an exchange pass counted is added, and how it ended is given.
+fn add_exchanged(stats: &mut Counters, r: Progress) -> Progress
+    requires { ⌜ now stats .swaps + r .swaps < 2 ^ 64 ⌝ }
+    ensures { λ t. ⌜ (now (stats .exit) ≡ moreSwaps (now (stats .entry)) (r .swaps)) × (t ≡ r) ⌝ }
+{
+    stats.swaps = stats.swaps + r.swaps;
+    r
+}
+
+// The exchange pass, with the counters raised by its exchanges, which are no more than the items.
+pub fn exchange_pass(
+    words: &[u64],
+    numbers: &mut [u32],
+    z: Sizes,
+    rules: Rules,
+    items: usize,
+    stats: &mut Counters,
+) -> Progress
+    requires { ⌜ ExchangePre z rules (now words) (now numbers) items × (now stats .swaps + items < 2 ^ 64) ⌝ }
+    ensures { λ r. ⌜ Exchanged z rules (now (words .entry)) (now (numbers .entry)) items r (now (numbers .exit))
+        × (now (stats .exit) ≡ moreSwaps (now (stats .entry)) (r .swaps)) ⌝ }
+{
+    let r = exchange::swap_segments(words, numbers, z, rules, items);
+    add_exchanged(stats, r)
+}
+
+// What a layering pass merged is added, and how it ended is given.
+fn add_layered(stats: &mut Counters, r: Layering) -> Layering
+    requires { ⌜ now stats .merges + r .merged < 2 ^ 64 ⌝ }
+    ensures { λ t. ⌜ (now (stats .exit) ≡ moreMerges (now (stats .entry)) (r .merged)) × (t ≡ r) ⌝ }
+{
+    stats.merges = stats.merges + r.merged;
+    r
+}
+
+// The layering pass, with the counters raised by what it merged, which is no more than the items.
+pub fn layering_pass(
+    words: &[u64],
+    numbers: &mut [u32],
+    z: Sizes,
+    items: usize,
+    stats: &mut Counters,
+) -> Layering
+    requires { ⌜ LayeringPre z (now words) (now numbers) items × (now stats .merges + items < 2 ^ 64) ⌝ }
+    ensures { λ r. ⌜ LayeredAs z (now (words .entry)) (now (numbers .entry)) items r (now (numbers .exit))
+        × (now (stats .exit) ≡ moreMerges (now (stats .entry)) (r .merged)) ⌝ }
+{
+    let r = layering::layer_segments(words, numbers, z, items);
+    add_layered(stats, r)
 }

@@ -14,7 +14,7 @@ use Rattle.stream_states.specs.declared.Stepped.{Stepped}
 use Rattle.stream_states.specs.declared.Stepped.the-variants.{Next, ExpansionLimit}
 use Rattle.stream_states.specs.declared.StreamRules.{StreamRules}
 use Rattle.stream.specs.Passing.{PassAtWork, SomeWork, PassedAs, LeftP}
-use Rattle.stream_stats.specs.declared.Counted.{Counted}
+use Rattle.lent_passes.specs.declared.Counted.{Counted}
 
 -- "merges", "cliffords_to_frame": a refused stream adds nothing, since after any refusal counters are 0
 unfoldable pub mergesOf : Stepped → ℕ

@@ -1,4 +1,4 @@
--- `stream_stats::stream_pass` meets its contract: a walk of its MIR, by hand. Both stores are passed to `stream_counted`, stats and what it
+-- `lent_passes::stream_pass` meets its contract: a walk of its MIR, by hand. Both stores are passed to `stream_counted`, stats and what it
 -- answers to `add_counted`: each `&mut` is given up for good, and what the callees say of the last values is what `stream_pass` says.
 -- Letters: w words, x numbers, z shape, l rules, k items, n axes, s stats.
 -- Assumes nothing.
@@ -56,23 +56,23 @@ use Rattle.stream_states.specs.declared.Stepped.{Stepped}
 use Rattle.stream_states.proofs.Stepped as E
 use Rattle.stream_states.proofs.Stepped.Laws as E′
 use Rattle.stream.specs.Passing.{PassAtWork, SomeWork}
-use Rattle.stream_stats.specs.declared.Counted.{Counted}
-use Rattle.stream_stats.proofs.Counted as R
-use Rattle.stream_stats.proofs.Counted.Laws as R′
-use Rattle.stream_stats.specs.Counted as counted
-use Rattle.stream_stats.specs.Counted.{raised, CountedAs, StreamedAs, room-for, streamed}
-use Rattle.stream_stats.proofs.stream_counted as core
-use Rattle.stream_stats.proofs.stream_counted.Symbol as core-def
-use Rattle.stream_stats.proofs.stream_counted.Symbol.{name as #stream-stats·stream-counted}
-use Rattle.stream_stats.proofs.stream_counted.Met as core-thm
-use Rattle.stream_stats.proofs.add_counted as add
-use Rattle.stream_stats.proofs.add_counted.Symbol as add-def
-use Rattle.stream_stats.proofs.add_counted.Symbol.{name as #stream-stats·add-counted}
-use Rattle.stream_stats.proofs.add_counted.Met as add-thm
-use Rattle.stream_stats.proofs.stream_pass.Key.{name as #stream-stats·stream-pass}
-use Rattle.stream_stats.proofs.stream_pass as f
-use Rattle.stream_stats.proofs.stream_pass.Statement as stated
-use Rattle.stream_stats.proofs.stream_pass.Code as code
+use Rattle.lent_passes.specs.declared.Counted.{Counted}
+use Rattle.lent_passes.proofs.Counted as R
+use Rattle.lent_passes.proofs.Counted.Laws as R′
+use Rattle.lent_passes.specs.Counted as counted
+use Rattle.lent_passes.specs.Counted.{raised, CountedAs, StreamedAs, room-for, streamed}
+use Rattle.lent_passes.proofs.stream_counted as core
+use Rattle.lent_passes.proofs.stream_counted.Symbol as core-def
+use Rattle.lent_passes.proofs.stream_counted.Symbol.{name as #lent-passes·stream-counted}
+use Rattle.lent_passes.proofs.stream_counted.Met as core-thm
+use Rattle.lent_passes.proofs.add_counted as add
+use Rattle.lent_passes.proofs.add_counted.Symbol as add-def
+use Rattle.lent_passes.proofs.add_counted.Symbol.{name as #lent-passes·add-counted}
+use Rattle.lent_passes.proofs.add_counted.Met as add-thm
+use Rattle.lent_passes.proofs.stream_pass.Key.{name as #lent-passes·stream-pass}
+use Rattle.lent_passes.proofs.stream_pass as f
+use Rattle.lent_passes.proofs.stream_pass.Statement as stated
+use Rattle.lent_passes.proofs.stream_pass.Code as code
 
 -- pairs, nested to the right
 infixr 30 _&_
@@ -242,8 +242,8 @@ module _ {M : Type 1} (𝓤 : URA M) (H : Heap 𝓤) (A : Atoms 𝓤) (W : Given
       fjoin ! $ done !
 
   module _ (C : Calls 𝓤 H) (Λ : Loops 𝓤 H) (fm : FmC 𝓤 H (W .laws) C)
-      (known-core : Triple 𝓤 (C #stream-stats·stream-counted) (Core 𝓤 H A mem run))
-      (known-add : Triple 𝓤 (C #stream-stats·add-counted) (Add 𝓤 H A mem run)) where
+      (known-core : Triple 𝓤 (C #lent-passes·stream-counted) (Core 𝓤 H A mem run))
+      (known-add : Triple 𝓤 (C #lent-passes·add-counted) (Add 𝓤 H A mem run)) where
     walk : Room u64 (length (now xw)) → Room u32 (length (now xx)) → ent 𝓤 Entry (WpFn 𝓤 H C Λ code.function passed Post)
     walk gw gx =
         qed W (raw Entry ∷ []) ∵ enter ! C Λ code.function passed _ $ alloc1 ! (λ l0. alloc1 ! (λ l1. alloc1 ! (λ l2. alloc1 ! (λ l3.
@@ -307,7 +307,7 @@ module _ {M : Type 1} (𝓤 : URA M) (H : Heap 𝓤) (A : Atoms 𝓤) (W : Given
 
 module _ {M : Type 1} (𝓤 : URA M) (H : Heap 𝓤) (A : Atoms 𝓤) (W : Given 𝓤 H A) (mem : Memory → SProp 𝓤) (run : Routine → Fun 𝓤) where
   stream-pass-walks : (C : Calls 𝓤 H) (Λ : Loops 𝓤 H) → FmC 𝓤 H (W .laws) C
-      → Triple 𝓤 (C #stream-stats·stream-counted) (Core 𝓤 H A mem run) → Triple 𝓤 (C #stream-stats·add-counted) (Add 𝓤 H A mem run)
+      → Triple 𝓤 (C #lent-passes·stream-counted) (Core 𝓤 H A mem run) → Triple 𝓤 (C #lent-passes·add-counted) (Add 𝓤 H A mem run)
       → Walks 𝓤 H A f.ended stayed (WpFn 𝓤 H C Λ code.function) (f.clauses 𝓤 H A mem run)
   stream-pass-walks C Λ fm known-core known-add =
       walked 𝓤 H A f.ended stayed (f.clauses 𝓤 H A mem run) (WpFn 𝓤 H C Λ code.function)
@@ -320,8 +320,8 @@ module _ {M : Type 1} (𝓤 : URA M) (H : Heap 𝓤) (A : Atoms 𝓤) (W : Given
       .0) (ok .0) (ok .1) C Λ fm known-core known-add (are .0 .0 .1) (are .1 .0 .0 .1)))
 
 stream-pass-meets : {M : Type 1} (𝓤 : URA M) (H : Heap 𝓤) (A : Atoms 𝓤) → Given 𝓤 H A → (mem : Memory → SProp 𝓤) (run : Routine → Fun 𝓤)
-    (𝓣 : Tables 𝓤 H) → Triple 𝓤 (𝓣 .C #stream-stats·stream-counted) (Core 𝓤 H A mem run)
-    → Triple 𝓤 (𝓣 .C #stream-stats·add-counted) (Add 𝓤 H A mem run)
+    (𝓣 : Tables 𝓤 H) → Triple 𝓤 (𝓣 .C #lent-passes·stream-counted) (Core 𝓤 H A mem run)
+    → Triple 𝓤 (𝓣 .C #lent-passes·add-counted) (Add 𝓤 H A mem run)
     → Meets 𝓤 H A f.signature (WpFn 𝓤 H (𝓣 .C) (𝓣 .Λ) code.function) (f.spec 𝓤 H A mem run)
 stream-pass-meets 𝓤 H A W mem run 𝓣 known-core known-add =
     walk-meets 𝓤 H A f.ended stayed W
@@ -336,9 +336,9 @@ pub stream-pass-spec : {M : Type 1} → stated.statement M
 unfolding code.routine tablesOf
 stream-pass-spec 𝓤 H 𝓜 𝓖 𝓡 =
     entered 𝓤 H (tripleOf 𝓤 H (𝓖 .A) f.signature (f.spec 𝓤 H (𝓖 .A) (𝓜 .mem) (𝓡 .run)))
-    (tables 𝓤 H 𝓜 𝓡 code.env .C) (tables 𝓤 H 𝓜 𝓡 code.env .Λ) #stream-stats·stream-pass code.function (code.unfolded 𝓤 H 𝓜 𝓡)
+    (tables 𝓤 H 𝓜 𝓡 code.env .C) (tables 𝓤 H 𝓜 𝓡 code.env .Λ) #lent-passes·stream-pass code.function (code.unfolded 𝓤 H 𝓜 𝓡)
     (stream-pass-meets 𝓤 H (𝓖 .A) (givenOf 𝓤 H 𝓜 𝓖) (𝓜 .mem) (𝓡 .run) (tablesOf 𝓤 H 𝓜 (tables 𝓤 H 𝓜 𝓡 code.env))
-    (cited 𝓤 H (Core 𝓤 H (𝓖 .A) (𝓜 .mem) (𝓡 .run)) 𝓜 𝓡 code.env #stream-stats·stream-counted core-def.routine
-    code.calls-stream-stats·stream-counted (core-thm.met 𝓤 H 𝓜 𝓖 𝓡))
-    (cited 𝓤 H (Add 𝓤 H (𝓖 .A) (𝓜 .mem) (𝓡 .run)) 𝓜 𝓡 code.env #stream-stats·add-counted add-def.routine
-    code.calls-stream-stats·add-counted (add-thm.met 𝓤 H 𝓜 𝓖 𝓡)))
+    (cited 𝓤 H (Core 𝓤 H (𝓖 .A) (𝓜 .mem) (𝓡 .run)) 𝓜 𝓡 code.env #lent-passes·stream-counted core-def.routine
+    code.calls-lent-passes·stream-counted (core-thm.met 𝓤 H 𝓜 𝓖 𝓡))
+    (cited 𝓤 H (Add 𝓤 H (𝓖 .A) (𝓜 .mem) (𝓡 .run)) 𝓜 𝓡 code.env #lent-passes·add-counted add-def.routine
+    code.calls-lent-passes·add-counted (add-thm.met 𝓤 H 𝓜 𝓖 𝓡)))

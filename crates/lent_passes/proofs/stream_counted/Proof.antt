@@ -1,7 +1,7 @@
-use Rattle.stream_stats.specs.Counted.{counted}
+use Rattle.lent_passes.specs.Counted.{counted}
 use borrow.Author.Needs.{needs}
-use Rattle.stream_stats.proofs.stream_counted.Statement.{statement}
-use Rattle.stream_stats.proofs.stream_counted.Tie as tie
+use Rattle.lent_passes.proofs.stream_counted.Statement.{statement}
+use Rattle.lent_passes.proofs.stream_counted.Tie as tie
 
 stream-requires : tie.Need-stream-requires
 stream-requires c κs = search needs
