@@ -25,10 +25,10 @@ pub no-letter : (l id : ℕ) (w : List ℕ) (q : ℕ) {c : ℕ} → c ≡ letter
 unfolding letterText
 no-letter l id w q e z = sym (if-true _ _ (eq-eqb (letterAt l w q) 0 (sym e ∙ z)))
 
-pub one-letter : (l id : ℕ) (w : List ℕ) (q : ℕ) {c d : ℕ} → c ≡ letterAt l w q → (c ≡ 0 → ⊥) → d ≡ c → lineOf (id ∷ q ∷ d ∷ []) ≡ letterText l id w q
+pub one-letter : (l id : ℕ) (w : List ℕ) (q : ℕ) {c : ℕ} → c ≡ letterAt l w q → (c ≡ 0 → ⊥) → lineOf (id ∷ q ∷ c ∷ []) ≡ letterText l id w q
 unfolding letterText
-one-letter l id w q e n f =
-    ap (λ (k : ℕ). lineOf (id ∷ q ∷ k ∷ [])) (f ∙ e) ∙ sym (if-false _ _ (ne-eqb (letterAt l w q) 0 (λ z. n (e ∙ z))))
+one-letter l id w q e n =
+    ap (λ (k : ℕ). lineOf (id ∷ q ∷ k ∷ [])) e ∙ sym (if-false _ _ (ne-eqb (letterAt l w q) 0 (λ z. n (e ∙ z))))
 
 letter-none : (c : ℕ) → other c ≡ 0 → c ≡ 0
 letter-none zero e = refl
