@@ -1,44 +1,91 @@
--- A stand-in: Rewriting that refuses everything. Assumes nothing.
-use mathlib.Core.Path.{_≡_, refl}
+-- A call of Rewriting. Assumes nothing.
+use mathlib.Core.Path.{_≡_, sym, ap, _∙_, subst}
+use mathlib.Core.Bool.{true, false}
+use mathlib.Core.List.{List}
+use Prim.Native.Nat.{ℕ, _≤_}
 use lib.ListN.{length}
-use native.Mathlib.Omega.{arith}
-use mathlib.Core.Path.{ap}
-use Prim.Native.Nat.{ℕ}
+use borrow.Author.Tests.{ltb-false, eq-eqb, ne-eqb}
 use Rattle.model.specs.declared.Options.{Options}
+use Rattle.model.specs.declared.Counts.{Counts}
 use Rattle.model.specs.declared.Answer.{Answer}
-use Rattle.model.specs.declared.Answer.the-variants as answers
-use Rattle.model.specs.declared.Counters.{Counters}
-use Rattle.model.specs.Interface.{noCounters, numberOf}
+use Rattle.model.specs.declared.Answer.the-variants.{Accepted}
+use Rattle.model.specs.Interface.{accepts, numberOf}
 use Rattle.model.specs.Program.{Job, programOf}
 use Rattle.model.specs.Rules.{rulesOf}
 use Rattle.model.specs.Run.{endOf}
-use Rattle.model.specs.Checking.{Lent}
-use Rattle.model.specs.Rewriting.{Reply, refused}
+use Rattle.model.specs.Checking.{Lent, badCount, badOption, checking}
+use Rattle.model.specs.Rewriting.{rewriting}
+use Rattle.theory.specs.Cases.{if-true, neither}
+use Rattle.theory.specs.Checked.{accepts-only}
+use Rattle.theory.specs.Replies.{refused-reply}
+use Rattle.run_wellformed.specs.Lengths.{long-enough}
+use Rattle.layout.specs.declared.Shape.{Shape}
+use Rattle.layout.specs.Bounds.{passed}
+use Rattle.layout.specs.Shape.{shapeOf}
+use Rattle.records.specs.Given.{programIn}
+use Rattle.packing.specs.Checked.{checked-sizes, checked-pack}
+use Rattle.points.specs.Points.{OptionsIn}
+use Rattle.decision.specs.End.{endIn}
+use Rattle.checking.specs.Call.{jobOf, lentOf}
 use Rattle.rewrite.specs.declared.Rewritten.{Rewritten}
+use Rattle.rewrite.specs.Reply.{Replies, replies-as, refusedBy, replies-refused}
+use Rattle.rewrite.specs.Conclusion.{replyIn, RunPre}
 
-unfoldable pub rewriting : Options → Job → Lent → Reply
-rewriting o j s = record { answer = answers.OptionOutside; counters = noCounters; lent = s }
+-- what a call answers and leaves is the model's reply
+abbrev pub RewritingCall : Options → Job → Lent → Rewritten → Lent → Type 0
+RewritingCall o j s r s′ = Replies (rewriting o j s) (endOf (rulesOf o) (o .rounds) (programOf j)) r s′
 
-pub record RewritingCall (o : Options) (j : Job) (s : Lent) (r : Rewritten) (s′ : Lent) : Type 0 where
-  pub answer : r .answer ≡ rewriting o j s .answer
-  pub counters : r .counters ≡ rewriting o j s .counters
-  pub lent : s′ ≡ rewriting o j s .lent
-  pub operations : rewriting o j s .answer ≡ answers.Accepted → r .operations ≡ length (endOf (rulesOf o) (o .rounds) (programOf j) .items)
-  pub axes : rewriting o j s .answer ≡ answers.Accepted → r .axes ≡ length (endOf (rulesOf o) (o .rounds) (programOf j) .store .axes)
+-- what refusal 2 grants
+options-in : (o : Options) → badOption o ≡ false → OptionsIn o
+unfolding badOption
+options-in o h =
+    let a = neither _ _ h in
+    let b = neither _ _ (a .0) in
+    let c = neither _ _ (b .0) in
+    let d = neither _ _ (c .0) in
+    record { rounds = ltb-false _ _ (d .0); candidates = ltb-false _ _ (b .1) }
 
-abbrev pub refusedBy : Answer → Rewritten
-refusedBy a = record { answer = a; counters = noCounters; operations = 0; axes = 0 }
+-- a is what Checking answers, m its number
+module _ (o : Options) (c : Counts) (ns os rs ws xs to rt : List ℕ) {a : Answer} {m : ℕ}
+    (checked : a ≡ checking o (jobOf c ns os rs) (lentOf ws xs to rt)) (number : m ≡ numberOf a) where
+  abbrev j : Job
+  j = jobOf c ns os rs
 
-pub refused-is : (a : Answer) {k : Counters} → k ≡ noCounters
-    → _≡_ {A = Rewritten} (record { answer = a; counters = k; operations = 0; axes = 0 }) (refusedBy a)
-refused-is a e = ap (λ (k : Counters). record { answer = a; counters = k; operations = 0; axes = 0 }) e
+  abbrev s : Lent
+  s = lentOf ws xs to rt
 
-pub never : (o : Options) (j : Job) (s : Lent) {r : Rewritten} → r ≡ refusedBy answers.OptionOutside → RewritingCall o j s r s
-unfolding rewriting
-never o j s {r} e = record {
-  answer = ap (λ (x : Rewritten). x .answer) e;
-  counters = ap (λ (x : Rewritten). x .counters) e;
-  lent = refl;
-  operations = λ f. let b : _≡_ {A = ℕ} 2 0 = ap numberOf f in absurd (omega arith);
-  axes = λ f. let b : _≡_ {A = ℕ} 2 0 = ap numberOf f in absurd (omega arith);
-}
+  -- 1 to 8
+  pub call-refused : (m ≡ 0 → ⊥) → {r : Rewritten} → r ≡ refusedBy a → RewritingCall o (jobOf c ns os rs) (lentOf ws xs to rt) r (lentOf ws xs to rt)
+  call-refused n f =
+      replies-as (sym (refused-reply o j s a (sym checked) (ne-eqb (numberOf a) 0 (λ e. n (number ∙ e)))))
+      (replies-refused a (endOf (rulesOf o) (o .rounds) (programOf j)) s (λ e. n (number ∙ ap numberOf e)) f)
+
+  module _ (zero : m ≡ 0) where
+    passes : checking o (jobOf c ns os rs) (lentOf ws xs to rt) ≡ Accepted
+    passes = sym checked ∙ accepts-only a (eq-eqb (numberOf a) 0 (sym number ∙ zero))
+
+    pub call-sizes : (badCount c ≡ false) × (o .«max_packed_words» ≤ 1048576)
+    call-sizes = checked-sizes o j s passes
+
+    -- the shape's program is the job's
+    run-called : {r : Rewritten} {s′ : Lent}
+        → Replies (replyIn (shapeOf c (o .«max_packed_words»)) o ns os rs (lentOf ws xs to rt))
+        (endIn (shapeOf c (o .«max_packed_words»)) o ns os rs) r s′
+        → RewritingCall o (jobOf c ns os rs) (lentOf ws xs to rt) r s′
+    unfolding rewriting programIn shapeOf
+    run-called k = replies-as (sym (if-true _ _ (ap accepts passes))) k
+
+    module _ {z : Shape} (shape : z ≡ shapeOf c (o .«max_packed_words»)) where
+      pub call-run : RunPre z o ns os rs ws xs to rt
+      unfolding shapeOf
+      call-run =
+          let l = long-enough o j s passes in
+          subst (λ (y : Shape). RunPre y o ns os rs ws xs to rt) (sym shape) (record {
+            pack = checked-pack o j s passes;
+            options = options-in o (passed o j s passes .options);
+            fit = record { operations = l .operations; rows = l .rows };
+          })
+
+      pub call-done : {r : Rewritten} {s′ : Lent} → Replies (replyIn z o ns os rs (lentOf ws xs to rt)) (endIn z o ns os rs) r s′
+          → RewritingCall o (jobOf c ns os rs) (lentOf ws xs to rt) r s′
+      call-done {r} {s′} q = run-called (subst (λ (y : Shape). Replies (replyIn y o ns os rs s) (endIn y o ns os rs) r s′) shape q)

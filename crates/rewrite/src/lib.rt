@@ -1,8 +1,13 @@
-// A stand-in for the core.
+// Rewriting by value: Checking, then the decision, then the results or zeros. Nothing is written into the results before the last refusal.
 ghost use mathlib.Core.Path.{_≡_};
 ghost use Rattle.checking.specs.Call.{jobOf, lentOf};
-ghost use Rattle.model.specs.declared.Answer.the-variants as answers;
-ghost use Rattle.rewrite.specs.Call.{RewritingCall, refusedBy};
+ghost use Rattle.decision.specs.End.{endIn};
+ghost use Rattle.rewrite.specs.Reply.{Replies, refusedBy, StoppedAs};
+ghost use Rattle.rewrite.specs.Conclusion.{replyIn, AcceptPre, ConcludePre, RunPre};
+ghost use Rattle.rewrite.specs.Call.{RewritingCall};
+use decision::Decided;
+use decision::Decision;
+use layout::Shape;
 use model::Answer;
 use model::Counters;
 use model::Counts;
@@ -16,6 +21,7 @@ pub struct Rewritten {
     pub axes: usize,
 }
 
+// What every refusal hands back.
 fn refused(a: Answer) -> Rewritten
     ensures { λ r. ⌜ r ≡ refusedBy a ⌝ }
 {
@@ -27,6 +33,126 @@ fn refused(a: Answer) -> Rewritten
     }
 }
 
+// A refusal by 9 or 10: the work stores are zero.
+fn stop(words: &mut [u64], numbers: &mut [u32], a: Answer) -> Rewritten
+    ensures { λ r. ⌜ StoppedAs a (now (words .entry)) (now (numbers .entry)) r (now (words .exit)) (now (numbers .exit)) ⌝ }
+{
+    results::clean(words, numbers, 0);
+    refused(a)
+}
+
+// An accepted run: results, then zeros.
+fn accept(
+    nodes: &[u32],
+    operations: &[u32],
+    rows: &[u32],
+    words: &mut [u64],
+    numbers: &mut [u32],
+    result_operations: &mut [u32],
+    result_rows: &mut [u32],
+    shape: Shape,
+    options: Options,
+    x: Decided,
+) -> Rewritten
+    requires { ⌜ AcceptPre shape options (now nodes) (now operations) (now rows) x (now words) (now numbers)
+        (now «result_operations») (now «result_rows») ⌝ }
+    ensures { λ r. ⌜ Replies (replyIn shape options (now (nodes .entry)) (now (operations .entry)) (now (rows .entry))
+        (lentOf (now (words .entry)) (now (numbers .entry)) (now («result_operations» .entry)) (now («result_rows» .entry))))
+        (endIn shape options (now (nodes .entry)) (now (operations .entry)) (now (rows .entry))) r
+        (lentOf (now (words .exit)) (now (numbers .exit)) (now («result_operations» .exit)) (now («result_rows» .exit))) ⌝ }
+{
+    let counters = x.counters;
+    results::finish(
+        operations,
+        words,
+        numbers,
+        result_operations,
+        result_rows,
+        shape,
+        x.items,
+        x.axes,
+        x.changed,
+    );
+    Rewritten {
+        answer: Answer::Accepted,
+        counters,
+        operations: x.items,
+        axes: x.axes,
+    }
+}
+
+// The lent slices and what is handed back, once it is decided how the run ends.
+fn conclude(
+    nodes: &[u32],
+    operations: &[u32],
+    rows: &[u32],
+    words: &mut [u64],
+    numbers: &mut [u32],
+    result_operations: &mut [u32],
+    result_rows: &mut [u32],
+    shape: Shape,
+    options: Options,
+    d: Decision,
+) -> Rewritten
+    requires { ⌜ ConcludePre shape options (now nodes) (now operations) (now rows) d (now words) (now numbers)
+        (now «result_operations») (now «result_rows») ⌝ }
+    ensures { λ r. ⌜ Replies (replyIn shape options (now (nodes .entry)) (now (operations .entry)) (now (rows .entry))
+        (lentOf (now (words .entry)) (now (numbers .entry)) (now («result_operations» .entry)) (now («result_rows» .entry))))
+        (endIn shape options (now (nodes .entry)) (now (operations .entry)) (now (rows .entry))) r
+        (lentOf (now (words .exit)) (now (numbers .exit)) (now («result_operations» .exit)) (now («result_rows» .exit))) ⌝ }
+{
+    match d {
+        Decision::Done(x) => accept(
+            nodes,
+            operations,
+            rows,
+            words,
+            numbers,
+            result_operations,
+            result_rows,
+            shape,
+            options,
+            x,
+        ),
+        Decision::Refused(a) => stop(words, numbers, a),
+    }
+}
+
+// A program that Checking passes: decided, then concluded.
+fn run(
+    nodes: &[u32],
+    operations: &[u32],
+    rows: &[u32],
+    words: &mut [u64],
+    numbers: &mut [u32],
+    result_operations: &mut [u32],
+    result_rows: &mut [u32],
+    shape: Shape,
+    options: Options,
+) -> Rewritten
+    requires { ⌜ RunPre shape options (now nodes) (now operations) (now rows) (now words) (now numbers)
+        (now «result_operations») (now «result_rows») ⌝ }
+    ensures { λ r. ⌜ Replies (replyIn shape options (now (nodes .entry)) (now (operations .entry)) (now (rows .entry))
+        (lentOf (now (words .entry)) (now (numbers .entry)) (now («result_operations» .entry)) (now («result_rows» .entry))))
+        (endIn shape options (now (nodes .entry)) (now (operations .entry)) (now (rows .entry))) r
+        (lentOf (now (words .exit)) (now (numbers .exit)) (now («result_operations» .exit)) (now («result_rows» .exit))) ⌝ }
+{
+    let d = decision::decide(nodes, operations, rows, words, numbers, shape, options);
+    conclude(
+        nodes,
+        operations,
+        rows,
+        words,
+        numbers,
+        result_operations,
+        result_rows,
+        shape,
+        options,
+        d,
+    )
+}
+
+// Rewriting.
 pub fn rewrite(
     counts: Counts,
     options: Options,
@@ -42,5 +168,30 @@ pub fn rewrite(
         (lentOf (now (words .entry)) (now (numbers .entry)) (now («result_operations» .entry)) (now («result_rows» .entry))) r
         (lentOf (now (words .exit)) (now (numbers .exit)) (now («result_operations» .exit)) (now («result_rows» .exit))) ⌝ }
 {
-    refused(Answer::OptionOutside)
+    let a = checking::checking(
+        counts,
+        options,
+        nodes,
+        operations,
+        rows,
+        &words[..],
+        &numbers[..],
+        &result_operations[..],
+        &result_rows[..],
+    );
+    if model::number_of(a) != 0 {
+        return refused(a);
+    }
+    let shape = layout::shape_of(counts, options.max_packed_words);
+    run(
+        nodes,
+        operations,
+        rows,
+        words,
+        numbers,
+        result_operations,
+        result_rows,
+        shape,
+        options,
+    )
 }

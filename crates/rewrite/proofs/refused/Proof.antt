@@ -1,4 +1,5 @@
-use Rattle.rewrite.specs.Call.{refused-is}
+-- A refusal. Assumes nothing.
+use Rattle.rewrite.specs.Reply.{refused-is}
 use borrow.Author.Needs.{needs}
 use Rattle.rewrite.proofs.refused.Statement.{statement}
 use Rattle.rewrite.proofs.refused.Tie as tie

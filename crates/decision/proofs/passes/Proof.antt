@@ -1,0 +1,99 @@
+-- The start, the passes, the end. Assumes nothing.
+use Rattle.decision.specs.Decision.{first-run, passes-limit, passes-end, passes-done}
+use borrow.Author.Needs.{needs}
+use native.Mathlib.Omega.{arith}
+use Rattle.decision.proofs.passes.Statement.{statement}
+use Rattle.decision.proofs.passes.Tie as tie
+
+start-run-requires : tie.Need-start-run-requires
+start-run-requires c κs =
+    let start = c .before .before .before .before .before .before .before in
+    start .pre .0
+
+passes-requires : tie.Need-passes-requires
+passes-requires c κs =
+    let at-start-run = c .before .before .before .before in
+    let start = at-start-run .before .before .before .before .before .before .before .before in
+    (record { p = _; w = _; at = first-run (start .pre .0) (at-start-run .start-run .ensures) }, start .pre .1)
+
+enum-known-e : tie.Need-enum-known-e
+enum-known-e c = search needs
+
+enum-told : tie.Need-enum-told
+enum-told c = search needs
+
+same-length : tie.Need-same-length
+same-length c =
+    let at-passes = c .before .before .before .before .before .before in
+    let at-start-run = at-passes .before .before .before .before .before in
+    let start = at-start-run .before .before .before .before .before .before .before .before in
+    passes-limit (start .args .options) (start .pre .0) (at-start-run .start-run .ensures) (at-passes .passes .ensures .0)
+    (at-passes .passes .ensures .1 _ _ (first-run (start .pre .0) (at-start-run .start-run .ensures))) (c .enum-told .given .1) .long .words
+
+same-length-2 : tie.Need-same-length-2
+same-length-2 c =
+    let at-passes = c .before .before .before .before .before .before in
+    let at-start-run = at-passes .before .before .before .before .before in
+    let start = at-start-run .before .before .before .before .before .before .before .before in
+    passes-limit (start .args .options) (start .pre .0) (at-start-run .start-run .ensures) (at-passes .passes .ensures .0)
+    (at-passes .passes .ensures .1 _ _ (first-run (start .pre .0) (at-start-run .start-run .ensures))) (c .enum-told .given .1) .long .numbers
+
+returns : tie.Need-returns
+returns c =
+    let at-passes = c .before .before .before .before .before .before in
+    let at-start-run = at-passes .before .before .before .before .before in
+    let start = at-start-run .before .before .before .before .before .before .before .before in
+    passes-limit (start .args .options) (start .pre .0) (at-start-run .start-run .ensures) (at-passes .passes .ensures .0)
+    (at-passes .passes .ensures .1 _ _ (first-run (start .pre .0) (at-start-run .start-run .ensures))) (c .enum-told .given .1)
+
+end-run-requires : tie.Need-end-run-requires
+end-run-requires c κs =
+    let at-e = c .before .before .before in
+    let at-passes = at-e .before .before .before .before .before .before in
+    let at-start-run = at-passes .before .before .before .before .before in
+    let start = at-start-run .before .before .before .before .before .before .before .before in
+    passes-end (start .args .options) (start .pre .0) (at-start-run .start-run .ensures) (at-passes .passes .ensures .0)
+    (at-passes .passes .ensures .1 _ _ (first-run (start .pre .0) (at-start-run .start-run .ensures))) _ (at-e .e .given .1)
+
+same-length-3 : tie.Need-same-length-3
+same-length-3 c =
+    let at-end-run = c .before .before in
+    let at-passes = at-end-run .before .before .before .before .before .before .before .before .before .before in
+    let at-start-run = at-passes .before .before .before .before .before in
+    let start = at-start-run .before .before .before .before .before .before .before .before in
+    passes-done (start .args .options) (start .pre .0) (at-start-run .start-run .ensures) (at-passes .passes .ensures .0)
+    (at-passes .passes .ensures .1 _ _ (first-run (start .pre .0) (at-start-run .start-run .ensures))) (at-end-run .end-run .ensures) .long .words
+
+same-length-4 : tie.Need-same-length-4
+same-length-4 c =
+    let at-end-run = c .before .before in
+    let at-passes = at-end-run .before .before .before .before .before .before .before .before .before .before in
+    let at-start-run = at-passes .before .before .before .before .before in
+    let start = at-start-run .before .before .before .before .before .before .before .before in
+    passes-done (start .args .options) (start .pre .0) (at-start-run .start-run .ensures) (at-passes .passes .ensures .0)
+    (at-passes .passes .ensures .1 _ _ (first-run (start .pre .0) (at-start-run .start-run .ensures))) (at-end-run .end-run .ensures) .long .numbers
+
+returns-2 : tie.Need-returns-2
+returns-2 c =
+    let at-end-run = c .before .before in
+    let at-passes = at-end-run .before .before .before .before .before .before .before .before .before .before in
+    let at-start-run = at-passes .before .before .before .before .before in
+    let start = at-start-run .before .before .before .before .before .before .before .before in
+    passes-done (start .args .options) (start .pre .0) (at-start-run .start-run .ensures) (at-passes .passes .ensures .0)
+    (at-passes .passes .ensures .1 _ _ (first-run (start .pre .0) (at-start-run .start-run .ensures))) (at-end-run .end-run .ensures)
+
+pub passes-spec : {M : Type 1} → statement M
+passes-spec =
+    tie.close
+    (tie.spec
+    start-run-requires
+    passes-requires
+    enum-known-e
+    enum-told
+    same-length
+    same-length-2
+    returns
+    end-run-requires
+    same-length-3
+    same-length-4
+    returns-2)

@@ -1,0 +1,4 @@
+pub mod Depth
+pub mod Start
+pub mod End
+pub mod Decision
