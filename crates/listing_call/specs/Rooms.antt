@@ -2,7 +2,7 @@
 use mathlib.Core.Path.{_≡_, ap, subst}
 use mathlib.Core.Option.{Option, some}
 use mathlib.Core.List.{List}
-use Prim.Native.Nat.{ℕ, _+_, _*_, _≤_}
+use Prim.Native.Nat.{ℕ, _*_, _≤_}
 use native.Mathlib.Nat.{le-trans}
 use native.Mathlib.Omega.{arith}
 use lib.ListN.{length}
@@ -21,7 +21,7 @@ use Rattle.theory.specs.ListingCalls.{optionsOf}
 use Rattle.run_wellformed.specs.RunWellFormed.{end-formed}
 use Rattle.run_wellformed.specs.Lengths.{LongEnough, long-enough, operations-fit, same-lengths}
 use Rattle.listing_print.specs.Results.{ResultPre}
-use Rattle.listing_call.specs.Call.{most, printedText}
+use Rattle.listing_call.specs.Call.{mostBytes, printedText}
 use Rattle.listing_call.specs.Reads.{Small}
 use Rattle.listing_call.specs.Replies.{operationsOut, axesOut, accepted-lines, printed-size}
 
@@ -39,11 +39,12 @@ module _ (t : Read) (small : Small t) (s : Lent) (yes′ : rewriting (optionsOf 
       let j = t .job in
       let fits = end-formed (programOf j) (checked-fine o j s (accepted-checks o j s yes′)) (rulesOf o) 8 .fits in
       let peak : endOf (rulesOf o) 8 (programOf j) .store .peak ≤ t .limit =
-      subst (λ (k : ℕ). k ≤ t .limit) (hermitian-peak (rulesOf o) 8 (programOf j) (accepted-hermitian o j s yes′)) (accepted-within o j s yes′) in
+      subst (λ (k : ℕ). k ≤ t .limit) (hermitian-peak (rulesOf o) 8 (programOf j) (accepted-hermitian o j s yes′))
+      (accepted-within o j s yes′) in
       le-trans fits peak
 
   -- the records and the text of an accepted call
-  pub result-asks : (room : ℕ) → most ≤ room
+  pub result-asks : (room : ℕ) → mostBytes ≤ room
       → ResultPre (rewriting (optionsOf t) (t .job) s .counters) (t .job .counts .qubits) (operationsOut t s yes′) (axesOut t s yes′)
       (rewriting (optionsOf t) (t .job) s .lent .words) (rewriting (optionsOf t) (t .job) s .lent .operations)
       (rewriting (optionsOf t) (t .job) s .lent .rows) room
@@ -62,6 +63,6 @@ module _ (t : Read) (small : Small t) (s : Lent) (yes′ : rewriting (optionsOf 
             );
         rows-in = omega (arith, long .rows, same .rows);
         axes-in = omega (arith, axes-words, long .words, same .words);
-        fits = le-trans (subst (λ (n : ℕ). n ≤ most) (ap (λ (ls : List (List ℕ)). length (textOf ls)) (accepted-lines t s yes′))
+        fits = le-trans (subst (λ (n : ℕ). n ≤ mostBytes) (ap (λ (ls : List (List ℕ)). length (textOf ls)) (accepted-lines t s yes′))
             (printed-size (some t) (rewriting (optionsOf t) (t .job) s .answer) (λ u e. subst Small (some-same e) small))) h;
       }

@@ -32,7 +32,7 @@ use Rattle.run_wellformed.specs.Lengths.{row-records-fit}
 use Rattle.result_effect.specs.Listing.{listedEnd, listedFirst, listed-lines}
 use Rattle.listing_print.specs.Columns.{columns, lineBytes}
 use Rattle.listing_print.specs.Texts.{text-append, line-length}
-use Rattle.listing_call.specs.Call.{most}
+use Rattle.listing_call.specs.Call.{mostBytes}
 use Rattle.listing_call.specs.Reads.{Small, read-small}
 
 -- ---- a text's length: a column for each field, a newline for each line
@@ -45,8 +45,9 @@ text-size (x ∷ ls) =
     ∙ (let e : lineBytes (length x) + (length (flatten ls) * columns + length ls) ≡ length (x ++ flatten ls) * columns + suc (length ls)
     = omega (arith, length-append x (flatten ls)) in e)
 
--- lines of at most k fields
-fields-most : (k : ℕ) {A : Type 0} (f : A → List ℕ) → ((x : A) → length (f x) ≤ k) → (xs : List A) → length (flatten (map f xs)) ≤ length xs * k
+-- lines of at mostBytes k fields
+fields-most : (k : ℕ) {A : Type 0} (f : A → List ℕ) → ((x : A) → length (f x) ≤ k) → (xs : List A)
+    → length (flatten (map f xs)) ≤ length xs * k
 unfolding flatten
 fields-most k f h [] = omega (arith, zero-mul k)
 fields-most k f h (x ∷ xs) = omega (arith, h x, fields-most k f h xs, length-append (f x) (flatten (map f xs)), suc-mul (length xs) k)
@@ -71,7 +72,7 @@ support-few l w = omega (arith, rising-length 0 (64 * l) (support l w) (support-
 axis-size : (f : ℕ → List ℕ) → ((q : ℕ) → length (f q) ≤ 3) → (qs : List ℕ) → length (textOf (map f qs)) ≤ lineBytes 3 * length qs
 axis-size f h qs = omega (arith, text-size (map f qs), fields-most 3 f h qs, length-map qs f)
 
--- axes of one word each plane: 64 lines at most
+-- axes of one word each plane: 64 lines at mostBytes
 letters-size : (l : ℕ) → l ≡ 1 → (id : ℕ) (ws : List (List ℕ)) → length (textOf (letterLines l id ws)) ≤ 64 * lineBytes 3 * length ws
 unfolding letterLines
 letters-size l e id [] = unfold textOf flatten in (omega arith)
@@ -121,7 +122,8 @@ module _ (t : Read) (small : Small t) (yes′ : listingAnswer (some t) ≡ Accep
   rows-size : length (textOf (rowResults p e)) ≤ lineBytes 4 * 128
   unfolding programOf
   rows-size =
-      omega (arith, text-size (rowResults p e), row-records-fit p e, rowResults-length p e, records-length rowOf 4 (2 * t .job .counts .qubits) (t .job .rows), small .qubits)
+      let n = records-length rowOf 4 (2 * t .job .counts .qubits) (t .job .rows) in
+      omega (arith, text-size (rowResults p e), row-records-fit p e, rowResults-length p e, small .qubits)
 
   within-limit : e .store .peak ≤ t .limit
   within-limit =
@@ -139,7 +141,7 @@ module _ (t : Read) (small : Small t) (yes′ : listingAnswer (some t) ≡ Accep
       let b : length (e .store .axes) ≤ t .limit / 2 = subst (λ (l : ℕ). length (e .store .axes) ≤ t .limit / (2 * l)) one-word a in
       omega (arith, small .limit)
 
-  result-size : length (textOf (jobLines t)) ≤ most
+  result-size : length (textOf (jobLines t)) ≤ mostBytes
   result-size =
       let o = map resultLine (operationResults p e) in
       let f = rowResults p e in
@@ -167,7 +169,8 @@ run-refused : (r : Rules) (p : Program) (limit : ℕ) (w : Run) → accepts (ans
     → runLines r p limit w ≡ refusalLines (answerOf limit w)
 unfolding runLines answerOf endLines
 run-refused r p limit w =
-    on-if (λ (a : Answer). accepts a ≡ false → runLines r p limit w ≡ refusalLines a) (ltb limit (w .peak)) ExpansionLimit (endAnswer (w .ending))
+    on-if (λ (a : Answer). accepts a ≡ false → runLines r p limit w ≡ refusalLines a) (ltb limit (w .peak)) ExpansionLimit
+    (endAnswer (w .ending))
     (λ e h. if-true _ _ e) (λ e h. if-false _ _ e ∙ end-refused (w .ending) h)
   where
     end-refused : (x : Ending) → accepts (endAnswer x) ≡ false → endLines r p x ≡ refusalLines (endAnswer x)
@@ -179,7 +182,8 @@ pub lines-refused : (x : Option Read) → accepts (listingAnswer x) ≡ false �
 unfolding linesOf listingAnswer jobLines
 lines-refused none h = refl
 lines-refused (some t) k =
-    on-if (λ (a : Answer). accepts a ≡ false → jobLines t ≡ refusalLines a) (accepts (checksOf t)) (answerOf (t .limit) (listedRun t)) (checksOf t)
+    on-if (λ (a : Answer). accepts a ≡ false → jobLines t ≡ refusalLines a) (accepts (checksOf t)) (answerOf (t .limit) (listedRun t))
+    (checksOf t)
     (λ e h. if-true _ _ e ∙ run-refused (rulesOf (optionsOf t)) (programOf (t .job)) (t .limit) (listedRun t) h)
     (λ e h. if-false _ _ e) k
 
@@ -187,17 +191,18 @@ none-refused : (x : Option Read) → x ≡ none → accepts (listingAnswer x) �
 unfolding listingAnswer
 none-refused x f e = true≢false (sym e ∙ ap (λ (z : Option Read). accepts (listingAnswer z)) f)
 
-pub lines-size : (x : Option Read) → ((t : Read) → x ≡ some t → Small t) → length (textOf (linesOf x)) ≤ most
+pub lines-size : (x : Option Read) → ((t : Read) → x ≡ some t → Small t) → length (textOf (linesOf x)) ≤ mostBytes
 lines-size x small = go (accepts (listingAnswer x)) refl x refl
   where
-    go : (b : Bool) → accepts (listingAnswer x) ≡ b → (y : Option Read) → x ≡ y → length (textOf (linesOf x)) ≤ most
+    go : (b : Bool) → accepts (listingAnswer x) ≡ b → (y : Option Read) → x ≡ y → length (textOf (linesOf x)) ≤ mostBytes
     go false e y f = omega (arith, ap (λ (ls : List (List ℕ)). length (textOf ls)) (lines-refused x e), refusal-size (listingAnswer x))
     go true e none f = absurd (none-refused x f e)
     go true e (some t) f =
-        subst (λ (z : Option Read). length (textOf (linesOf z)) ≤ most) (sym f)
-        (unfold linesOf in (result-size t (small t f) (accepts-only (listingAnswer (some t)) (ap (λ z. accepts (listingAnswer z)) (sym f) ∙ e))))
+        subst (λ (z : Option Read). length (textOf (linesOf z)) ≤ mostBytes) (sym f)
+        (unfold linesOf in (result-size t (small t f)
+        (accepts-only (listingAnswer (some t)) (ap (λ z. accepts (listingAnswer z)) (sym f) ∙ e))))
 
 -- no listing has more bytes
-pub listing-size : (text : List ℕ) → length (listing text) ≤ most
+pub listing-size : (text : List ℕ) → length (listing text) ≤ mostBytes
 unfolding listing
 listing-size text = lines-size (read text) (λ t e. read-small text t e)

@@ -1,5 +1,5 @@
 -- Demand 3 and the effect as promises about calls of Listing: "A Listing's results and counters are what it prints." Assumes nothing.
-use mathlib.Core.Path.{_≡_, refl, sym, ap, _∙_}
+use mathlib.Core.Path.{_≡_, refl, sym, ap, _∙_, subst}
 use mathlib.Core.Logic.{_⊎_, inl, inr}
 use mathlib.Core.Bool.{Bool, true, false, true≢false, _||_}
 use mathlib.Core.Option.{Option, some}
@@ -32,44 +32,44 @@ use Rattle.theory.specs.Checked.{checking-program}
 use Rattle.theory.specs.Replies.{refusal-answer, ran}
 use Rattle.theory.specs.Limit.{SameButLimit, SameResults, larger-limit, checks-again, results-answer}
 use Rattle.theory.specs.AcceptedRun.{finishOf}
-use Rattle.theory.specs.ListingCalls.{optionsOf, listingAnswer, defaults-good, same-text-at-larger-limit, Listed, no-more-listed}
+use Rattle.theory.specs.ListingCalls.{optionsOf, listingAnswer, read-limit, defaults-good, same-text-at-larger-limit, Listed, no-more-listed}
 use Rattle.result_effect.specs.Definitions.{operationsRead, rowsRead}
 use Rattle.result_effect.specs.Listing.{listedFirst, listedRest, listedAxes, listed-text}
 use Rattle.run_effect.specs.RunEffect.{Effects, sourceEffect, resultEffect}
 use Rattle.run_effect.specs.Calls.{listing-keeps-effect}
-use Rattle.listing_call.specs.Call.{most, replyTo, printedText, Called, called, noRoom, listingCall}
+use Rattle.listing_call.specs.Call.{mostBytes, replyTo, printedText, ListingReply, printedReply, noRoom, listingCall}
 use Rattle.listing_call.specs.Reads.{read-small}
 use Rattle.listing_call.specs.Replies.{reply-answer, other-lines, printed-size}
 
 -- what a call printed
-abbrev pub printed : Called → List ℕ
+abbrev pub printed : ListingReply → List ℕ
 printed c = take (c .size) (c .output)
 
-called-text : (x : Option Read) (out : List ℕ) (r : Reply) → printed (called x out r) ≡ printedText x (r .answer)
-unfolding called put
+called-text : (x : Option Read) (out : List ℕ) (r : Reply) → printed (printedReply x out r) ≡ printedText x (r .answer)
+unfolding printedReply put
 called-text x out r = take-append-seam (printedText x (r .answer)) (drop (0 + length (printedText x (r .answer))) out)
 
 -- what is printed lies in the output
 pub call-fits : (text out : List ℕ) (s : Lent) → listingCall text out s .size ≤ length out
-unfolding listingCall called noRoom
+unfolding listingCall printedReply noRoom
 call-fits text out s =
-    on-if (λ (c : Called). c .size ≤ length out) (ltb (length out) most) (noRoom out s) (called (read text) out (replyTo (read text) s))
+    on-if (λ (c : ListingReply). c .size ≤ length out) (ltb (length out) mostBytes) (noRoom out s) (printedReply (read text) out (replyTo (read text) s))
     (λ e. omega arith)
-    (λ e. le-trans (printed-size (read text) _ (λ t f. read-small text t f)) (ltb-false (length out) most e))
+    (λ e. le-trans (printed-size (read text) _ (λ t f. read-small text t f)) (ltb-false (length out) mostBytes e))
 
 -- ---- one call that 3 does not refuse
 
 module _ (text out : List ℕ) (s : Lent) (taken : listingCall text out s .answer ≡ SliceShort → ⊥) where
   -- there was room
-  call-is : listingCall text out s ≡ called (read text) out (replyTo (read text) s)
-  call-is = go (ltb (length out) most) refl
+  call-is : listingCall text out s ≡ printedReply (read text) out (replyTo (read text) s)
+  call-is = go (ltb (length out) mostBytes) refl
     where
-      go : (b : Bool) → ltb (length out) most ≡ b → listingCall text out s ≡ called (read text) out (replyTo (read text) s)
-      go true e = absurd (taken (unfold listingCall noRoom in (ap (λ (c : Called). c .answer) (if-true _ _ e))))
+      go : (b : Bool) → ltb (length out) mostBytes ≡ b → listingCall text out s ≡ printedReply (read text) out (replyTo (read text) s)
+      go true e = absurd (taken (unfold listingCall noRoom in (ap (λ (c : ListingReply). c .answer) (if-true _ _ e))))
       go false e = unfold listingCall in (if-false _ _ e)
 
   call-reply : listingCall text out s .answer ≡ replyTo (read text) s .answer
-  call-reply = ap (λ (c : Called). c .answer) call-is ∙ unfold called in refl
+  call-reply = ap (λ (c : ListingReply). c .answer) call-is ∙ unfold printedReply in refl
 
   -- it prints what the model's listing prints
   pub call-prints : printed (listingCall text out s) ≡ listing text
@@ -101,79 +101,61 @@ not-option o j s good e f =
     go false false true g h = absurd (omega arith)
     go false false false g h = absurd (omega (arith, ap numberOf e))
 
+-- ---- 0 and 9 stay
+
+abbrev pub ZeroOrNine : Answer → Type 0
+ZeroOrNine a = (a ≡ Accepted) ⊎ (a ≡ NonHermitianAxis)
+
+not-short : (a : Answer) → ZeroOrNine a → a ≡ SliceShort → ⊥
+not-short a (inl e) f = let z : _≡_ {A = ℕ} 0 1 = cc in omega arith
+not-short a (inr e) f = let z : _≡_ {A = ℕ} 0 1 = cc in omega arith
+
+not-limit : (a : Answer) → ZeroOrNine a → a ≡ ExpansionLimit → ⊥
+not-limit a (inl e) f = let z : _≡_ {A = ℕ} 0 1 = cc in omega arith
+not-limit a (inr e) f = let z : _≡_ {A = ℕ} 0 1 = cc in omega arith
+
+passed : (o : Options) (j : Job) (s : Lent) → ZeroOrNine (rewriting o j s .answer) → checking o j s ≡ Accepted
+passed o j s (inl e) = ran o j s Accepted e (inl refl)
+passed o j s (inr e) = ran o j s NonHermitianAxis e (inr (omega arith))
+
 -- ---- two calls: "alike if their counts, counted records and options are equal"; "long enough if 3 does not refuse them"
 
 module _ (text text′ out out′ : List ℕ) (s s′ : Lent) (t t′ : Read) (reads : read text ≡ some t) (reads′ : read text′ ≡ some t′)
     (alike : Alike (t .job) (t′ .job)) where
-  -- accepted (0) or non-Hermitian (9) at one limit: at every larger limit Rewriting replies the same
-  pub same-reply : t .limit ≤ t′ .limit
-      → (rewriting (optionsOf t) (t .job) s .answer ≡ Accepted) ⊎ (rewriting (optionsOf t) (t .job) s .answer ≡ NonHermitianAxis)
+  -- 0 or 9 at one limit: at every larger limit Rewriting replies the same
+  pub same-reply : t .limit ≤ t′ .limit → ZeroOrNine (rewriting (optionsOf t) (t .job) s .answer)
       → (rewriting (optionsOf t′) (t′ .job) s′ .answer ≡ SliceShort → ⊥)
       → SameResults (optionsOf t) (t .job) s s′ (rewriting (optionsOf t) (t .job) s) (rewriting (optionsOf t′) (t′ .job) s′)
   same-reply le h n =
       let o = optionsOf t in
       let o′ = optionsOf t′ in
       let same : SameButLimit o o′ = record { rules = unfold rulesOf absorptionOf in refl; rounds = refl } in
-      let c = passed h in
+      let c = passed o (t .job) s h in
       let program : checkProgram (t′ .job) ≡ Accepted = alike-checked (t .job) (t′ .job) alike ∙ checking-program o (t .job) s c in
-      let good = defaults-good (t′ .limit) (read-small text′ t′ reads′ .limit) in
+      let good = defaults-good (t′ .limit) (read-limit text′ t′ reads′) in
       let c′ = checks-again o o′ (t .job) (t′ .job) s s′ alike same c (not-option o′ (t′ .job) s′ good program)
       (λ e. n (refusal-answer o′ (t′ .job) s′ (ap accepts e) ∙ e)) in
-      larger-limit o o′ (t .job) (t′ .job) s s′ alike same c c′ le (not-ten h)
-    where
-      passed : (rewriting (optionsOf t) (t .job) s .answer ≡ Accepted) ⊎ (rewriting (optionsOf t) (t .job) s .answer ≡ NonHermitianAxis)
-          → checking (optionsOf t) (t .job) s ≡ Accepted
-      passed (inl e) = ran (optionsOf t) (t .job) s Accepted e (inl refl)
-      passed (inr e) = ran (optionsOf t) (t .job) s NonHermitianAxis e (inr (omega arith))
+      larger-limit o o′ (t .job) (t′ .job) s s′ alike same c c′ le (not-limit (rewriting o (t .job) s .answer) h)
 
-      not-ten : (rewriting (optionsOf t) (t .job) s .answer ≡ Accepted) ⊎ (rewriting (optionsOf t) (t .job) s .answer ≡ NonHermitianAxis)
-          → rewriting (optionsOf t) (t .job) s .answer ≡ ExpansionLimit → ⊥
-      not-ten (inl e) f = let z : _≡_ {A = ℕ} 0 1 = cc in omega arith
-      not-ten (inr e) f = let z : _≡_ {A = ℕ} 0 1 = cc in omega arith
+  module _ (le : t .limit ≤ t′ .limit) (h : ZeroOrNine (listingCall text out s .answer))
+      (n′ : listingCall text′ out′ s′ .answer ≡ SliceShort → ⊥) where
+    n : listingCall text out s .answer ≡ SliceShort → ⊥
+    n = not-short (listingCall text out s .answer) h
 
-  -- so the same answer
-  pub same-answer : t .limit ≤ t′ .limit
-      → (listingCall text out s .answer ≡ Accepted) ⊎ (listingCall text out s .answer ≡ NonHermitianAxis)
-      → (listingCall text′ out′ s′ .answer ≡ SliceShort → ⊥)
-      → listingCall text′ out′ s′ .answer ≡ listingCall text out s .answer
-  unfolding replyTo
-  same-answer le h n′ =
-      let a = call-reply text out s (short h) ∙ ap (λ (x : Option Read). replyTo x s .answer) reads in
-      let a′ = call-reply text′ out′ s′ n′ ∙ ap (λ (x : Option Read). replyTo x s′ .answer) reads′ in
-      a′ ∙ results-answer (same-reply le (there a h) (λ e. n′ (a′ ∙ e))) ∙ sym a
-    where
-      short : (listingCall text out s .answer ≡ Accepted) ⊎ (listingCall text out s .answer ≡ NonHermitianAxis)
-          → listingCall text out s .answer ≡ SliceShort → ⊥
-      short (inl e) f = let z : _≡_ {A = ℕ} 0 1 = cc in omega arith
-      short (inr e) f = let z : _≡_ {A = ℕ} 0 1 = cc in omega arith
+    -- so the same answer
+    pub same-answer : listingCall text′ out′ s′ .answer ≡ listingCall text out s .answer
+    unfolding replyTo
+    same-answer =
+        let a = call-reply text out s n ∙ ap (λ (x : Option Read). replyTo x s .answer) reads in
+        let a′ = call-reply text′ out′ s′ n′ ∙ ap (λ (x : Option Read). replyTo x s′ .answer) reads′ in
+        a′ ∙ results-answer (same-reply le (subst ZeroOrNine a h) (λ e. n′ (a′ ∙ e))) ∙ sym a
 
-      there : listingCall text out s .answer ≡ rewriting (optionsOf t) (t .job) s .answer
-          → (listingCall text out s .answer ≡ Accepted) ⊎ (listingCall text out s .answer ≡ NonHermitianAxis)
-          → (rewriting (optionsOf t) (t .job) s .answer ≡ Accepted) ⊎ (rewriting (optionsOf t) (t .job) s .answer ≡ NonHermitianAxis)
-      there a (inl e) = inl (sym a ∙ e)
-      there a (inr e) = inr (sym a ∙ e)
-
-  -- and the same text, which has the counters and the results
-  pub same-at-larger-limit : t .limit ≤ t′ .limit
-      → (listingCall text out s .answer ≡ Accepted) ⊎ (listingCall text out s .answer ≡ NonHermitianAxis)
-      → (listingCall text′ out′ s′ .answer ≡ SliceShort → ⊥)
-      → printed (listingCall text′ out′ s′) ≡ printed (listingCall text out s)
-  same-at-larger-limit le h n′ =
-      let n : listingCall text out s .answer ≡ SliceShort → ⊥ = not-short h in
-      call-prints text′ out′ s′ n′
-      ∙ same-text-at-larger-limit text text′ t t′ reads reads′ alike le (answered n h)
-      ∙ sym (call-prints text out s n)
-    where
-      not-short : (listingCall text out s .answer ≡ Accepted) ⊎ (listingCall text out s .answer ≡ NonHermitianAxis)
-          → listingCall text out s .answer ≡ SliceShort → ⊥
-      not-short (inl e) f = let z : _≡_ {A = ℕ} 0 1 = cc in omega arith
-      not-short (inr e) f = let z : _≡_ {A = ℕ} 0 1 = cc in omega arith
-
-      answered : (listingCall text out s .answer ≡ SliceShort → ⊥)
-          → (listingCall text out s .answer ≡ Accepted) ⊎ (listingCall text out s .answer ≡ NonHermitianAxis)
-          → (listingAnswer (some t) ≡ Accepted) ⊎ (listingAnswer (some t) ≡ NonHermitianAxis)
-      answered n (inl e) = inl (sym (call-answers text out s n t reads) ∙ e)
-      answered n (inr e) = inr (sym (call-answers text out s n t reads) ∙ e)
+    -- and the same text, which has the counters and the results
+    pub same-at-larger-limit : printed (listingCall text′ out′ s′) ≡ printed (listingCall text out s)
+    same-at-larger-limit =
+        call-prints text′ out′ s′ n′
+        ∙ same-text-at-larger-limit text text′ t t′ reads reads′ alike le (subst ZeroOrNine (call-answers text out s n t reads) h)
+        ∙ sym (call-prints text out s n)
 
 -- ---- two accepted calls, whichever limit is the larger
 
@@ -185,29 +167,27 @@ pub both-accepted : (text text′ out out′ : List ℕ) (s s′ : Lent) (t t′
     → printed (listingCall text′ out′ s′) ≡ printed (listingCall text out s)
 both-accepted text text′ out out′ s s′ t t′ reads reads′ alike e e′ = go (decLt (t′ .limit) (t .limit))
   where
-    not-short : (a : Answer) → a ≡ Accepted → a ≡ SliceShort → ⊥
-    not-short a e f = let z : _≡_ {A = ℕ} 0 1 = cc in omega arith
-
     go : Dec (t′ .limit < t .limit) → printed (listingCall text′ out′ s′) ≡ printed (listingCall text out s)
     go (yes h) =
-        sym (same-at-larger-limit text′ text out′ out s′ s t′ t reads′ reads (alike-back alike) (omega arith) (inl e′) (not-short _ e))
-    go (no h) = same-at-larger-limit text text′ out out′ s s′ t t′ reads reads′ alike (omega arith) (inl e) (not-short _ e′)
+        sym (same-at-larger-limit text′ text out′ out s′ s t′ t reads′ reads (alike-back alike) (omega arith) (inl e′) (not-short _ (inl e)))
+    go (no h) = same-at-larger-limit text text′ out out′ s s′ t t′ reads reads′ alike (omega arith) (inl e) (not-short _ (inl e′))
 
 -- ---- an accepted call
 
 module _ (text out : List ℕ) (s : Lent) (t : Read) (reads : read text ≡ some t) (yes′ : listingCall text out s .answer ≡ Accepted) where
-  not-short′ : listingCall text out s .answer ≡ SliceShort → ⊥
-  not-short′ f = let z : _≡_ {A = ℕ} 0 1 = cc in omega arith
+  taken : listingCall text out s .answer ≡ SliceShort → ⊥
+  taken = not-short (listingCall text out s .answer) (inl yes′)
 
   pub answers : listingAnswer (some t) ≡ Accepted
-  answers = sym (call-answers text out s not-short′ t reads) ∙ yes′
+  answers = sym (call-answers text out s taken t reads) ∙ yes′
 
   -- its text is the first line and the rest, of which the theorems speak
   pub prints : printed (listingCall text out s) ≡ textOf (listedFirst t answers ∷ listedRest t answers)
-  prints = call-prints text out s not-short′ ∙ listed-text t answers text reads
+  prints = call-prints text out s taken ∙ listed-text t answers text reads
 
   -- no more T is printed than the source has
-  pub no-more-printed : Listed t (countersOf (rulesOf (optionsOf t)) (programOf (t .job)) (finishOf (rulesOf (optionsOf t)) 8 (programOf (t .job))))
+  pub no-more-printed : Listed t
+      (countersOf (rulesOf (optionsOf t)) (programOf (t .job)) (finishOf (rulesOf (optionsOf t)) 8 (programOf (t .job))))
       (endOf (rulesOf (optionsOf t)) 8 (programOf (t .job)))
   no-more-printed = no-more-listed t answers
 

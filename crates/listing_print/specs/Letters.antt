@@ -25,7 +25,8 @@ pub no-letter : (l id : ℕ) (w : List ℕ) (q : ℕ) {c : ℕ} → c ≡ letter
 unfolding letterText
 no-letter l id w q e z = sym (if-true _ _ (eq-eqb (letterAt l w q) 0 (sym e ∙ z)))
 
-pub one-letter : (l id : ℕ) (w : List ℕ) (q : ℕ) {c : ℕ} → c ≡ letterAt l w q → (c ≡ 0 → ⊥) → lineOf (id ∷ q ∷ c ∷ []) ≡ letterText l id w q
+pub one-letter : (l id : ℕ) (w : List ℕ) (q : ℕ) {c : ℕ} → c ≡ letterAt l w q → (c ≡ 0 → ⊥)
+    → lineOf (id ∷ q ∷ c ∷ []) ≡ letterText l id w q
 unfolding letterText
 one-letter l id w q e n =
     ap (λ (k : ℕ). lineOf (id ∷ q ∷ k ∷ [])) e ∙ sym (if-false _ _ (ne-eqb (letterAt l w q) 0 (λ z. n (e ∙ z))))
