@@ -26,7 +26,7 @@ use Rattle.listing_read.specs.declared.Text.the-variants as Texts
 use Rattle.listing_read.specs.Views.{Room, readBy}
 use Rattle.listing_print.specs.Printed.{Printed}
 use Rattle.listing_print.specs.Results.{resultLines, ResultPre, replyLines, ReplyPre}
-use Rattle.listing_call.specs.Call.{most, replyTo, printedLines, printedText, Called, called, noRoom, listingCall}
+use Rattle.listing_call.specs.Call.{mostBytes, replyTo, printedLines, printedText, ListingReply, printedReply, noRoom, listingCall}
 use Rattle.listing_call.specs.Reads.{Small}
 use Rattle.listing_call.specs.Replies.{accepted-lines, refused-lines, bad-text}
 use Rattle.listing_call.specs.Rooms.{result-asks}
@@ -35,8 +35,9 @@ use Rattle.listing.specs.declared.Listed.{Listed}
 use Rattle.rewrite.specs.declared.Rewritten.{Rewritten}
 use Rattle.rewrite.specs.Call.{RewritingCall}
 
-abbrev pub calledAs : Listed → List ℕ → Lent → Called
-calledAs r out s = record { answer = r .answer; size = r .size; output = out; lent = s }
+-- what the code answers, the output and the lent slices, as one reply
+abbrev pub listingReplyOf : Listed → List ℕ → Lent → ListingReply
+listingReplyOf r out s = record { answer = r .answer; size = r .size; output = out; lent = s }
 
 -- ---- a read program: the call as Listing's
 
@@ -47,8 +48,7 @@ readTo c limit nodes operations rows = record {
     counts = c;
     nodes = take (c .nodes * 5) nodes;
     operations = take (c .operations * 6) operations;
-    rows =
-        take (2 * c .qubits * 4) rows;
+    rows = take (2 * c .qubits * 4) rows;
   };
   limit = limit;
 }
@@ -56,31 +56,36 @@ readTo c limit nodes operations rows = record {
 pub record RunPre (c : Counts) (limit : ℕ) (nodes operations rows out : List ℕ) : Type 0 where
   pub small : Small (readTo c limit nodes operations rows)
   pub read-room : Room nodes operations rows
-  pub room : most ≤ length out
+  pub room : mostBytes ≤ length out
 
 abbrev pub RunCall : Counts → ℕ → List ℕ → List ℕ → List ℕ → List ℕ → Lent → Listed → List ℕ → Lent → Type 0
 RunCall c limit nodes operations rows out s l out′ s′ =
-    calledAs l out′ s′ ≡ called (some (readTo c limit nodes operations rows)) out (replyTo (some (readTo c limit nodes operations rows)) s)
+    let t = some (readTo c limit nodes operations rows) in
+    listingReplyOf l out′ s′ ≡ printedReply t out (replyTo t s)
 
 -- ---- a call of Rewriting on what was read
 
 place-zero : {n m : ℕ} → n ≡ 0 + m → n ≡ m
 place-zero {n} {m} e = omega arith
 
-called-same : {a b : Answer} {n m : ℕ} {x y : List ℕ} {s z : Lent} → a ≡ b → n ≡ m → x ≡ y → s ≡ z
-    → _≡_ {A = Called} (record { answer = a; size = n; output = x; lent = s }) (record { answer = b; size = m; output = y; lent = z })
-called-same {a} {b} {n} {m} {x} {y} {s} {z} p q r u =
+reply-same : {a b : Answer} {n m : ℕ} {x y : List ℕ} {s z : Lent} → a ≡ b → n ≡ m → x ≡ y → s ≡ z
+    → _≡_ {A = ListingReply} (record { answer = a; size = n; output = x; lent = s }) (record { answer = b; size = m; output = y; lent = z })
+reply-same {a} {b} {n} {m} {x} {y} {s} {z} p q r u =
     ap (λ (i : Answer). record { answer = i; size = n; output = x; lent = s }) p
     ∙ ap (λ (i : ℕ). record { answer = b; size = i; output = x; lent = s }) q
     ∙ ap (λ (i : List ℕ). record { answer = b; size = m; output = i; lent = s }) r
     ∙ ap (λ (i : Lent). record { answer = b; size = m; output = y; lent = i }) u
+
+-- the lines of a reply of Rewriting, as it is handed back and lies in the lent slices
+abbrev pub linesBy : ℕ → Rewritten → Lent → List (List ℕ)
+linesBy qubits r s = replyLines (r .answer) (r .counters) qubits (r .operations) (r .axes) (s .words) (s .operations) (s .rows)
 
 module _ (t : Read) (small : Small t) (s : Lent) (r : Rewritten) (s′ : Lent) (call : RewritingCall (optionsOf t) (t .job) s r s′) where
   accepted-there : r .answer ≡ Accepted → rewriting (optionsOf t) (t .job) s .answer ≡ Accepted
   accepted-there e = sym (call .answer) ∙ e
 
   -- what printing asks
-  pub printing-asks : (room : ℕ) → most ≤ room
+  pub printing-asks : (room : ℕ) → mostBytes ≤ room
       → ReplyPre (r .answer) (r .counters) (t .job .counts .qubits) (r .operations) (r .axes) (s′ .words) (s′ .operations) (s′ .rows) room
   printing-asks room h = record {
     line = omega arith;
@@ -92,37 +97,34 @@ module _ (t : Read) (small : Small t) (s : Lent) (r : Rewritten) (s′ : Lent) (
   }
 
   -- the lines of what came are the lines that the call prints
-  lines-are : replyLines (r .answer) (r .counters) (t .job .counts .qubits) (r .operations) (r .axes) (s′ .words) (s′ .operations) (s′ .rows)
-      ≡ printedLines (some t) (rewriting (optionsOf t) (t .job) s .answer)
+  lines-are : linesBy (t .job .counts .qubits) r s′ ≡ printedLines (some t) (rewriting (optionsOf t) (t .job) s .answer)
   unfolding replyLines
   lines-are = go (accepts (r .answer)) refl
     where
       go : (b : Bool) → accepts (r .answer) ≡ b
-          → (if accepts (r .answer) then resultLines (r .counters) (t .job .counts .qubits) (r .operations) (r .axes) (s′ .words) (s′ .operations)
-          (s′ .rows)
-          else refusalLines (r .answer)) ≡ printedLines (some t) (rewriting (optionsOf t) (t .job) s .answer)
+          → linesBy (t .job .counts .qubits) r s′ ≡ printedLines (some t) (rewriting (optionsOf t) (t .job) s .answer)
       go true e =
           let yes′ = accepted-there (accepts-only (r .answer) e) in
           if-true _ _ e
-          ∙ ap (λ (z : Lent). resultLines (r .counters) (t .job .counts .qubits) (r .operations) (r .axes) (z .words) (z .operations) (z .rows))
-          (call .lent)
+          ∙ ap (λ (z : Lent).
+          resultLines (r .counters) (t .job .counts .qubits) (r .operations) (r .axes) (z .words) (z .operations) (z .rows)) (call .lent)
           ∙ rw (call .counters, call .operations yes′, call .axes yes′) (sym (accepted-lines t s yes′))
       go false e =
           if-false _ _ e ∙ ap refusalLines (call .answer)
           ∙ sym (refused-lines t s (ap accepts (sym (call .answer)) ∙ e))
 
   pub run-called : {out out′ : List ℕ} {n : ℕ}
-      → Printed out 0 (textOf (replyLines (r .answer) (r .counters) (t .job .counts .qubits) (r .operations) (r .axes) (s′ .words) (s′ .operations)
-      (s′ .rows))) out′ n
-      → calledAs (record { answer = r .answer; size = n }) out′ s′ ≡ called (some t) out (replyTo (some t) s)
-  unfolding called replyTo printedText
+      → Printed out 0 (textOf (linesBy (t .job .counts .qubits) r s′)) out′ n
+      → listingReplyOf (record { answer = r .answer; size = n }) out′ s′ ≡ printedReply (some t) out (replyTo (some t) s)
+  unfolding printedReply replyTo printedText
   run-called {out} {out′} {n} p =
       let text = ap textOf lines-are in
-      called-same (call .answer) (place-zero (p .place) ∙ ap length text) (p .store ∙ ap (put out 0) text) (call .lent)
+      reply-same (call .answer) (place-zero (p .place) ∙ ap length text) (p .store ∙ ap (put out 0) text) (call .lent)
 
 -- ---- Listing
 
-pub call-at : {o o′ : Options} {j : Job} {s : Lent} {r : Rewritten} {s′ : Lent} → o ≡ o′ → RewritingCall o j s r s′ → RewritingCall o′ j s r s′
+pub call-at : {o o′ : Options} {j : Job} {s : Lent} {r : Rewritten} {s′ : Lent} → o ≡ o′ → RewritingCall o j s r s′
+    → RewritingCall o′ j s r s′
 call-at {o} {o′} {j} {s} {r} {s′} e c = subst (λ (x : Options). RewritingCall x j s r s′) e c
 
 pub text-read : (text nodes operations rows : List ℕ) {r : Text} {c : Counts} {limit : ℕ} → readBy r nodes operations rows ≡ read text
@@ -130,36 +132,38 @@ pub text-read : (text nodes operations rows : List ℕ) {r : Text} {c : Counts} 
     → read text ≡ some (readTo c limit nodes operations rows)
 text-read text nodes operations rows e f = sym e ∙ ap (λ (x : Text). readBy x nodes operations rows) f
 
-pub text-bad : (text nodes operations rows : List ℕ) {r : Text} → readBy r nodes operations rows ≡ read text → r ≡ Texts.Bad → read text ≡ none
+pub text-bad : (text nodes operations rows : List ℕ) {r : Text} → readBy r nodes operations rows ≡ read text → r ≡ Texts.Bad
+    → read text ≡ none
 text-bad text nodes operations rows e f = sym e ∙ ap (λ (x : Text). readBy x nodes operations rows) f
 
 module _ (text out : List ℕ) (s : Lent) where
-  pub no-room : length out < most → calledAs (record { answer = SliceShort; size = 0 }) out s ≡ listingCall text out s
+  pub no-room : length out < mostBytes → listingReplyOf (record { answer = SliceShort; size = 0 }) out s ≡ listingCall text out s
   unfolding listingCall noRoom
-  no-room h = sym (if-true _ _ (lt-ltb (length out) most h))
+  no-room h = sym (if-true _ _ (lt-ltb (length out) mostBytes h))
 
-  module _ (room : most ≤ length out) where
-    pub run-listed : {x : Called} {t : Read} → read text ≡ some t → x ≡ called (some t) out (replyTo (some t) s) → x ≡ listingCall text out s
+  module _ (room : mostBytes ≤ length out) where
+    pub run-listed : {x : ListingReply} {t : Read} → read text ≡ some t → x ≡ printedReply (some t) out (replyTo (some t) s)
+        → x ≡ listingCall text out s
     unfolding listingCall
     run-listed e p =
-        p ∙ ap (λ (y : Option Read). called y out (replyTo y s)) (sym e) ∙ sym (if-false _ _ (le-ltb (length out) most room))
+        p ∙ ap (λ (y : Option Read). printedReply y out (replyTo y s)) (sym e) ∙ sym (if-false _ _ (le-ltb (length out) mostBytes room))
 
     pub bad-listed : {out′ : List ℕ} {n : ℕ} → read text ≡ none → Printed out 0 (textOf (refusalLines BadText)) out′ n
-        → calledAs (record { answer = BadText; size = n }) out′ s ≡ listingCall text out s
-    unfolding listingCall called replyTo refused printedText
+        → listingReplyOf (record { answer = BadText; size = n }) out′ s ≡ listingCall text out s
+    unfolding listingCall printedReply replyTo refused printedText
     bad-listed e p =
-        called-same refl (place-zero (p .place) ∙ ap (λ (ls : List (List ℕ)). length (textOf ls)) (sym bad-text))
+        reply-same refl (place-zero (p .place) ∙ ap (λ (ls : List (List ℕ)). length (textOf ls)) (sym bad-text))
         (p .store ∙ ap (λ (ls : List (List ℕ)). put out 0 (textOf ls)) (sym bad-text)) refl
-        ∙ ap (λ (y : Option Read). called y out (replyTo y s)) (sym e) ∙ sym (if-false _ _ (le-ltb (length out) most room))
+        ∙ ap (λ (y : Option Read). printedReply y out (replyTo y s)) (sym e) ∙ sym (if-false _ _ (le-ltb (length out) mostBytes room))
 
--- what a call of Listing is, and that its text lies in the output
+-- a call of Listing: its answer, its text and every lent slice are as 01 has them, and its text lies in the output
 pub record ListingCall (text out : List ℕ) (s : Lent) (l : Listed) (out′ : List ℕ) (s′ : Lent) : Type 0 where
-  pub same : calledAs l out′ s′ ≡ listingCall text out s
+  pub same : listingReplyOf l out′ s′ ≡ listingCall text out s
   pub fits : l .size ≤ length out
 
-pub whole : {text out : List ℕ} {s : Lent} {l : Listed} {out′ : List ℕ} {s′ : Lent} → calledAs l out′ s′ ≡ listingCall text out s
+pub listing-called : {text out : List ℕ} {s : Lent} {l : Listed} {out′ : List ℕ} {s′ : Lent} → listingReplyOf l out′ s′ ≡ listingCall text out s
     → ListingCall text out s l out′ s′
-whole {text} {out} {s} e = record {
+listing-called {text} {out} {s} e = record {
   same = e;
-  fits = subst (λ (c : Called). c .size ≤ length out) (sym e) (call-fits text out s);
+  fits = subst (λ (c : ListingReply). c .size ≤ length out) (sym e) (call-fits text out s);
 }

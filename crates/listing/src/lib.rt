@@ -6,7 +6,7 @@ use model::Answer;
 use model::Counts;
 
 // The most bytes that a listing has.
-pub const MOST: usize = 215361;
+pub const MOST_BYTES: usize = 215361;
 
 // What Listing answers: the text is the first `size` bytes of the output.
 pub struct Listed {
@@ -30,7 +30,8 @@ fn run(
     requires { ⌜ RunPre counts limit (now nodes) (now operations) (now rows) (now out) ⌝ }
     ensures { λ l. ⌜ RunCall counts limit (now (nodes .entry)) (now (operations .entry)) (now (rows .entry)) (now (out .entry))
         (lentOf (now (words .entry)) (now (numbers .entry)) (now («result_operations» .entry)) (now («result_rows» .entry)))
-        l (now (out .exit)) (lentOf (now (words .exit)) (now (numbers .exit)) (now («result_operations» .exit)) (now («result_rows» .exit))) ⌝ }
+        l (now (out .exit))
+        (lentOf (now (words .exit)) (now (numbers .exit)) (now («result_operations» .exit)) (now («result_rows» .exit))) ⌝ }
 {
     let a = counts.nodes * 5;
     let b = counts.operations * 6;
@@ -75,7 +76,7 @@ pub fn listing(
         l (now (output .exit))
         (lentOf (now (words .exit)) (now (numbers .exit)) (now («result_operations» .exit)) (now («result_rows» .exit))) ⌝ }
 {
-    if output.len() < MOST {
+    if output.len() < MOST_BYTES {
         return Listed {
             answer: Answer::SliceShort,
             size: 0,

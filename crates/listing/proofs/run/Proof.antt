@@ -26,7 +26,8 @@ defaults-requires c κs = search needs
 slice-aggregate-rewrite : tie.Need-slice-aggregate-rewrite
 slice-aggregate-rewrite c =
     let s = c .before .before .before .before .before .before .before .before .before .before .before .before .before in
-    sym (length-take-le (s .args .counts .nodes * 5) (s .args .nodes .now) (omega (arith, s .pre .small .nodes, s .pre .read-room .nodes-room)))
+    sym (length-take-le (s .args .counts .nodes * 5) (s .args .nodes .now)
+    (omega (arith, s .pre .small .nodes, s .pre .read-room .nodes-room)))
 
 slice-aggregate-rewrite-2 : tie.Need-slice-aggregate-rewrite-2
 slice-aggregate-rewrite-2 c =
@@ -37,7 +38,8 @@ slice-aggregate-rewrite-2 c =
 slice-aggregate-rewrite-3 : tie.Need-slice-aggregate-rewrite-3
 slice-aggregate-rewrite-3 c =
     let s = c .before .before .before .before .before .before .before .before .before .before .before .before .before .before .before in
-    sym (length-take-le (2 * s .args .counts .qubits * 4) (s .args .rows .now) (omega (arith, s .pre .small .qubits, s .pre .read-room .rows-room)))
+    sym (length-take-le (2 * s .args .counts .qubits * 4) (s .args .rows .now)
+    (omega (arith, s .pre .small .qubits, s .pre .read-room .rows-room)))
 
 rewrite-requires : tie.Need-rewrite-requires
 rewrite-requires c κs = search needs
