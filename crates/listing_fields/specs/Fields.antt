@@ -29,7 +29,8 @@ fields-length (suc n) line h =
     let d = length-drop columns line in
     go (numeral (unpadded (take columns line))) (fields-length n (drop columns line) (λ f. h (omega arith))))
   where
-    go : (x : Option ℕ) → fieldsFrom n (drop columns line) ≡ none → bind x (λ v. Option·map (λ vs. v ∷ vs) (fieldsFrom n (drop columns line))) ≡ none
+    go : (x : Option ℕ) → fieldsFrom n (drop columns line) ≡ none
+        → bind x (λ v. Option·map (λ vs. v ∷ vs) (fieldsFrom n (drop columns line))) ≡ none
     go none e = refl
     go (some v) e = none-mapped _ _ e
 
@@ -67,17 +68,20 @@ left-step n i line e l =
     ∙ ap₂ (λ (k : ℕ) (t : List ℕ). bind (numeral (unpadded (take k (drop (i * columns) line))))
     (λ v. Option·map (λ vs. v ∷ vs) (fieldsFrom (n - (i + 1)) t)))
     (let p : columns ≡ i * columns + columns - i * columns = omega arith in p)
-    (drop-drop columns (i * columns) line ∙ ap (λ (k : ℕ). drop k line) (let p : i * columns + columns ≡ (i + 1) * columns = omega arith in p))
+    (drop-drop columns (i * columns) line ∙ ap (λ (k : ℕ). drop k line)
+    (let p : i * columns + columns ≡ (i + 1) * columns = omega arith in p))
 
 module _ (n i : ℕ) (line to : List ℕ) (x : Option (List ℕ)) (e : length line ≡ n * columns) (l : i < n) (p : x ≡ fieldsAfter n line i to)
   where
-    pub fields-bad : {v : Option ℕ} → v ≡ numeral (unpadded (take (i * columns + columns - i * columns) (drop (i * columns) line))) → v ≡ none → none ≡ x
+    pub fields-bad : {v : Option ℕ} → v ≡ numeral (unpadded (take (i * columns + columns - i * columns) (drop (i * columns) line)))
+        → v ≡ none → none ≡ x
     unfolding bind fieldsAfter
     fields-bad q z =
         sym (p ∙ ap (Option·map (λ vs. take i to ++ vs))
         (left-step n i line e l ∙ ap (λ y. bind y (λ v. Option·map (λ vs. v ∷ vs) (fieldsLeft n (i + 1) line))) (sym q ∙ z)))
 
-    pub fields-more : (v : ℕ) {w : Option ℕ} → i < length to → w ≡ numeral (unpadded (take (i * columns + columns - i * columns) (drop (i * columns) line))) → w ≡ some v
+    pub fields-more : (v : ℕ) {w : Option ℕ} → i < length to
+        → w ≡ numeral (unpadded (take (i * columns + columns - i * columns) (drop (i * columns) line))) → w ≡ some v
         → x ≡ fieldsAfter n line (i + 1) (set to i v)
     unfolding bind fieldsAfter
     fields-more v b q z =

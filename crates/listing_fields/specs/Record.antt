@@ -20,7 +20,8 @@ use Rattle.listing_fields.specs.Field.{past, past-next, past-end}
 pub minus-here : (r : List ℕ) (i : ℕ) → i < length r → getD r i 0 ≡ minusOne → anyOf (eqb minusOne) (past r i) ≡ true
 unfolding anyOf
 minus-here r i l e =
-    ap (anyOf (eqb minusOne)) (past-next r i l) ∙ ap (λ (b : Bool). b || anyOf (eqb minusOne) (past r (i + 1))) (eq-eqb minusOne (getD r i 0) (sym e))
+    ap (anyOf (eqb minusOne)) (past-next r i l) ∙ ap (λ (b : Bool). b || anyOf (eqb minusOne) (past r (i + 1)))
+    (eq-eqb minusOne (getD r i 0) (sym e))
 
 pub minus-later : (r : List ℕ) (i : ℕ) → i < length r → (getD r i 0 ≡ minusOne → ⊥)
     → anyOf (eqb minusOne) (past r i) ≡ anyOf (eqb minusOne) (past r (i + 1))
@@ -55,7 +56,8 @@ module _ (r : List ℕ) (x : Option (List ℕ)) (read : some r ≡ x) where
   unfolding bind
   operation-minus b e t = sym (operation-is ∙ if-true _ _ (sym e ∙ t)) ∙ ap (λ y. bind y operationLine) read
 
-  pub operation-rest : (b : Bool) (y : Option (List ℕ)) → b ≡ anyOf (eqb minusOne) (take 4 r) → b ≡ false → y ≡ outcomeAndTarget r → y ≡ bind x operationLine
+  pub operation-rest : (b : Bool) (y : Option (List ℕ)) → b ≡ anyOf (eqb minusOne) (take 4 r) → b ≡ false → y ≡ outcomeAndTarget r
+      → y ≡ bind x operationLine
   unfolding bind
   operation-rest b y e t p = p ∙ sym (operation-is ∙ if-false _ _ (sym e ∙ t)) ∙ ap (λ y. bind y operationLine) read
 

@@ -24,7 +24,8 @@ not-end : (text : List ℕ) (d : ℕ) → d ≤ length text → (d ≡ length te
 unfolding isEmpty
 not-end text d l n = ap isEmpty (drop-cons text d 0 (omega arith))
 
-module _ (h text ns : List ℕ) (next : ℕ) (p : Place) (nodes-read : takenAt p text ns ≡ recordsIn 5 plainLine (fieldOf h 1) (drop next text)) where
+module _ (h text ns : List ℕ) (next : ℕ) (p : Place)
+    (nodes-read : takenAt p text ns ≡ recordsIn 5 plainLine (fieldOf h 1) (drop next text)) where
   -- what is left when the nodes are read
   abbrev afterNodes : Taken → Option Read
   afterNodes a =
@@ -70,4 +71,3 @@ module _ (h text ns : List ℕ) (next : ℕ) (p : Place) (nodes-read : takenAt p
 
         pub left-over : f ≤ length text → (f ≡ length text → ⊥) → none ≡ recordsOf h (drop next text)
         left-over l n = sym (if-false _ _ (not-end text f l n)) ∙ after-rows
-

@@ -64,14 +64,16 @@ pub header-in : (text : List ℕ) {r : FirstLine} {c : Counts} {limit next : ℕ
     → HeaderIn text (Fields c limit next)
 header-in text h e = subst (HeaderIn text) e h
 
-pub header-at : (text : List ℕ) {r : FirstLine} {c : Counts} {limit next : ℕ} {x : Option Taken} → headedAt r text ≡ x → r ≡ Fields c limit next
+pub header-at : (text : List ℕ) {r : FirstLine} {c : Counts} {limit next : ℕ} {x : Option Taken} → headedAt r text ≡ x
+    → r ≡ Fields c limit next
     → some (taken (fieldsOf c limit) (drop next text)) ≡ x
 header-at text e f = ap (λ (r : FirstLine). headedAt r text) (sym f) ∙ e
 
 pub header-bad : (text : List ℕ) {r : FirstLine} {x : Option Taken} → headedAt r text ≡ x → r ≡ FirstLines.Bad → none ≡ x
 header-bad text e f = ap (λ (r : FirstLine). headedAt r text) (sym f) ∙ e
 
-pub read-header : (text : List ℕ) (x : Option Read) (h s : List ℕ) → some (taken h s) ≡ oneRecord 4 allowed text → x ≡ recordsOf h s → x ≡ read text
+pub read-header : (text : List ℕ) (x : Option Read) (h s : List ℕ) → some (taken h s) ≡ oneRecord 4 allowed text → x ≡ recordsOf h s
+    → x ≡ read text
 unfolding readBytes bind
 read-header text x h s e p = p ∙ ap (λ y. bind y (λ a. recordsOf (a .values) (a .rest))) e ∙ sym (read-is text)
 

@@ -94,16 +94,19 @@ records-are {X} n fits (suc k) s more =
     ap (λ x. bind x (sliced n fits (suc k) more)) (lines-are s)
     ∙ go (λ t m. records-are n fits k t m) (cutLine s)
   where
-    line : ((t : List ℕ) (m : List ℕ → List (List ℕ) → Option X) → bind (linesIn t) (sliced n fits k m) ≡ bind (recordsIn n fits k t) (after m))
+    line : ((t : List ℕ) (m : List ℕ → List (List ℕ) → Option X) → bind (linesIn t) (sliced n fits k m)
+        ≡ bind (recordsIn n fits k t) (after m))
         → (c : Cut) (v : Option (List ℕ)) → bind (fieldsFrom n (c .line)) fits ≡ v
         → bind (whenCut s (some c)) (sliced n fits (suc k) more)
-        ≡ bind (bind (Option·map (λ r. taken r (c .rest)) v) (λ a. Option·map (behind (a .values)) (recordsIn n fits k (a .rest)))) (after more)
+        ≡ bind (bind (Option·map (λ r. taken r (c .rest)) v) (λ a. Option·map (behind (a .values)) (recordsIn n fits k (a .rest))))
+        (after more)
     line ih c none e = bad-line n fits k more (c .line) e (linesIn (c .rest))
     line ih c (some v) e =
         good-line n fits k more (c .line) v e (linesIn (c .rest)) ∙ ih (c .rest) (λ vs. more (v ++ vs))
         ∙ sym (shifted more v (recordsIn n fits k (c .rest)))
 
-    go : ((t : List ℕ) (m : List ℕ → List (List ℕ) → Option X) → bind (linesIn t) (sliced n fits k m) ≡ bind (recordsIn n fits k t) (after m))
+    go : ((t : List ℕ) (m : List ℕ → List (List ℕ) → Option X) → bind (linesIn t) (sliced n fits k m)
+        ≡ bind (recordsIn n fits k t) (after m))
         → (x : Option Cut) → bind (whenCut s x) (sliced n fits (suc k) more)
         ≡ bind (bind (bind x (λ c. Option·map (λ r. taken r (c .rest)) (bind (fieldsFrom n (c .line)) fits)))
         (λ a. Option·map (behind (a .values)) (recordsIn n fits k (a .rest)))) (after more)
@@ -182,7 +185,8 @@ module _ (h : List ℕ) where
   abbrev body : List (List ℕ) → Option Read
   body ls =
       bind (sliceOf 5 plainLine (take (fieldOf h 1) ls)) (λ ns.
-      bind (sliceOf 6 operationLine (take (fieldOf h 2) (drop (fieldOf h 1) ls))) (λ os. rowLines ns os (drop (fieldOf h 1 + fieldOf h 2) ls)))
+      bind (sliceOf 6 operationLine (take (fieldOf h 2) (drop (fieldOf h 1) ls)))
+      (λ os. rowLines ns os (drop (fieldOf h 1 + fieldOf h 2) ls)))
 
   last-rows : (ns os : List ℕ) (x : Option (List ℕ)) → bind x (λ rs. ended ns os rs []) ≡ Option·map (readOf h ns os) x
   unfolding bind ended isEmpty if_then_else_
@@ -193,7 +197,8 @@ module _ (h : List ℕ) where
   unfolding rowsOf
   rows-exact ns os ls e =
       sliced-some 4 plainLine (2 * fieldOf h 0) (ended ns os) ls (omega arith)
-      ∙ ap (λ t. bind (sliceOf 4 plainLine t) (λ rs. ended ns os rs (drop (2 * fieldOf h 0) ls))) (take-all (2 * fieldOf h 0) ls (omega arith))
+      ∙ ap (λ t. bind (sliceOf 4 plainLine t) (λ rs. ended ns os rs (drop (2 * fieldOf h 0) ls)))
+      (take-all (2 * fieldOf h 0) ls (omega arith))
       ∙ ap (λ t. bind (sliceOf 4 plainLine ls) (λ rs. ended ns os rs t)) (drop-of-length-le ls {i = 2 * fieldOf h 0} (omega arith))
       ∙ last-rows ns os (sliceOf 4 plainLine ls)
 
@@ -284,6 +289,7 @@ unfolding read readBytes oneRecord bind readLines linesIn
 read-is text = ap (λ x. bind x readLines) (lines-are text) ∙ go (cutLine text)
   where
     go : (x : Option Cut) → bind (whenCut text x) readLines
-        ≡ bind (bind x (λ c. Option·map (λ r. taken r (c .rest)) (bind (fieldsFrom 4 (c .line)) allowed))) (λ a. recordsOf (a .values) (a .rest))
+        ≡ bind (bind x (λ c. Option·map (λ r. taken r (c .rest)) (bind (fieldsFrom 4 (c .line)) allowed)))
+        (λ a. recordsOf (a .values) (a .rest))
     go none = on-if (λ y. bind y readLines ≡ none) (isEmpty text) (some []) none (λ e. refl) (λ e. refl)
     go (some c) = heads (c .line) (linesIn (c .rest)) (fieldsFrom 4 (c .line)) refl ∙ behind-header (c .rest) (fieldsFrom 4 (c .line))

@@ -54,9 +54,11 @@ cut-more text at e x h l n p =
     go : (y : Option Cut) → Option·map (longer (take (e - at) (drop at text))) (Option·map (longer (getD text e 0 ∷ [])) y)
         ≡ Option·map (longer (take (e - at) (drop at text) ++ (getD text e 0 ∷ []))) y
     go none = refl
-    go (some c) = ap (λ (s : List ℕ). some (cut s (c .rest))) (sym (append-assoc (take (e - at) (drop at text)) (getD text e 0 ∷ []) (c .line)))
+    go (some c) = ap (λ (s : List ℕ). some (cut s (c .rest)))
+        (sym (append-assoc (take (e - at) (drop at text)) (getD text e 0 ∷ []) (c .line)))
 
-pub cut-here : (text : List ℕ) (at e : ℕ) (x : Option Cut) → e < length text → getD text e 0 ≡ 10 → x ≡ cutFrom text at e → x ≡ cutAt text at e
+pub cut-here : (text : List ℕ) (at e : ℕ) (x : Option Cut) → e < length text → getD text e 0 ≡ 10 → x ≡ cutFrom text at e
+    → x ≡ cutAt text at e
 unfolding cutFrom cutLine cutAt
 cut-here text at e x l n p =
     p ∙ ap (λ (s : List ℕ). Option·map (longer (take (e - at) (drop at text))) (cutLine s)) (next-byte text e l)

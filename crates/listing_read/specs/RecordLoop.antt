@@ -76,7 +76,8 @@ module _ (n : ℕ) (fits : List ℕ → Option (List ℕ)) (text : List ℕ) (co
   unfolding recordsLeft recordsIn
   records-end to i next x e p =
       sym (p ∙ ap (λ (k : ℕ). Option·map (behind (take (k * n) to)) (recordsIn n fits (count - k) (drop next text))) e
-      ∙ ap (λ (k : ℕ). Option·map (behind (take (count * n) to)) (recordsIn n fits k (drop next text))) (let q : count - count ≡ 0 = omega arith in q)
+      ∙ ap (λ (k : ℕ). Option·map (behind (take (count * n) to)) (recordsIn n fits k (drop next text)))
+      (let q : count - count ≡ 0 = omega arith in q)
       ∙ ap (λ (s : List ℕ). some (taken s (drop next text))) (append-nil (take (count * n) to)))
 
 -- ---- what a lent part and a place come back as
@@ -87,7 +88,8 @@ part-size s a n h = ap length (part-cut s a n) ∙ part-length s a n h
 pub place-in : (text : List ℕ) {p : Place} {q : ℕ} → PlaceIn text p → p ≡ At q → q ≤ length text
 place-in text h e = subst (PlaceIn text) e h
 
-pub record-lent : (n m : ℕ) (fits : List ℕ → Option (List ℕ)) (s text vs : List ℕ) {p q : Place} → takenAt p text vs ≡ oneRecord m fits s → m ≡ n
+pub record-lent : (n m : ℕ) (fits : List ℕ → Option (List ℕ)) (s text vs : List ℕ) {p q : Place} → takenAt p text vs ≡ oneRecord m fits s
+    → m ≡ n
     → p ≡ q
     → oneRecord n fits s ≡ takenAt q text vs
 record-lent n m fits s text vs e h f =

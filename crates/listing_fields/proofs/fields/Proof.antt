@@ -80,7 +80,8 @@ loop-again c =
       refl,
       simp length-set (i .loop .inv .2),
       i .loop .inv .3,
-      fields-more _ _ _ _ _ (i .loop .inv .3) (omega arith) (i .loop .inv .4) _ (omega arith) (f .field .ensures) (ap valueOf (c .before .v .given .1)),
+      fields-more _ _ _ _ _ (i .loop .inv .3) (omega arith) (i .loop .inv .4) _ (omega arith) (f .field .ensures)
+          (ap valueOf (c .before .v .given .1)),
     )
 
 same-length-2 : tie.Need-same-length-2 Inv-loop μ-loop

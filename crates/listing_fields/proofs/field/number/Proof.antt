@@ -28,7 +28,8 @@ shared-slice-read-if4-2 c = search needs
 
 returns-4 : tie.Need-returns-4
 returns-4 c =
-    sym (numeral-minus _ (c .before .before .before .before .before .before .if1 .left) (c .before .before .before .before .before .if2 .left)
+    sym (numeral-minus _ (c .before .before .before .before .before .before .if1 .left)
+    (c .before .before .before .before .before .if2 .left)
     (c .before .before .before .if3 .left) (c .if4 .taken))
 
 digits-requires-2 : tie.Need-digits-requires-2
