@@ -4,6 +4,7 @@ ghost use Prim.Native.Nat.{_≤_};
 ghost use lib.ListN.{length, drop};
 ghost use Rattle.model.specs.Listing.{columns, digitsFrom, numeral, unpadded};
 ghost use Rattle.listing_fields.specs.Views.{valueOf};
+use crate::MINUS;
 use crate::Number;
 
 // How many blanks stand in front.
@@ -20,7 +21,7 @@ fn blanks(f: &[u8]) -> usize
     i
 }
 
-// The number that digits say. Up to 19 columns of them stay below 2^64.
+// The number that digits say. The digits of a field, up to 19 columns, stay below 2^64.
 fn digits(f: &[u8]) -> Number
     requires { ⌜ length (now f) ≤ columns ⌝ }
     ensures { λ r. ⌜ valueOf r ≡ digitsFrom 0 (now (f .entry)) ⌝ }
@@ -51,7 +52,7 @@ fn number(f: &[u8]) -> Number
         return Number::Bad;
     }
     if (f[0] == b'-') & (f[1] == b'1') & (f.len() == 2) {
-        return Number::Value(crate::MINUS);
+        return Number::Value(MINUS);
     }
     digits(f)
 }

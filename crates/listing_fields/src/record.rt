@@ -15,7 +15,7 @@ const LARGEST_OUTCOME: u32 = 65534;
 
 const NO_OUTCOME: u32 = 65535;
 
-// Whether one of them is -1.
+// Whether one of the fields is -1.
 fn has_minus(r: &[u32]) -> bool
     ensures { λ b. ⌜ b ≡ anyOf (eqb minusOne) (now (r .entry)) ⌝ }
 {
@@ -44,6 +44,7 @@ fn fits(v: u32) -> bool
     (v == MINUS) | (v <= LARGEST_OUTCOME)
 }
 
+// An outcome or a target as the records have it.
 fn in_record(v: u32) -> u32
     ensures { λ r. ⌜ r ≡ to16 v ⌝ }
 {
