@@ -70,7 +70,7 @@ no-digit b e = go (ltb b 48) (ltb 57 b) refl refl e
 pub digit-low : (b : ℕ) → ltb b 48 || ltb 57 b ≡ false → 48 ≤ b
 digit-low b e = ltb-false b 48 (neither (ltb b 48) (ltb 57 b) e .0)
 
-pub digit-high : (b : ℕ) → ltb b 48 || ltb 57 b ≡ false → b ≤ 57
+digit-high : (b : ℕ) → ltb b 48 || ltb 57 b ≡ false → b ≤ 57
 digit-high b e = ltb-false 57 b (neither (ltb b 48) (ltb 57 b) e .1)
 
 pub digits-more : (f : List ℕ) (i v : ℕ) → i < length f → ltb (getD f i 0) 48 || ltb 57 (getD f i 0) ≡ false
@@ -101,7 +101,7 @@ sum-fits i v b l h e =
 pub product-fits : (i v : ℕ) → i < columns → v < 10 ^ i → v * 10 < 18446744073709551616
 product-fits i v l h = omega (arith, sum-fits i v 48 l h refl)
 
--- at 8 columns below 2 ^ 32, too
+-- below 2 ^ 32, too, at 8 columns: the one law that 12 columns break
 pub value-fits : (i v : ℕ) → i ≤ columns → v < 10 ^ i → v < 4294967296
 value-fits i v l h = let p : 10 ^ i ≤ 10 ^ columns = pow-le-pow-right (omega arith) {i = i} {j = columns} (omega arith) in omega arith
 
