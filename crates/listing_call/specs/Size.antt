@@ -20,7 +20,7 @@ use Rattle.model.specs.Rounds.{Work}
 use Rattle.model.specs.Run.{Ending, nonHermitian, finished, Run, endAnswer, answerOf}
 use Rattle.model.specs.Results.{itemRecord, operationResults, rowResults}
 use Rattle.model.specs.Listing.{lineOf, textOf, resultLine, letterLines, refusalLines, firstLine, endLines, runLines, Read, read, jobLines}
-use Rattle.model.specs.Listing.{linesOf, listing}
+use Rattle.model.specs.Listing.{columns, linesOf, listing}
 use Rattle.theory.specs.Cases.{on-if, if-true, if-false}
 use Rattle.theory.specs.Checked.{accepts-only, records-length}
 use Rattle.theory.specs.AcceptedRun.{accepted-peak, hermitian-peak}
@@ -30,7 +30,7 @@ use Rattle.run_wellformed.specs.Memory.{axes-within, width-positive}
 use Rattle.run_wellformed.specs.RunWellFormed.{end-formed, rowResults-length}
 use Rattle.run_wellformed.specs.Lengths.{row-records-fit}
 use Rattle.result_effect.specs.Listing.{listedEnd, listedFirst, listed-lines}
-use Rattle.listing_print.specs.Columns.{columns, lineBytes}
+use Rattle.listing_print.specs.Columns.{lineBytes}
 use Rattle.listing_print.specs.Texts.{text-append, line-length}
 use Rattle.listing_call.specs.Call.{mostBytes}
 use Rattle.listing_call.specs.Reads.{Small, read-small}
