@@ -21,6 +21,10 @@ use Rattle.model.specs.Run.{Ending, nonHermitian, finished, Run, run, un
 use Rattle.model.specs.Results.{operationResults, rowResults, countersOf}
 use Rattle.model.specs.Checking.{badCount, badOption, checkProgram}
 
+-- "8 columns": how wide a field is, read and printed, and how many digits it has at most; the code's is `model::COLUMNS`
+abbrev pub columns : ℕ
+columns = 8
+
 -- ---- reading
 
 -- "each line ends in one newline"
@@ -32,7 +36,7 @@ unfoldable pub digitsFrom : ℕ → List ℕ → Option ℕ
 digitsFrom n [] = some n
 digitsFrom n (b ∷ rest) = if leb 48 b && leb b 57 then digitsFrom (10 * n + (b - 48)) rest else none
 
--- "digits without leading zeros, or -1": -1 is read as 4,294,967,295, which 8 digits do not reach
+-- "digits without leading zeros, or -1": -1 is read as 4,294,967,295, which the digits of 8 columns do not reach
 unfoldable pub numeral : List ℕ → Option ℕ
 numeral [] = none
 numeral (b ∷ []) = digitsFrom 0 (b ∷ [])
@@ -45,12 +49,12 @@ unfoldable pub unpadded : List ℕ → List ℕ
 unpadded [] = []
 unpadded (b ∷ rest) = if eqb b 32 then unpadded rest else b ∷ rest
 
--- n fields of "8 columns"
+-- n fields, each of `columns` bytes
 unfoldable pub fieldsFrom : ℕ → List ℕ → Option (List ℕ)
 fieldsFrom zero line = if isEmpty line then some [] else none
 fieldsFrom (suc n) line =
-    if ltb (length line) 8 then none else
-    bind (numeral (unpadded (take 8 line))) (λ v. Option·map (λ vs. v ∷ vs) (fieldsFrom n (drop 8 line)))
+    if ltb (length line) columns then none else
+    bind (numeral (unpadded (take columns line))) (λ v. Option·map (λ vs. v ∷ vs) (fieldsFrom n (drop columns line)))
 
 -- lines of n fields each, as one slice; `fits` is what else a line must be
 unfoldable pub sliceOf : ℕ → (List ℕ → Option (List ℕ)) → List (List ℕ) → Option (List ℕ)
@@ -71,18 +75,21 @@ fits16 v = eqb v minusOne || leb v largestOutcome
 unfoldable pub operationLine : List ℕ → Option (List ℕ)
 operationLine r =
     if anyOf (eqb minusOne) (take 4 r) || not (fits16 (fieldOf r 4)) || not (fits16 (fieldOf r 5))
-    || (eqb (fieldOf r 4) minusOne && not (eqb (fieldOf r 0) 1)) then none else some (take 4 r ++ (to16 (fieldOf r 4) ∷ to16 (fieldOf r 5) ∷ []))
+    || (eqb (fieldOf r 4) minusOne && not (eqb (fieldOf r 0) 1)) then none
+    else some (take 4 r ++ (to16 (fieldOf r 4) ∷ to16 (fieldOf r 5) ∷ []))
 
 -- a text that 11 does not refuse
 pub record Read : Type 0 where
   pub job : Job
   pub limit : ℕ
 
--- "there are more than 64 qubits, 128 nodes or 128 operations, the limit is above 256, or lines are missing or left over": a -1 is above them all
+-- "there are more than 64 qubits, 128 nodes or 128 operations, the limit is above 256": a -1 is above them all
+abbrev pub tooLarge : List ℕ → Bool
+tooLarge h = ltb 64 (fieldOf h 0) || ltb 128 (fieldOf h 1) || ltb 128 (fieldOf h 2) || ltb 256 (fieldOf h 3)
+
+-- ", or lines are missing or left over"
 unfoldable pub tooMuch : List ℕ → List (List ℕ) → Bool
-tooMuch h lines =
-    ltb 64 (fieldOf h 0) || ltb 128 (fieldOf h 1) || ltb 128 (fieldOf h 2) || ltb 256 (fieldOf h 3)
-    || not (eqb (length lines) (fieldOf h 1 + fieldOf h 2 + 2 * fieldOf h 0))
+tooMuch h lines = tooLarge h || not (eqb (length lines) (fieldOf h 1 + fieldOf h 2 + 2 * fieldOf h 0))
 
 abbrev pub readOf : List ℕ → List ℕ → List ℕ → List ℕ → Read
 readOf h nodes operations rows = record {
@@ -119,11 +126,11 @@ decimal (suc k) n after =
     let more = decimal k (n / 10) ((48 + n % 10) ∷ after) in
     if eqb (n / 10) 0 then (48 + n % 10) ∷ after else more
 
--- "Fields are decimal, right-justified with blanks, 8 columns"
+-- "Fields are decimal, right-justified with blanks"
 unfoldable pub column : ℕ → List ℕ
 column n =
-    let d = (if eqb n minusOne then 45 ∷ 49 ∷ [] else decimal 8 n []) in
-    replicate (8 - length d) 32 ++ d
+    let d = (if eqb n minusOne then 45 ∷ 49 ∷ [] else decimal columns n []) in
+    replicate (columns - length d) 32 ++ d
 
 unfoldable pub lineOf : List ℕ → List ℕ
 lineOf ns = flatten (map column ns) ++ (10 ∷ [])

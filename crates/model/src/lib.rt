@@ -40,6 +40,9 @@ pub fn defaults(limit: usize) -> Options
     }
 }
 
+// How wide a listing's fields are, as the model's `columns`.
+pub const COLUMNS: usize = 8;
+
 // How many qubits, nodes and operations a program has.
 pub struct Counts {
     pub qubits: usize,

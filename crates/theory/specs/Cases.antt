@@ -1,6 +1,9 @@
--- Choices, case by case: `by-if` where both cases hold, `on-if` where the test's value is wanted. Assumes nothing.
+-- Choices, case by case: `by-if` where both cases hold, `on-if` where the test's value is wanted; what came of an option. Assumes nothing.
 use mathlib.Core.Path.{_≡_, refl, sym, ap, _∙_}
 use mathlib.Core.Bool.{Bool, true, false, _&&_, _||_, true≢false, or-true}
+use mathlib.Core.Option.{Option, none, some, bind, Option·map}
+use Prim.Native.Nat.{ℕ}
+use native.Mathlib.Omega.{arith}
 use Rattle.model.specs.Lists.{if_then_else_}
 
 -- whatever the test says
@@ -48,3 +51,17 @@ and-left false y h = absurd (true≢false (sym h))
 pub and-right : (x y : Bool) → x && y ≡ true → y ≡ true
 and-right true y h = h
 and-right false y h = absurd (true≢false (sym h))
+
+-- ---- an option that is there
+
+pub none-some : {A : Type 0} {x : A} → _≡_ {A = Option A} none (some x) → ⊥
+none-some {A} {x} e = let z : _≡_ {A = ℕ} 0 1 = cc in omega arith
+
+pub bind-some : {A B : Type 0} (x : Option A) (f : A → Option B) (b : B) → bind x f ≡ some b → (a : A) × (x ≡ some a) × (f a ≡ some b)
+unfolding bind
+bind-some none f b h = absurd (none-some h)
+bind-some (some a) f b h = (a, refl, h)
+
+pub map-some : {A B : Type 0} (f : A → B) (x : Option A) (b : B) → Option·map f x ≡ some b → (a : A) × (x ≡ some a) × (f a ≡ b)
+map-some f none b h = absurd (none-some h)
+map-some f (some a) b h = (a, refl, cc)

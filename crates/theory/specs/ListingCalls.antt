@@ -24,10 +24,9 @@ use Rattle.model.specs.Rounds.{Work}
 use Rattle.model.specs.Run.{Ending, nonHermitian, finished, Run, endOf, endAnswer, answerOf}
 use Rattle.model.specs.Results.{countersOf}
 use Rattle.model.specs.Checking.{badCount, badOption, checkProgram}
-use Rattle.model.specs.Listing.{linesFrom, fieldsFrom, sliceOf, plainLine, Read, tooMuch, readOf, readBody, readLines, read, textOf, refusalLines}
-use Rattle.model.specs.Listing.{firstLine}
-use Rattle.model.specs.Listing.{endLines, runLines, listingChecks, jobLines, linesOf, listing}
-use Rattle.theory.specs.Cases.{by-if, on-if, if-true, if-false, neither}
+use Rattle.model.specs.Listing.{linesFrom, fieldsFrom, sliceOf, plainLine, Read, tooLarge, tooMuch, readOf, readBody, readLines, read}
+use Rattle.model.specs.Listing.{textOf, refusalLines, firstLine, endLines, runLines, listingChecks, jobLines, linesOf, listing}
+use Rattle.theory.specs.Cases.{by-if, on-if, if-true, if-false, neither, none-some, bind-some, map-some}
 use Rattle.theory.specs.Checked.{accepts-only, not-refused, Fine, program-fine}
 use Rattle.theory.specs.Alike.{Alike, alike-program, alike-checked}
 use Rattle.theory.specs.Replies.{runOf, program-low}
@@ -90,44 +89,32 @@ answer-printed (some t) = go (accepts (checksOf t)) refl
 
 -- ---- a text that can be read has a limit of at most 256
 
-none-some : {A : Type 0} {x : A} → _≡_ {A = Option A} none (some x) → ⊥
-none-some {A} {x} e = let z : _≡_ {A = ℕ} 0 1 = cc in omega arith
-
-bind-some : {A B : Type 0} (x : Option A) (f : A → Option B) (b : B) → bind x f ≡ some b → (a : A) × (f a ≡ some b)
-unfolding bind
-bind-some none f b h = absurd (none-some h)
-bind-some (some a) f b h = (a, h)
-
-map-some : {A B : Type 0} (f : A → B) (x : Option A) (b : B) → Option·map f x ≡ some b → (a : A) × (f a ≡ b)
-map-some f none b h = absurd (none-some h)
-map-some f (some a) b h = (a, cc)
-
 body-limit : (lines : List (List ℕ)) (h : List ℕ) (t : Read) → readBody lines h ≡ some t → t .limit ≤ 256
 unfolding readBody
 body-limit lines h t =
     on-if (λ (x : Option Read). x ≡ some t → t .limit ≤ 256) (tooMuch h lines) none _ (λ e f. absurd (none-some f))
     (λ e f.
     let a = bind-some _ _ t f in
-    let b = bind-some _ _ t (a .1) in
-    let c = map-some (readOf h (a .0) (b .0)) (sliceOf 4 plainLine (drop (fieldOf h 1 + fieldOf h 2) lines)) t (b .1) in
-    let same : fieldOf h 3 ≡ t .limit = ap (λ (x : Read). x .limit) (c .1) in
+    let b = bind-some _ _ t (a .2) in
+    let c = map-some (readOf h (a .0) (b .0)) (sliceOf 4 plainLine (drop (fieldOf h 1 + fieldOf h 2) lines)) t (b .2) in
+    let same : fieldOf h 3 ≡ t .limit = ap (λ (x : Read). x .limit) (c .2) in
     let small = not-above h lines e in
     omega arith)
   where
     not-above : (h : List ℕ) (lines : List (List ℕ)) → tooMuch h lines ≡ false → fieldOf h 3 ≤ 256
     not-above h lines = unfold tooMuch in (λ e.
-        let a = neither (ltb 64 (fieldOf h 0) || ltb 128 (fieldOf h 1) || ltb 128 (fieldOf h 2) || ltb 256 (fieldOf h 3)) _ e in
+        let a = neither (tooLarge h) _ e in
         ltb-false 256 (fieldOf h 3) (neither (ltb 64 (fieldOf h 0) || ltb 128 (fieldOf h 1) || ltb 128 (fieldOf h 2)) _ (a .0) .1))
 
 lines-limit : (lines : List (List ℕ)) (t : Read) → readLines lines ≡ some t → t .limit ≤ 256
 unfolding readLines
 lines-limit [] t e = absurd (none-some e)
-lines-limit (h ∷ lines) t e = let a = bind-some (fieldsFrom 4 h) (readBody lines) t e in body-limit lines (a .0) t (a .1)
+lines-limit (h ∷ lines) t e = let a = bind-some (fieldsFrom 4 h) (readBody lines) t e in body-limit lines (a .0) t (a .2)
 
 -- the limit of a text that can be read is at most 256
 pub read-limit : (text : List ℕ) (t : Read) → read text ≡ some t → t .limit ≤ 256
 unfolding read
-read-limit text t e = let a = bind-some (linesFrom [] [] text) readLines t e in lines-limit (a .0) t (a .1)
+read-limit text t e = let a = bind-some (linesFrom [] [] text) readLines t e in lines-limit (a .0) t (a .2)
 
 -- ---- two listings at two limits
 
@@ -233,7 +220,8 @@ module _ (t : Read) (yes′ : listingAnswer (some t) ≡ Accepted) where
   listed-hermitian = accepted-roots (t .limit) r 8 p (listed-passed .1)
 
   -- the lines that it prints are those of its run's end
-  pub listed-end : jobLines t ≡ endLines (rulesOf (optionsOf t)) (programOf (t .job)) (finished (finishOf (rulesOf (optionsOf t)) 8 (programOf (t .job))))
+  pub listed-end : jobLines t
+      ≡ endLines (rulesOf (optionsOf t)) (programOf (t .job)) (finished (finishOf (rulesOf (optionsOf t)) 8 (programOf (t .job))))
   unfolding jobLines runLines
   listed-end =
       if-true _ (refusalLines (checksOf t)) (ap accepts (listed-passed .0))

@@ -1,0 +1,4 @@
+pub mod Views
+pub mod Field
+pub mod Fields
+pub mod Record
