@@ -18,9 +18,11 @@ same-length-2 c = c .before .before .before .before .before .layering-pass .ensu
 returns : tie.Need-returns
 returns c =
     let layering-pass = c .before .before .before .before .before in
-    let start = layering-pass .before .before .before .before .before in
-    (layering-pass .layering-pass .ensures .0, λ i p w h. round-stop (start .args .options) h
-    (layering-pass .layering-pass .ensures .1 i p w h) (c .if1 .taken))
+    let start = layering-pass .before .before .before .before .before in (
+      layering-pass .layering-pass .ensures .0,
+      λ i p w h. round-stop (start .args .options) h
+          (layering-pass .layering-pass .ensures .1 i p w h) (c .if1 .taken),
+    )
 
 stream-pass-requires : tie.Need-stream-pass-requires
 stream-pass-requires c κs =
@@ -51,10 +53,12 @@ returns-2 c =
     let stream-pass = c .before .before .before .before .before .before in
     let test = stream-pass .before .before .before in
     let layering-pass = test .before .before .before .before .before in
-    let start = layering-pass .before .before .before .before .before in
-    (long-then (layering-pass .layering-pass .ensures .0) (stream-pass .stream-pass .ensures .0), λ i p w h. let a =
-    layering-pass .layering-pass .ensures .1 i p w h in round-limit (start .args .options) h a (test .if1 .left)
-    (stream-pass .stream-pass .ensures .1 _ p _ a) (c .enum-told .given .1))
+    let start = layering-pass .before .before .before .before .before in (
+      long-then (layering-pass .layering-pass .ensures .0) (stream-pass .stream-pass .ensures .0),
+      λ i p w h. let a =
+          layering-pass .layering-pass .ensures .1 i p w h in round-limit (start .args .options) h a (test .if1 .left)
+          (stream-pass .stream-pass .ensures .1 _ p _ a) (c .enum-told .given .1),
+    )
 
 same-length-5 : tie.Need-same-length-5
 same-length-5 c =
@@ -74,10 +78,12 @@ returns-3 c =
     let stream-pass = e .before .before .before .before .before .before in
     let test = stream-pass .before .before .before in
     let layering-pass = test .before .before .before .before .before in
-    let start = layering-pass .before .before .before .before .before in
-    (long-then (layering-pass .layering-pass .ensures .0) (stream-pass .stream-pass .ensures .0), λ i p w h. let a =
-    layering-pass .layering-pass .ensures .1 i p w h in round-again (start .args .options) h a (test .if1 .left)
-    (stream-pass .stream-pass .ensures .1 _ p _ a) _ (e .e .given .1))
+    let start = layering-pass .before .before .before .before .before in (
+      long-then (layering-pass .layering-pass .ensures .0) (stream-pass .stream-pass .ensures .0),
+      λ i p w h. let a =
+          layering-pass .layering-pass .ensures .1 i p w h in round-again (start .args .options) h a (test .if1 .left)
+          (stream-pass .stream-pass .ensures .1 _ p _ a) _ (e .e .given .1),
+    )
 
 pub layer-round-spec : {M : Type 1} → statement M
 layer-round-spec =

@@ -30,18 +30,22 @@ returns-2 : tie.Need-returns-2
 returns-2 c =
     let stream-pass = c .before .before .before .before .before .before in
     let test = stream-pass .before .before .before in
-    let start = test .before .before .before .before in
-    (stream-pass .stream-pass .ensures .0, λ p w h. litinski-limit (start .args .options) w (test .if1 .left)
-    (stream-pass .stream-pass .ensures .1 0 p w h) (c .enum-told .given .1))
+    let start = test .before .before .before .before in (
+      stream-pass .stream-pass .ensures .0,
+      λ p w h. litinski-limit (start .args .options) w (test .if1 .left)
+          (stream-pass .stream-pass .ensures .1 0 p w h) (c .enum-told .given .1),
+    )
 
 litinski-from-requires : tie.Need-litinski-from-requires
 litinski-from-requires c κs =
     let e = c .before .before .before in
     let stream-pass = e .before .before .before .before .before .before in
     let test = stream-pass .before .before .before in
-    let start = test .before .before .before .before in
-    (litinski-some (start .args .options) _ (test .if1 .left) (stream-pass .stream-pass .ensures .1 0 _ _ (start .pre .0 .at)) _
-    (e .e .given .1), start .pre .1)
+    let start = test .before .before .before .before in (
+      litinski-some (start .args .options) _ (test .if1 .left) (stream-pass .stream-pass .ensures .1 0 _ _ (start .pre .0 .at)) _
+          (e .e .given .1),
+      start .pre .1,
+    )
 
 same-length-3 : tie.Need-same-length-3
 same-length-3 c =
@@ -61,10 +65,12 @@ returns-3 c =
     let e = litinski-from .before .before .before .before in
     let stream-pass = e .before .before .before .before .before .before in
     let test = stream-pass .before .before .before in
-    let start = test .before .before .before .before in
-    (long-then (stream-pass .stream-pass .ensures .0) (litinski-from .litinski-from .ensures .0), λ p w h. let a =
-    stream-pass .stream-pass .ensures .1 0 p w h in litinski-end (start .args .options) w (test .if1 .left) a
-    (litinski-from .litinski-from .ensures .1 p _ (a .done _ (e .e .given .1))))
+    let start = test .before .before .before .before in (
+      long-then (stream-pass .stream-pass .ensures .0) (litinski-from .litinski-from .ensures .0),
+      λ p w h. let a =
+          stream-pass .stream-pass .ensures .1 0 p w h in litinski-end (start .args .options) w (test .if1 .left) a
+          (litinski-from .litinski-from .ensures .1 p _ (a .done _ (e .e .given .1))),
+    )
 
 pub litinski-rounds-spec : {M : Type 1} → statement M
 litinski-rounds-spec =

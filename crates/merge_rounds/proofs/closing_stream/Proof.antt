@@ -34,9 +34,11 @@ returns-3 c =
     let any-even = test .before in
     let test′ = any-even .before .before in
     let test′′ = test′ .before .before in
-    let start = test′′ .before .before .before .before in
-    (stream-pass .stream-pass .ensures .0, λ i p w h. closing-even (start .args .options) h (test′′ .if1 .left) (test′ .if2 .left)
-    (any-even .any-even .ensures) (test .if3 .taken) (stream-pass .stream-pass .ensures .1 i p w h))
+    let start = test′′ .before .before .before .before in (
+      stream-pass .stream-pass .ensures .0,
+      λ i p w h. closing-even (start .args .options) h (test′′ .if1 .left) (test′ .if2 .left)
+          (any-even .any-even .ensures) (test .if3 .taken) (stream-pass .stream-pass .ensures .1 i p w h),
+    )
 
 same-length-3 : tie.Need-same-length-3
 same-length-3 c = search needs
@@ -46,9 +48,11 @@ returns-4 c =
     let any-even = c .before in
     let test = any-even .before .before in
     let test′ = test .before .before in
-    let start = test′ .before .before .before .before in
-    (long-same _ _, λ i p w h. closing-none (start .args .options) h (test′ .if1 .left) (test .if2 .left) (any-even .any-even .ensures)
-    (c .if3 .left))
+    let start = test′ .before .before .before .before in (
+      long-same _ _,
+      λ i p w h. closing-none (start .args .options) h (test′ .if1 .left) (test .if2 .left) (any-even .any-even .ensures)
+          (c .if3 .left),
+    )
 
 pub closing-stream-spec : {M : Type 1} → statement M
 closing-stream-spec =

@@ -26,17 +26,21 @@ same-length-2 c = c .before .before .before .before .before .before .stream-pass
 returns : tie.Need-returns
 returns c =
     let stream-pass = c .before .before .before .before .before .before in
-    let start = stream-pass .before .before .before .before .before in
-    (stream-pass .stream-pass .ensures .0, λ i p w h. merged-limit (start .args .options) i w (stream-pass .stream-pass .ensures .1 i p w h)
-    (c .enum-told .given .1))
+    let start = stream-pass .before .before .before .before .before in (
+      stream-pass .stream-pass .ensures .0,
+      λ i p w h. merged-limit (start .args .options) i w (stream-pass .stream-pass .ensures .1 i p w h)
+          (c .enum-told .given .1),
+    )
 
 exchange-pass-requires : tie.Need-exchange-pass-requires
 exchange-pass-requires c κs =
     let e = c .before .before .before in
     let stream-pass = e .before .before .before .before .before .before in
-    let start = stream-pass .before .before .before .before .before in
-    (merged-some (start .args .options) 510 _ (stream-pass .stream-pass .ensures .1 510 _ _ (start .pre .0 .at)) _ (e .e .given .1)
-    (omega arith), start .pre .1)
+    let start = stream-pass .before .before .before .before .before in (
+      merged-some (start .args .options) 510 _ (stream-pass .stream-pass .ensures .1 510 _ _ (start .pre .0 .at)) _ (e .e .given .1)
+          (omega arith),
+      start .pre .1,
+    )
 
 same-length-3 : tie.Need-same-length-3
 same-length-3 c =
@@ -55,10 +59,12 @@ returns-2 c =
     let exchange-pass = c .before .before in
     let e = exchange-pass .before .before .before .before in
     let stream-pass = e .before .before .before .before .before .before in
-    let start = stream-pass .before .before .before .before .before in
-    (long-then (stream-pass .stream-pass .ensures .0) (exchange-pass .exchange-pass .ensures .0), λ i p w h. merged-done
-    (start .args .options) i w
-    (exchange-pass .exchange-pass .ensures .1 _ _ _ (stream-pass .stream-pass .ensures .1 i p w h .done _ (e .e .given .1))))
+    let start = stream-pass .before .before .before .before .before in (
+      long-then (stream-pass .stream-pass .ensures .0) (exchange-pass .exchange-pass .ensures .0),
+      λ i p w h. merged-done
+          (start .args .options) i w
+          (exchange-pass .exchange-pass .ensures .1 _ _ _ (stream-pass .stream-pass .ensures .1 i p w h .done _ (e .e .given .1))),
+    )
 
 pub merge-round-spec : {M : Type 1} → statement M
 merge-round-spec =

@@ -23,9 +23,11 @@ same-length-2 c = c .before .before .before .before .before .before .rounds-from
 returns : tie.Need-returns
 returns c =
     let rounds-from = c .before .before .before .before .before .before in
-    let start = rounds-from .before .before .before .before .before in
-    (rounds-from .rounds-from .ensures .0, λ p w h. merging-limit (start .args .options) w (rounds-from .rounds-from .ensures .1 p w h)
-    (c .enum-told .given .1))
+    let start = rounds-from .before .before .before .before .before in (
+      rounds-from .rounds-from .ensures .0,
+      λ p w h. merging-limit (start .args .options) w (rounds-from .rounds-from .ensures .1 p w h)
+          (c .enum-told .given .1),
+    )
 
 closing-stream-requires : tie.Need-closing-stream-requires
 closing-stream-requires c κs =
@@ -51,10 +53,12 @@ returns-2 c =
     let closing-stream = c .before .before .before .before in
     let e = closing-stream .before .before .before .before in
     let rounds-from = e .before .before .before .before .before .before in
-    let start = rounds-from .before .before .before .before .before in
-    (long-then (rounds-from .rounds-from .ensures .0) (closing-stream .closing-stream .ensures .0), λ p w h. merging-end
-    (start .args .options) w
-    (closing-stream .closing-stream .ensures .1 510 p _ (rounds-from .rounds-from .ensures .1 p w h .done _ (e .e .given .1))))
+    let start = rounds-from .before .before .before .before .before in (
+      long-then (rounds-from .rounds-from .ensures .0) (closing-stream .closing-stream .ensures .0),
+      λ p w h. merging-end
+          (start .args .options) w
+          (closing-stream .closing-stream .ensures .1 510 p _ (rounds-from .rounds-from .ensures .1 p w h .done _ (e .e .given .1))),
+    )
 
 pub merge-rounds-spec : {M : Type 1} → statement M
 merge-rounds-spec =

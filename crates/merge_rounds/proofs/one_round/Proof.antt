@@ -21,9 +21,11 @@ same-length-2 c = c .before .before .before .before .before .before .merge-round
 
 returns : tie.Need-returns
 returns c =
-    let merge-round = c .before .before .before .before .before .before in
-    (merge-round .merge-round .ensures .0, λ i p w h. round-limit
-    (merge-round .merge-round .ensures .1 i p w h .refused (c .enum-told .given .1)))
+    let merge-round = c .before .before .before .before .before .before in (
+      merge-round .merge-round .ensures .0,
+      λ i p w h. round-limit
+          (merge-round .merge-round .ensures .1 i p w h .refused (c .enum-told .given .1)),
+    )
 
 t-count-requires : tie.Need-t-count-requires
 t-count-requires c κs =
@@ -47,9 +49,11 @@ returns-2 c =
     let t-count = c .before .before .before in
     let e = t-count .before .before .before in
     let merge-round = e .before .before .before .before .before .before in
-    let start = merge-round .before .before .before .before .before in
-    (merge-round .merge-round .ensures .0, λ i p w h. round-stop (merge-round .merge-round .ensures .1 i p w h .done _ (e .e .given .1)) h
-    (start .args .t) _ (t-count .t-count .ensures) (c .if1 .taken))
+    let start = merge-round .before .before .before .before .before in (
+      merge-round .merge-round .ensures .0,
+      λ i p w h. round-stop (merge-round .merge-round .ensures .1 i p w h .done _ (e .e .given .1)) h
+          (start .args .t) _ (t-count .t-count .ensures) (c .if1 .taken),
+    )
 
 same-length-5 : tie.Need-same-length-5
 same-length-5 c =
@@ -66,9 +70,11 @@ returns-3 c =
     let t-count = c .before .before .before in
     let e = t-count .before .before .before in
     let merge-round = e .before .before .before .before .before .before in
-    let start = merge-round .before .before .before .before .before in
-    (merge-round .merge-round .ensures .0, λ i p w h. round-again (merge-round .merge-round .ensures .1 i p w h .done _ (e .e .given .1)) h
-    (start .args .t) _ (t-count .t-count .ensures) (c .if1 .left))
+    let start = merge-round .before .before .before .before .before in (
+      merge-round .merge-round .ensures .0,
+      λ i p w h. round-again (merge-round .merge-round .ensures .1 i p w h .done _ (e .e .given .1)) h
+          (start .args .t) _ (t-count .t-count .ensures) (c .if1 .left),
+    )
 
 pub one-round-spec : {M : Type 1} → statement M
 one-round-spec =

@@ -52,9 +52,11 @@ returns c =
     let one-round = r2 .before .before .before .before .before .before in
     let turn = one-round .before .before .before in
     let head = turn .before in
-    let start = head .before .before .before .before in
-    (rounds-long (head .loop .inv) (turn .loop-test .taken) (one-round .one-round .ensures), λ p w h. rounds-stop (head .loop .inv)
-    (turn .loop-test .taken) (one-round .one-round .ensures) h (start .pre .1) _ (r2 .r2 .given .1))
+    let start = head .before .before .before .before in (
+      rounds-long (head .loop .inv) (turn .loop-test .taken) (one-round .one-round .ensures),
+      λ p w h. rounds-stop (head .loop .inv)
+          (turn .loop-test .taken) (one-round .one-round .ensures) h (start .pre .1) _ (r2 .r2 .given .1),
+    )
 
 enum-told : tie.Need-enum-told Inv-loop μ-loop
 enum-told c = search needs
@@ -77,9 +79,11 @@ returns-2 : tie.Need-returns-2 Inv-loop μ-loop
 returns-2 c =
     let one-round = c .before .before .before .before .before .before in
     let turn = one-round .before .before .before in
-    let head = turn .before in
-    (rounds-long (head .loop .inv) (turn .loop-test .taken) (one-round .one-round .ensures), λ p w h. rounds-limit (head .loop .inv)
-    (turn .loop-test .taken) (one-round .one-round .ensures) h (c .enum-told .given .1))
+    let head = turn .before in (
+      rounds-long (head .loop .inv) (turn .loop-test .taken) (one-round .one-round .ensures),
+      λ p w h. rounds-limit (head .loop .inv)
+          (turn .loop-test .taken) (one-round .one-round .ensures) h (c .enum-told .given .1),
+    )
 
 add-j : tie.Need-add-j Inv-loop μ-loop
 add-j c =
