@@ -12,7 +12,6 @@ use Rattle.model.specs.declared.Options.{Options}
 use Rattle.model.specs.declared.Counts.{Counts}
 use Rattle.model.specs.declared.Answer.{Answer}
 use Rattle.model.specs.declared.Answer.the-variants.{Accepted, SliceShort, BadText}
-use Rattle.model.specs.Lists.{if_then_else_}
 use Rattle.model.specs.Interface.{accepts}
 use Rattle.model.specs.Program.{Job}
 use Rattle.model.specs.Checking.{Lent}
@@ -161,8 +160,8 @@ pub record ListingCall (text out : List ℕ) (s : Lent) (l : Listed) (out′ : L
   pub same : listingReplyOf l out′ s′ ≡ listingCall text out s
   pub fits : l .size ≤ length out
 
-pub listing-called : {text out : List ℕ} {s : Lent} {l : Listed} {out′ : List ℕ} {s′ : Lent} → listingReplyOf l out′ s′ ≡ listingCall text out s
-    → ListingCall text out s l out′ s′
+pub listing-called : {text out : List ℕ} {s : Lent} {l : Listed} {out′ : List ℕ} {s′ : Lent}
+    → listingReplyOf l out′ s′ ≡ listingCall text out s → ListingCall text out s l out′ s′
 listing-called {text} {out} {s} e = record {
   same = e;
   fits = subst (λ (c : ListingReply). c .size ≤ length out) (sym e) (call-fits text out s);

@@ -32,7 +32,8 @@ use Rattle.theory.specs.Checked.{checking-program}
 use Rattle.theory.specs.Replies.{refusal-answer, ran}
 use Rattle.theory.specs.Limit.{SameButLimit, SameResults, larger-limit, checks-again, results-answer}
 use Rattle.theory.specs.AcceptedRun.{finishOf}
-use Rattle.theory.specs.ListingCalls.{optionsOf, listingAnswer, read-limit, defaults-good, same-text-at-larger-limit, Listed, no-more-listed}
+use Rattle.theory.specs.ListingCalls.{optionsOf, listingAnswer, read-limit, defaults-good, same-text-at-larger-limit}
+use Rattle.theory.specs.ListingCalls.{Listed, no-more-listed}
 use Rattle.result_effect.specs.Definitions.{operationsRead, rowsRead}
 use Rattle.result_effect.specs.Listing.{listedFirst, listedRest, listedAxes, listed-text}
 use Rattle.run_effect.specs.RunEffect.{Effects, sourceEffect, resultEffect}
@@ -53,7 +54,8 @@ called-text x out r = take-append-seam (printedText x (r .answer)) (drop (0 + le
 pub call-fits : (text out : List ℕ) (s : Lent) → listingCall text out s .size ≤ length out
 unfolding listingCall printedReply noRoom
 call-fits text out s =
-    on-if (λ (c : ListingReply). c .size ≤ length out) (ltb (length out) mostBytes) (noRoom out s) (printedReply (read text) out (replyTo (read text) s))
+    on-if (λ (c : ListingReply). c .size ≤ length out) (ltb (length out) mostBytes) (noRoom out s)
+    (printedReply (read text) out (replyTo (read text) s))
     (λ e. omega arith)
     (λ e. le-trans (printed-size (read text) _ (λ t f. read-small text t f)) (ltb-false (length out) mostBytes e))
 
@@ -169,7 +171,8 @@ both-accepted text text′ out out′ s s′ t t′ reads reads′ alike e e′ 
   where
     go : Dec (t′ .limit < t .limit) → printed (listingCall text′ out′ s′) ≡ printed (listingCall text out s)
     go (yes h) =
-        sym (same-at-larger-limit text′ text out′ out s′ s t′ t reads′ reads (alike-back alike) (omega arith) (inl e′) (not-short _ (inl e)))
+        sym (same-at-larger-limit text′ text out′ out s′ s t′ t reads′ reads (alike-back alike) (omega arith) (inl e′)
+        (not-short _ (inl e)))
     go (no h) = same-at-larger-limit text text′ out out′ s s′ t t′ reads reads′ alike (omega arith) (inl e) (not-short _ (inl e′))
 
 -- ---- an accepted call
