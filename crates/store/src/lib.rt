@@ -7,5 +7,4 @@ pub use numbers::read;
 pub use numbers::write;
 pub use numbers::zero_numbers;
 pub use words::copy_within;
-pub use words::copy_words;
 pub use words::zero_words;

@@ -15,16 +15,6 @@ pub fn zero_words(d: &mut [u64])
     }
 }
 
-// d becomes s, which is as long.
-pub fn copy_words(d: &mut [u64], s: &[u64])
-    requires { ⌜ length (now s) ≡ length (now d) ⌝ }
-    ensures { λ _. ⌜ now (d .exit) ≡ now (s .entry) ⌝ }
-{
-    for i in 0..d.len() {
-        d[i] = s[i];
-    }
-}
-
 // The n words from `to` on become those from `from` on.
 pub fn copy_within(words: &mut [u64], from: usize, to: usize, n: usize)
     requires { ⌜ CopyPre (now words) from to n ⌝ }
