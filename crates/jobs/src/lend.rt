@@ -5,7 +5,7 @@ ghost use lib.ListN.{length};
 ghost use Rattle.jobs.specs.Within.{Within};
 use crate::read::Header;
 
-fn least(a: usize, b: usize) -> usize
+pub fn least(a: usize, b: usize) -> usize
     ensures { λ r. ⌜ (r ≤ a) × (r ≤ b) ⌝ }
 {
     if a < b { a } else { b }

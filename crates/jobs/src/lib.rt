@@ -10,7 +10,9 @@ mod read;
 
 pub use lend::Lent;
 pub use lend::Room;
+pub use lend::least;
 pub use lend::part;
+pub use read::numbers;
 pub use read::past_blanks;
 
 // A job that is read: its counts and options, whether there is room for it, what it is lent, and the place of the next job.
@@ -23,7 +25,7 @@ pub struct Job {
 }
 
 // The place of the next job; the end, where that is not behind the job's own.
-fn behind(from: usize, next: usize, end: usize) -> usize
+pub fn behind(from: usize, next: usize, end: usize) -> usize
     requires { ⌜ (from < end) × (next ≤ end) ⌝ }
     ensures { λ r. ⌜ (from < r) × (r ≤ end) ⌝ }
 {

@@ -4,29 +4,10 @@ ghost use lib.ListN.{length};
 ghost use Rattle.jobs.specs.Within.{Within, roomOf};
 use crate::numbers;
 use crate::out;
-use crate::words;
 use jobs::Job;
 use jobs::Room;
 use model::Counts;
 use model::Options;
-
-fn fill(w: &mut [u64], m: &mut [u32], result_operations: &mut [u32], result_rows: &mut [u32]) {
-    words::fill(w);
-    numbers::fill(m);
-    numbers::fill(result_operations);
-    numbers::fill(result_rows);
-}
-
-fn print(w: &[u64], m: &[u32], result_operations: &[u32], result_rows: &[u32]) {
-    io::write_all(1, b"words");
-    words::print(w);
-    io::write_all(1, b"numbers");
-    numbers::print(m);
-    io::write_all(1, b"operations");
-    numbers::print(result_operations);
-    io::write_all(1, b"rows");
-    numbers::print(result_rows);
-}
 
 // A job whose slices are lent.
 fn call(
@@ -40,7 +21,7 @@ fn call(
     result_operations: &mut [u32],
     result_rows: &mut [u32],
 ) {
-    fill(w, m, result_operations, result_rows);
+    lent_memory::fill(w, m, result_operations, result_rows);
     let r = rewrite::rewrite(
         c,
         o,
@@ -53,7 +34,7 @@ fn call(
         result_rows,
     );
     out::rewritten(r);
-    print(&w[..], &m[..], &result_operations[..], &result_rows[..]);
+    lent_memory::print(&w[..], &m[..], &result_operations[..], &result_rows[..]);
 }
 
 // A job that is read, in the memory that it is lent.

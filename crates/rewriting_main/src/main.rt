@@ -3,7 +3,6 @@ mod job;
 mod memory;
 mod numbers;
 mod out;
-mod words;
 
 // All jobs, in memory that each uses again.
 fn run(

@@ -3,8 +3,8 @@ use Prim.Native.Nat.{_≤_, _-_}
 use mathlib.Core.Path.{_≡_}
 use lib.ListN.{length}
 use borrow.Author.Needs.{needs}
-use Rattle.rewriting_main.proofs.numbers.fill.Statement.{statement}
-use Rattle.rewriting_main.proofs.numbers.fill.Tie as tie
+use Rattle.lent_memory.proofs.numbers.fill.Statement.{statement}
+use Rattle.lent_memory.proofs.numbers.fill.Tie as tie
 
 abbrev Inv-loop : tie.InvT-loop
 Inv-loop s₀ i₀ i-end s i = (i ≤ i-end) × (i-end ≡ length s₀) × (length s ≡ length s₀)

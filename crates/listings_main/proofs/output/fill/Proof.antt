@@ -3,8 +3,8 @@ use Prim.Native.Nat.{_≤_, _-_}
 use mathlib.Core.Path.{_≡_}
 use lib.ListN.{length}
 use borrow.Author.Needs.{needs}
-use Rattle.rewriting_main.proofs.words.fill.Statement.{statement}
-use Rattle.rewriting_main.proofs.words.fill.Tie as tie
+use Rattle.listings_main.proofs.output.fill.Statement.{statement}
+use Rattle.listings_main.proofs.output.fill.Tie as tie
 
 abbrev Inv-loop : tie.InvT-loop
 Inv-loop s₀ i₀ i-end s i = (i ≤ i-end) × (i-end ≡ length s₀) × (length s ≡ length s₀)
@@ -17,9 +17,6 @@ loop-holds c = search needs
 
 lent-requires : tie.Need-lent-requires Inv-loop μ-loop
 lent-requires c κs = search needs
-
-mul-s : tie.Need-mul-s Inv-loop μ-loop
-mul-s c = search needs
 
 slice-write-s : tie.Need-slice-write-s Inv-loop μ-loop
 slice-write-s c = search needs
@@ -47,7 +44,6 @@ fill-spec =
     μ-loop
     loop-holds
     lent-requires
-    mul-s
     slice-write-s
     add-i
     loop-less

@@ -3,8 +3,8 @@ use Prim.Native.Nat.{_≤_, _<_, _-_}
 use mathlib.Core.Path.{_≡_}
 use lib.ListN.{length}
 use borrow.Author.Needs.{needs}
-use Rattle.rewriting_main.proofs.numbers.unchanged_to.Statement.{statement}
-use Rattle.rewriting_main.proofs.numbers.unchanged_to.Tie as tie
+use Rattle.lent_memory.proofs.words.unchanged_to.Statement.{statement}
+use Rattle.lent_memory.proofs.words.unchanged_to.Tie as tie
 
 abbrev Inv-loop : tie.InvT-loop
 Inv-loop s from i₀ i-end i = (from < i) × (i ≤ length s) × (i-end ≡ length s)
