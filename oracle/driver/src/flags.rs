@@ -4,6 +4,8 @@
 pub struct Flags {
     /// One job in 01's listing form, answered by 01's listing.
     pub listing: bool,
+    /// The gate's listings, with what the lent slices hold after each call.
+    pub listings: bool,
     /// No largest tested sum in the answers' first lines.
     pub no_sum: bool,
     /// What the lent slices hold after the call, in place of its results.
@@ -24,6 +26,7 @@ impl Flags {
         for arg in std::env::args().skip(1) {
             let flag = match arg.as_str() {
                 "--listing" => &mut flags.listing,
+                "--listings" => &mut flags.listings,
                 "--no-sum" => &mut flags.no_sum,
                 "--memory" => &mut flags.memory,
                 "--sums" => &mut flags.sums,

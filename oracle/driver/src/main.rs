@@ -1,6 +1,6 @@
 //! Reads jobs, runs both copies of the original on each, asserts that they agree, and prints document 01's output.
 //!
-//! driver [--listing] [--no-sum] [--memory] [--sums] [--stats] [--quiet] [--time] < jobs
+//! driver [--listing] [--listings] [--no-sum] [--memory] [--sums] [--stats] [--quiet] [--time] < jobs
 
 mod agree;
 mod flags;
@@ -24,15 +24,22 @@ fn main() -> io::Result<()> {
         let (seen, record) = judge(&job, flags.time);
         return write!(out, "{}", jobs::listing(&job, &seen, &record));
     }
+    let jobs: Box<dyn Iterator<Item = Job>> = if flags.listings {
+        Box::new(jobs::read_listings(&text))
+    } else {
+        Box::new(jobs::read_jobs(&text))
+    };
     let mut stats = Stats::default();
-    for job in jobs::read_jobs(&text) {
+    for job in jobs {
         let (seen, record) = judge(&job, flags.time);
         stats.count(&job, &seen, &record);
         if flags.sums {
             write_sums(&mut out, &record)?;
         }
         if !flags.quiet {
-            let answer = if flags.memory {
+            let answer = if flags.listings {
+                jobs::listed
+            } else if flags.memory {
                 jobs::memory
             } else if flags.no_sum {
                 jobs::answer_without_sum

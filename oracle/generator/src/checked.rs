@@ -65,6 +65,12 @@ macro_rules! case {
         }
     };
 }
+pub(crate) use case;
+
+/// The job that the cases change, also for listings.
+pub fn plain_job() -> Job {
+    plain().job
+}
 
 /// Cases that Checking accepts: the driver answers them.
 pub fn accepted() -> String {

@@ -7,6 +7,8 @@ pub mod fixed;
 mod frame;
 pub mod large;
 pub mod limit;
+pub mod listings;
+mod listings_refused;
 mod notation;
 mod operations;
 mod options;

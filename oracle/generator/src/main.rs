@@ -7,10 +7,15 @@
 //! generator --directed: the directed cases, each with a comment.
 //! generator --accepted, --refused: jobs at Checking's bounds, each with a comment.
 //! generator --answers: 01's answers to the refused ones.
+//! generator --listings SEED COUNT: the gate's listings that the Rust answers, directed ones and so many random ones.
+//! generator --refused-listings: those that Listing or Checking refuses.
+//! generator --listing-answers: 01's answers to these.
+
+use std::io::Write;
 
 use generator::random::{self, Shape};
 use generator::rng::Rng;
-use generator::{checked, directed, fixed, large, limit, packing, rewriting};
+use generator::{checked, directed, fixed, large, limit, listings, packing, rewriting};
 use jobs::Job;
 
 fn main() {
@@ -21,6 +26,11 @@ fn main() {
         ["--accepted"] => print!("{}", checked::accepted()),
         ["--refused"] => print!("{}", checked::refused()),
         ["--answers"] => print!("{}", checked::refusal_answers()),
+        ["--listings", seed, count] => {
+            write(listings::answered(number(seed), number(count) as usize));
+        }
+        ["--refused-listings"] => write(listings::refused()),
+        ["--listing-answers"] => print!("{}", listings::refusal_answers()),
         ["--packing", seed, count] => {
             for job in packing::list(number(seed), number(count) as usize) {
                 print!("{job}");
@@ -52,12 +62,21 @@ fn main() {
             }
         }
         _ => {
-            eprintln!("generator [--limits | --fixed | --packing | --rewriting] SEED COUNT");
+            eprintln!(
+                "generator [--limits | --fixed | --packing | --rewriting | --listings] SEED COUNT"
+            );
             eprintln!("generator --large SEED QUBITS NODES OPERATIONS");
             eprintln!("generator --directed | --accepted | --refused | --answers");
+            eprintln!("generator --refused-listings | --listing-answers");
             std::process::exit(2);
         }
     }
+}
+
+/// Listings may have any bytes.
+fn write(listings: Vec<u8>) {
+    let written = std::io::stdout().write_all(&listings);
+    written.expect("standard output is open");
 }
 
 fn random_jobs(seed: &str, count: &str, shape: &'static Shape) -> impl Iterator<Item = Job> {

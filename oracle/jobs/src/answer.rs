@@ -51,11 +51,13 @@ pub fn listing(job: &Job, seen: &Seen, record: &Record) -> String {
     };
     let mut lines = vec![first.into_iter().map(|n| n as i64).collect()];
     lines.extend(body(job, seen, record));
-    let text = |line: Vec<i64>| {
-        let fields: String = line.iter().map(|n| format!("{n:8}")).collect();
-        fields + "\n"
-    };
-    lines.into_iter().map(text).collect()
+    lines.iter().map(|line| columns(line)).collect()
+}
+
+/// A line of 01's listing: 8 columns a field, right-justified.
+pub fn columns(line: &[i64]) -> String {
+    let fields: String = line.iter().map(|n| format!("{n:8}")).collect();
+    fields + "\n"
 }
 
 /// answer, T before, T after, merges, swaps, absorbed, operations, axes

@@ -2,6 +2,7 @@
 
 mod answer;
 mod job;
+mod listings;
 mod memory;
 mod read;
 mod seen;
@@ -9,7 +10,10 @@ mod word;
 
 pub use answer::{answer, answer_without_sum, listing};
 pub use job::{Job, MAX_LIMIT, NO_TARGET, Options};
-pub use memory::{Lengths, Memory, memory, refused_memory};
+pub use listings::{
+    LARGEST_OUTPUT, Lent, handed, listed, listing_text, read_listings, refused_listing,
+};
+pub use memory::{Lengths, Memory, asked, memory, refused_memory};
 pub use read::{read_jobs, read_listing};
 pub use seen::{Accepted, Counters, Records, Refusal, Seen};
 pub use word::{Word, expand};

@@ -42,7 +42,7 @@ impl Job {
 }
 
 /// What refusal 3 asks.
-fn asked(qubits: usize, nodes: usize, operations: usize, limit: usize) -> Lengths {
+pub fn asked(qubits: usize, nodes: usize, operations: usize, limit: usize) -> Lengths {
     let l = width(qubits);
     let row = nodes + operations + 2 * qubits + limit / (2 * l) + 1;
     [limit + 16 * l, 24 * row, 6 * operations, 8 * qubits]
@@ -74,7 +74,7 @@ impl Memory {
 
     /// After 9 and 10 the work stores are zero and the results as they were; after 0 the results, then zeros; the words of
     /// the axes, then zeros; and the numbers zero.
-    fn after(job: &Job, seen: &Seen, record: &Record) -> Self {
+    pub fn after(job: &Job, seen: &Seen, record: &Record) -> Self {
         let mut memory = Self::before(job.lent());
         memory.words.fill(0);
         memory.numbers.fill(0);

@@ -81,7 +81,8 @@ fn job(numbers: &mut Numbers, qubits: usize) -> Job {
 
 /// One job in the form of 01's listing.
 pub fn read_listing(text: &str) -> Job {
-    let mut numbers = Numbers::of(text);
+    let text = between_blanks(text);
+    let mut numbers = Numbers::of(&text);
     let [qubits, nodes, operations, limit] = std::array::from_fn(|_| numbers.count());
     let job = Job {
         qubits,
@@ -93,4 +94,17 @@ pub fn read_listing(text: &str) -> Job {
     };
     assert!(numbers.is_empty(), "something is left over");
     job
+}
+
+/// The fields of 8 columns with a blank between them: a number of eight digits leaves none.
+fn between_blanks(text: &str) -> String {
+    let mut fields = String::new();
+    for line in text.lines() {
+        for field in line.as_bytes().chunks(8) {
+            fields.push_str(str::from_utf8(field).expect("a listing is ASCII"));
+            fields.push(' ');
+        }
+        fields.push('\n');
+    }
+    fields
 }
