@@ -97,9 +97,15 @@ impl Text {
     }
 }
 
+/// The text that the cases change: node 1 is X on qubit 0, the operations are a rotation, a measurement and a conditional
+/// rotation.
+pub fn plain() -> Text {
+    Text::of(&checked::plain_job())
+}
+
 impl Case {
     pub fn text(&self) -> Text {
-        let mut text = Text::of(&checked::plain_job());
+        let mut text = plain();
         (self.change)(&mut text);
         text
     }
@@ -227,6 +233,8 @@ const ANSWERED: &[Case] = &[
         t.output = LARGEST_OUTPUT + 9;
         t.more = [1, 2, 3, 4];
     }),
+    case!(10, "limit 0, with something to pack", |t| t.first[3] =
+        field("0")),
     case!(9, "an operation with phase 1", |t| t.operations[0][2] =
         field("1")),
     case!(9, "an odd operation before an even row, limit 2", |t| {

@@ -1,7 +1,7 @@
 //! The gate's listings that Listing or Checking refuses, with 01's answers.
 
 use super::checked::case;
-use super::listings::{Case, Text, example, field, sized};
+use super::listings::{Case, Text, example, field, plain, sized};
 
 /// All of them, with their answers.
 pub fn texts() -> impl Iterator<Item = (usize, Text)> {
@@ -71,10 +71,13 @@ const LENGTHS: &[Case] = &[
 
 /// 11: what is no number, in the place of the qubit of node 1.
 const NO_NUMBERS: &[&[u8]] = &[
+    // blanks alone
     b"",
+    // leading zeros
     b"00",
     b"01",
     b"00000000",
+    // minus signs
     b"-0",
     b"-01",
     b"-2",
@@ -84,8 +87,10 @@ const NO_NUMBERS: &[&[u8]] = &[
     b"-",
     b"- 1",
     b"1-",
+    // other signs
     b"+0",
     b"+1",
+    // the bytes beside the digits
     b":",
     b"/",
     b"1:",
@@ -93,6 +98,7 @@ const NO_NUMBERS: &[&[u8]] = &[
     b":0",
     b"/0",
     b"1:0",
+    // letters and points
     b"a",
     b"1a",
     b"a1",
@@ -101,12 +107,14 @@ const NO_NUMBERS: &[&[u8]] = &[
     b"0.0",
     b"1,0",
     b"I",
+    // blanks behind or between, tabs
     b"0 ",
     b"0       ",
     b"1 0",
     b"\t0",
     b"0\t",
     b"\x0b0",
+    // zero bytes, bytes above 127
     b"\0",
     b"\x000",
     b"0\0",
@@ -117,12 +125,7 @@ const NO_NUMBERS: &[&[u8]] = &[
 ];
 
 fn no_number(qubit: &[u8]) -> Text {
-    let text = Case {
-        rule: "a field is no number",
-        answer: 11,
-        change: |_| {},
-    };
-    let mut text = text.text();
+    let mut text = plain();
     text.nodes[1][1] = field(qubit);
     text
 }
@@ -290,10 +293,6 @@ const SLICES: &[Case] = &[
         *t = Text::of(&sized(0, 1, 0, 0));
         t.more[0] = -1;
     }),
-    case!(3, "numbers one short, all at their bounds", |t| {
-        *t = Text::of(&sized(64, 128, 128, 256));
-        t.more[1] = -1;
-    }),
 ];
 
 /// 1 and 4 to 8, as Checking has them.
@@ -363,8 +362,8 @@ const ORDER: &[Case] = &[
         t.nodes.clear();
         t.rows[1][3] = field("x");
     }),
-    case!(11, "11 before 3", |t| {
-        t.more = [-1; 4];
+    case!(11, "11 before 3, with no store at all", |t| {
+        t.more = [isize::MIN; 4];
         t.then = |b| b.truncate(b.len() - 1);
     }),
     case!(11, "11 in the last line before 4 in the first node", |t| {
@@ -384,10 +383,10 @@ const ORDER: &[Case] = &[
         t.first[3] = field("11");
         t.rows.truncate(1);
     }),
-    case!(1, "1 before 3", |t| {
+    case!(1, "1 before 3, with no store at all", |t| {
         t.first[1] = field("0");
         t.nodes.clear();
-        t.more = [-1; 4];
+        t.more = [isize::MIN; 4];
     }),
     case!(3, "3 before 4", |t| {
         t.more[1] = -1;
