@@ -25,7 +25,7 @@ const LENGTHS: &[Case] = &[
         t.then = |b| b.truncate(32);
     }),
     case!(11, "a blank less in front of the text", |t| t.then =
-        |b| b.drain(..1).for_each(drop)),
+        |b| *b = b.split_off(1)),
     case!(11, "a blank more in front of the text", |t| t.then =
         |b| b.insert(0, b' ')),
     case!(11, "a newline in front of the text", |t| t.then =
@@ -49,7 +49,7 @@ const LENGTHS: &[Case] = &[
     case!(11, "a field less in a row", |t| t.rows[0].truncate(3)),
     case!(11, "a field more in the last row", |t| t.rows[1]
         .push(field("0"))),
-    case!(11, "an empty line between nodes", |t| t.nodes[1].clear()),
+    case!(11, "an empty line for a node", |t| t.nodes[1].clear()),
     case!(11, "a carriage return before the first newline", |t| t
         .first[3] =
         field("      64\r")),
