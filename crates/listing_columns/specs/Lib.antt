@@ -1,0 +1,4 @@
+pub mod Back
+pub mod Digits
+pub mod Columns
+pub mod Texts
