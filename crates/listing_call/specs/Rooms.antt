@@ -22,13 +22,13 @@ use Rattle.run_wellformed.specs.RunWellFormed.{end-formed}
 use Rattle.run_wellformed.specs.Lengths.{LongEnough, long-enough, operations-fit, same-lengths}
 use Rattle.listing_print.specs.Results.{ResultPre}
 use Rattle.listing_call.specs.Call.{mostBytes, printedText}
-use Rattle.listing_call.specs.Reads.{Small}
+use Rattle.listing_call.specs.Reads.{SmallText}
 use Rattle.listing_call.specs.Replies.{operationsOut, axesOut, accepted-lines, printed-size}
 
 some-same : {t u : Read} → _≡_ {A = Option Read} (some t) (some u) → t ≡ u
 some-same e = cc
 
-module _ (t : Read) (small : Small t) (s : Lent) (yes′ : rewriting (optionsOf t) (t .job) s .answer ≡ Accepted) where
+module _ (t : Read) (small : SmallText t) (s : Lent) (yes′ : rewriting (optionsOf t) (t .job) s .answer ≡ Accepted) where
   long : LongEnough (t .job) s (t .limit)
   long = long-enough (optionsOf t) (t .job) s (accepted-checks (optionsOf t) (t .job) s yes′)
 
@@ -64,5 +64,5 @@ module _ (t : Read) (small : Small t) (s : Lent) (yes′ : rewriting (optionsOf 
         rows-in = omega (arith, long .rows, same .rows);
         axes-in = omega (arith, axes-words, long .words, same .words);
         fits = le-trans (subst (λ (n : ℕ). n ≤ mostBytes) (ap (λ (ls : List (List ℕ)). length (textOf ls)) (accepted-lines t s yes′))
-            (printed-size (some t) (rewriting (optionsOf t) (t .job) s .answer) (λ u e. subst Small (some-same e) small))) h;
+            (printed-size (some t) (rewriting (optionsOf t) (t .job) s .answer) (λ u e. subst SmallText (some-same e) small))) h;
       }
