@@ -160,15 +160,26 @@ module _ (t : Read) (small : SmallText t) (yes′ : listingAnswer (some t) ≡ A
       (small-in _ (omega (arith, c .merges)), (small-in _ (omega (arith, c .swaps)), (small-in _ (omega (arith, c .absorbed)),
       (small-in _ (omega arith), (small-in _ (omega arith), tt))))))))
 
+  operations-in : Every (Every InColumn) (map resultLine (operationResults p e))
+  unfolding operationResults
+  operations-in =
+      items-in (p .operations) (listed-fields t yes′) (length (e .store .axes)) (few-axes t small yes′) (e .items) stand (ids .items)
+      (end-formed p (listed-fine t yes′) r 8 .turns)
+
+  frame-in : Every (Every InColumn) (rowResults p e)
+  unfolding rowResults
+  frame-in =
+      rows-in p (length (e .store .axes)) 0 (few-axes t small yes′) (p .rows) _ (omega (arith, few-rows t small yes′))
+      (by-if (Every (IdBelow (length (e .store .axes)))) _ [] _ tt (ids .rows))
+
+  axes-in : Every (Every InColumn) (letterLines (width (p .qubits)) 0 (e .store .axes))
+  axes-in = letters-in (width (p .qubits)) (one-word t small yes′) 0 (e .store .axes) (omega (arith, few-axes t small yes′))
+
   -- the first line's, and those of operations, rows and letters
   pub listed-in : Every (Every InColumn) (listedFirst t yes′ ∷ listedRest t yes′)
-  listed-in = (first-in, every-append (Every InColumn) _ _
-      (unfold operationResults in (items-in (p .operations) (listed-fields t yes′) _ (few-axes t small yes′) (e .items) stand (ids .items)
-      (end-formed p (listed-fine t yes′) r 8 .turns)))
-      (every-append (Every InColumn) _ _
-      (unfold rowResults in (rows-in p _ 0 (few-axes t small yes′) (p .rows) _ (omega (arith, few-rows t small yes′))
-      (by-if (Every (IdBelow (length (e .store .axes)))) _ [] _ tt (ids .rows))))
-      (letters-in (width (p .qubits)) (one-word t small yes′) 0 (e .store .axes) (omega (arith, few-axes t small yes′)))))
+  listed-in = (first-in, every-append (Every InColumn) (map resultLine (operationResults p e))
+      (rowResults p e ++ letterLines (width (p .qubits)) 0 (e .store .axes)) operations-in
+      (every-append (Every InColumn) (rowResults p e) (letterLines (width (p .qubits)) 0 (e .store .axes)) frame-in axes-in))
 
 -- a refusal's line
 pub refusal-in : (a : Answer) → numberOf a ≤ 11 → Every (Every InColumn) (refusalLines a)
