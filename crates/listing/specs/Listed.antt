@@ -28,8 +28,7 @@ use Rattle.listing_print.specs.Results.{resultLines, ResultPre, replyLines, Rep
 use Rattle.listing_call.specs.Call.{mostBytes, replyTo, printedLines, printedText, ListingReply, printedReply, noRoom, listingCall}
 use Rattle.listing_call.specs.Reads.{SmallText}
 use Rattle.listing_call.specs.Replies.{accepted-lines, refused-lines, bad-text}
-use Rattle.listing_call.specs.Rooms.{result-asks}
-use Rattle.listing_call.specs.TwoCalls.{call-fits}
+use Rattle.listing_call.specs.Rooms.{result-asks, call-fits}
 use Rattle.listing.specs.declared.Listed.{Listed}
 use Rattle.rewrite.specs.declared.Rewritten.{Rewritten}
 use Rattle.rewrite.specs.Call.{RewritingCall}

@@ -1,7 +1,7 @@
 -- Every field of an accepted listing is in its column: no digit is cut off. Assumes nothing.
-use mathlib.Core.Path.{_≡_, refl, subst}
+use mathlib.Core.Path.{_≡_, refl, ap₂}
 use mathlib.Core.Logic.{inl, inr}
-use mathlib.Core.Bool.{Bool, true, false}
+use mathlib.Core.Bool.{Bool, true, false, not, _&&_}
 use mathlib.Core.Option.{some}
 use mathlib.Core.List.{List, [], _∷_, _++_, map}
 use Prim.Native.Nat.{ℕ, suc, _+_, _*_, _≤_, _<_}
@@ -12,9 +12,9 @@ use Rattle.pauli.specs.Word.{width}
 use Rattle.pauli.specs.Letter.{letterAt}
 use Rattle.model.specs.declared.Answer.{Answer}
 use Rattle.model.specs.declared.Answer.the-variants.{Accepted}
-use Rattle.model.specs.Lists.{if_then_else_}
+use Rattle.model.specs.Lists.{if_then_else_, countOf, isOdd}
 use Rattle.model.specs.Interface.{numberOf}
-use Rattle.model.specs.Program.{largestOutcome, noOutcome, minusOne, Kind, rotate, measure, conditional, Operation, PauliRef, Program, programOf}
+use Rattle.model.specs.Program.{fieldOf, largestOutcome, noOutcome, minusOne, Kind, rotate, measure, conditional, Operation, PauliRef, Program, programOf}
 use Rattle.model.specs.Rules.{Rules, rulesOf}
 use Rattle.model.specs.Words.{support}
 use Rattle.model.specs.Roots.{isRoot}
@@ -83,6 +83,30 @@ module _ (ops : List Operation) (fields : Every SmallFields ops) (m : ℕ) (few 
   items-in [] h k g = tt
   items-in (i ∷ is) h k g = (item-in i (h .0) (k .0) (g .0), items-in is (h .1) (k .1) (g .1))
 
+-- ---- an operation's line counts as its record does
+
+abbrev oddLine : List ℕ → Bool
+oddLine r = not (eqb (fieldOf r 0) 2) && isOdd (fieldOf r 3)
+
+barrier-t : (op : Operation) (kind : Kind) (a s : ℕ) → Stops kind
+    → oddLine (resultLine (barrierRecord op kind a s)) ≡ oddLine (barrierRecord op kind a s)
+unfolding resultLine barrierRecord
+barrier-t op rotate a s k = absurd k
+barrier-t op measure a s k = refl
+barrier-t op conditional a s k = refl
+
+item-t : (ops : List Operation) (i : Item) → ItemStands ops i → oddLine (resultLine (itemRecord ops i)) ≡ oddLine (itemRecord ops i)
+unfolding itemRecord
+item-t ops (rotation r) h = unfold resultLine in refl
+item-t ops (barrier o a s) h = barrier-t (operationAt ops o) (operationAt ops o .kind) a s (h .0)
+
+items-t : (ops : List Operation) (is : List Item) → Every (ItemStands ops) is
+    → resultTCount (map resultLine (map (itemRecord ops) is)) ≡ resultTCount (map (itemRecord ops) is)
+unfolding resultTCount countOf
+items-t ops [] h = refl
+items-t ops (i ∷ is) h =
+    ap₂ (λ (b : Bool) (n : ℕ). (if b then 1 else 0) + n) (item-t ops i (h .0)) (items-t ops is (h .1))
+
 -- ---- rows
 
 abbrev IdBelow : ℕ → SignedAxis → Type 0
@@ -140,9 +164,11 @@ module _ (t : Read) (small : SmallText t) (yes′ : listingAnswer (some t) ≡ A
   abbrev e : Work
   e = listedEnd t yes′
 
+  -- every id is that of an axis
   ids : IdsInRange e
   ids = end-ids r 8 p (listed-fine t yes′) (listed-hermitian t yes′)
 
+  -- every item is a rotation, or stands for a measurement or a conditional rotation
   stand : Every (ItemStands (p .operations)) (e .items)
   unfolding endOf
   stand =
@@ -159,6 +185,12 @@ module _ (t : Read) (small : SmallText t) (yes′ : listingAnswer (some t) ≡ A
       (small-in 0 (omega arith), (small-in _ (omega (arith, source-few (p .operations))), (small-in _ (omega (arith, result-few (operationResults p e))),
       (small-in _ (omega (arith, c .merges)), (small-in _ (omega (arith, c .swaps)), (small-in _ (omega (arith, c .absorbed)),
       (small-in _ (omega arith), (small-in _ (omega arith), tt))))))))
+
+  -- the T-count of the lines is that of the records
+  pub listed-t : resultTCount (map resultLine (operationResults (programOf (t .job)) (listedEnd t yes′)))
+      ≡ resultTCount (operationResults (programOf (t .job)) (listedEnd t yes′))
+  unfolding operationResults
+  listed-t = items-t (p .operations) (e .items) stand
 
   operations-in : Every (Every InColumn) (map resultLine (operationResults p e))
   unfolding operationResults

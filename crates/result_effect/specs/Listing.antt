@@ -161,14 +161,16 @@ module _ (t : Read) (yes′ : listingAnswer (some t) ≡ Accepted) where
       sym (rowResults-length p listedEnd
       ∙ unfold programOf in (length-map (rowRecords (t .job)) rowOf ∙ chunks-length 4 (2 * t .job .counts .qubits) (t .job .rows)))
 
-  operations-are : operationsRead listedFirst listedRest ≡ ops
+  -- "operations"
+  pub operations-are : operationsRead listedFirst listedRest ≡ map resultLine (operationResults (programOf (t .job)) listedEnd)
   unfolding operationsRead firstLine
   operations-are = ap (λ (n : ℕ). take n (ops ++ behind)) count ∙ take-front ops behind
 
   behind-are : drop (length (listedEnd .items)) (ops ++ behind) ≡ behind
   behind-are = ap (λ (n : ℕ). drop n (ops ++ behind)) count ∙ drop-front ops behind
 
-  rows-are : rowsRead (p .qubits) listedFirst listedRest ≡ rowResults p listedEnd
+  -- "rows"
+  pub rows-are : rowsRead (programOf (t .job) .qubits) listedFirst listedRest ≡ rowResults (programOf (t .job)) listedEnd
   unfolding rowsRead firstLine
   rows-are = ap₂ (λ (n : ℕ) (xs : List (List ℕ)). take n xs) rows-count behind-are ∙ take-front (rowResults p listedEnd) _
 
