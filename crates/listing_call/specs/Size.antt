@@ -1,5 +1,5 @@
 -- The largest listing. Assumes nothing.
-use mathlib.Core.Path.{_≡_, refl, sym, ap, ap₂, _∙_, subst}
+use mathlib.Core.Path.{_≡_, refl, sym, ap, _∙_, subst}
 use mathlib.Core.Bool.{Bool, true, false, true≢false}
 use mathlib.Core.Option.{Option, none, some}
 use mathlib.Core.List.{List, [], _∷_, _++_, map, flatten}
@@ -20,7 +20,7 @@ use Rattle.model.specs.Rounds.{Work}
 use Rattle.model.specs.Run.{Ending, nonHermitian, finished, Run, endAnswer, answerOf}
 use Rattle.model.specs.Results.{itemRecord, operationResults, rowResults}
 use Rattle.model.specs.Listing.{lineOf, textOf, resultLine, letterLines, refusalLines, firstLine, endLines, runLines, Read, read, jobLines}
-use Rattle.model.specs.Listing.{columns, linesOf, listing}
+use Rattle.model.specs.Listing.{linesOf, listing}
 use Rattle.theory.specs.Cases.{on-if, if-true, if-false}
 use Rattle.theory.specs.Checked.{accepts-only, records-length}
 use Rattle.theory.specs.AcceptedRun.{accepted-peak, hermitian-peak}

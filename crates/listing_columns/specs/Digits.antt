@@ -2,7 +2,7 @@
 use mathlib.Core.Path.{_≡_, refl, sym, ap, ap₂, _∙_}
 use mathlib.Core.Logic.{_⊎_, inl, inr}
 use mathlib.Core.Bool.{Bool, true, false, _&&_}
-use mathlib.Core.Option.{Option, none, some}
+use mathlib.Core.Option.{some}
 use mathlib.Core.List.{List, [], _∷_, _++_}
 use Prim.Native.Nat.{ℕ, zero, suc, _+_, _-_, _*_, _/_, _%_, _^_, _≤_, _<_}
 use native.Mathlib.Nat.{pow-suc}
@@ -16,6 +16,7 @@ use Rattle.model.specs.Program.{minusOne}
 use Rattle.model.specs.Listing.{columns, digitsFrom, numeral, unpadded, decimal, column}
 use Rattle.theory.specs.Cases.{by-if, on-if, if-true, if-false}
 use Rattle.theory.specs.Every.{Every, every-append}
+use Rattle.listing_columns.specs.Columns.{padded}
 
 -- a number that its column holds: all of its digits, or -1
 abbrev pub InColumn : ℕ → Type 0
@@ -117,16 +118,23 @@ decimal-read n h =
     zero-or (yes e) b = inl (b .alone e)
     zero-or (no e) b = inr (b .above (omega arith))
 
+minus-read : (n : ℕ) → n ≡ minusOne → numeral (unpadded (column n)) ≡ some n
+unfolding column if_then_else_
+minus-read n e =
+    ap (λ (d : List ℕ). numeral (unpadded (padded d))) (if-true _ (decimal columns n []) (eq-eqb n minusOne e))
+    ∙ (unfold numeral unpadded isEmpty in (ap some (sym e)))
+
 -- a column is read as the number that was printed
 pub column-read : (n : ℕ) → InColumn n → numeral (unpadded (column n)) ≡ some n
-unfolding column if_then_else_
-column-read n (inl h) =
-    ap (λ (d : List ℕ). numeral (unpadded (replicate (columns - length d) 32 ++ d)))
-    (if-false _ (decimal columns n []) (ne-eqb n minusOne (λ e. omega arith)))
-    ∙ ap numeral (unpadded-blanks (columns - length (decimal columns n [])) (decimal columns n [])) ∙ decimal-read n h
-column-read n (inr e) =
-    ap (λ (d : List ℕ). numeral (unpadded (replicate (columns - length d) 32 ++ d))) (if-true _ (decimal columns n []) (eq-eqb n minusOne e))
-    ∙ (unfold numeral unpadded isEmpty in (ap some (sym e)))
+unfolding column
+column-read n (inr e) = minus-read n e
+column-read n (inl h) = go (ℕ-discrete n minusOne)
+  where
+    go : Dec (n ≡ minusOne) → numeral (unpadded (column n)) ≡ some n
+    go (yes e) = minus-read n e
+    go (no e) =
+        ap (λ (d : List ℕ). numeral (unpadded (padded d))) (if-false _ (decimal columns n []) (ne-eqb n minusOne e))
+        ∙ ap numeral (unpadded-blanks (columns - length (decimal columns n [])) (decimal columns n [])) ∙ decimal-read n h
 
 -- ---- no newline is in a column
 
@@ -147,7 +155,7 @@ blank-bytes (suc m) = (refl, blank-bytes m)
 pub column-bytes : (n : ℕ) → Every NoNewline (column n)
 unfolding column
 column-bytes n =
-    by-if (λ (d : List ℕ). Every NoNewline (replicate (columns - length d) 32 ++ d)) (eqb n minusOne) (45 ∷ 49 ∷ []) (decimal columns n [])
+    by-if (λ (d : List ℕ). Every NoNewline (padded d)) (eqb n minusOne) (45 ∷ 49 ∷ []) (decimal columns n [])
     (every-append NoNewline (replicate (columns - 2) 32) (45 ∷ 49 ∷ []) (blank-bytes (columns - 2)) (refl, (refl, tt)))
     (every-append NoNewline (replicate (columns - length (decimal columns n [])) 32) (decimal columns n [])
     (blank-bytes (columns - length (decimal columns n []))) (decimal-bytes columns n [] tt))

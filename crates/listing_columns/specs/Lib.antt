@@ -1,4 +1,5 @@
+pub mod Columns
 pub mod Back
 pub mod Digits
-pub mod Columns
 pub mod Texts
+pub mod Example

@@ -3,15 +3,14 @@ use mathlib.Core.Path.{_≡_, refl, sym, ap, ap₂, _∙_}
 use mathlib.Core.Bool.{Bool}
 use mathlib.Core.Option.{Option, none, some, bind, Option·map, Option·getD}
 use mathlib.Core.List.{List, [], _∷_, _++_, map, flatten, append-nil, append-assoc}
-use Prim.Native.Nat.{ℕ, suc, _+_, _*_, _/_, _≤_}
+use Prim.Native.Nat.{ℕ, _/_, _≤_}
 use native.Mathlib.Omega.{arith}
-use lib.Dec.{eqb, ltb}
 use lib.ListN.{length, take, drop, length-append}
 use lib.Seq.{take-at, drop-at}
 use borrow.Author.Tests.{le-ltb}
 use Rattle.model.specs.Lists.{if_then_else_, isEmpty}
 use Rattle.model.specs.Listing.{columns, linesFrom, numeral, unpadded, fieldsFrom, column, lineOf, textOf}
-use Rattle.theory.specs.Cases.{if-true, if-false}
+use Rattle.theory.specs.Cases.{if-false}
 use Rattle.theory.specs.Every.{Every, every-append}
 use Rattle.listing_columns.specs.Back.{fieldsBack, eachBack, textBack, linesBack}
 use Rattle.listing_columns.specs.Digits.{InColumn, column-read, NoNewline, column-bytes}

@@ -1,7 +1,7 @@
 -- A call of Listing by what it answers, prints and leaves. Assumes nothing.
 use mathlib.Core.Path.{_≡_, refl, sym, ap, ap₂, _∙_}
 use mathlib.Core.Option.{Option, none, some}
-use mathlib.Core.List.{List, _++_}
+use mathlib.Core.List.{List}
 use Prim.Native.Nat.{ℕ, _+_, _≤_, _<_}
 use native.Mathlib.Decide.{decLt}
 use native.Mathlib.Omega.{arith}
@@ -10,11 +10,10 @@ use lib.Seq.{take-append-seam, drop-append-seam}
 use borrow.Author.Tests.{lt-ltb, le-ltb}
 use Rattle.store.specs.Part.{put}
 use Rattle.model.specs.declared.Answer.{Answer}
-use Rattle.model.specs.declared.Answer.the-variants.{Accepted, SliceShort, BadText}
-use Rattle.model.specs.Interface.{numberOf}
+use Rattle.model.specs.declared.Answer.the-variants.{SliceShort, BadText}
 use Rattle.model.specs.Checking.{Lent}
-use Rattle.model.specs.Rewriting.{Reply, refused, rewriting}
-use Rattle.model.specs.Listing.{Read, read, textOf, linesOf, listing}
+use Rattle.model.specs.Rewriting.{refused, rewriting}
+use Rattle.model.specs.Listing.{Read, read, textOf, listing}
 use Rattle.theory.specs.Cases.{if-true, if-false}
 use Rattle.theory.specs.ListingCalls.{optionsOf, listingAnswer}
 use Rattle.promises.specs.Calls.{Called}

@@ -1,12 +1,11 @@
 -- The counters of a run by Rust's defaults, which absorb at once and exchange nothing: a merge and an absorption at most for each item of a
 -- stream. Assumes nothing.
-use mathlib.Core.Path.{_≡_, refl, sym, ap, _∙_, subst}
-use mathlib.Core.Bool.{Bool, true, false, _&&_}
+use mathlib.Core.Path.{_≡_, refl, sym, subst}
+use mathlib.Core.Bool.{Bool, true, false}
 use mathlib.Core.List.{List, [], _∷_}
 use Prim.Native.Nat.{ℕ, zero, suc, _+_, _*_, _≤_}
 use native.Mathlib.Nat.{suc-mul}
 use native.Mathlib.Omega.{arith}
-use lib.Dec.{eqb}
 use lib.ListN.{length}
 use borrow.Author.Tests.{eq-eqb}
 use Rattle.pauli.specs.Word.{width}
@@ -103,7 +102,8 @@ module _ (l : ℕ) (r : Rules) (once : r .absorption ≡ atOnce) where
   module _ (none : r .window ≡ 0) where
     rounded : (k b n : ℕ) (going : Bool) (before : RoundBefore) (w : Work) → Counted b n w → Counted b (n + k * b) (roundsFrom l r k going before w)
     unfolding roundsFrom mergeRound exchangePass
-    rounded zero b n going before w h = record { formed = h .formed; merges = omega (arith, h .merges); absorbed = omega (arith, h .absorbed); swaps = h .swaps }
+    rounded zero b n going before w h =
+        record { formed = h .formed; merges = omega (arith, h .merges); absorbed = omega (arith, h .absorbed); swaps = h .swaps }
     rounded (suc k) b n false before w h =
         let e = suc-mul k b in
         record { formed = h .formed; merges = omega (arith, h .merges); absorbed = omega (arith, h .absorbed); swaps = h .swaps }

@@ -4,7 +4,7 @@ use mathlib.Core.Logic.{inl, inr}
 use mathlib.Core.Bool.{Bool, true, false, not, _&&_}
 use mathlib.Core.Option.{some}
 use mathlib.Core.List.{List, [], _∷_, _++_, map}
-use Prim.Native.Nat.{ℕ, suc, _+_, _*_, _≤_, _<_}
+use Prim.Native.Nat.{ℕ, suc, _+_, _≤_, _<_}
 use native.Mathlib.Omega.{arith}
 use lib.Dec.{eqb}
 use lib.ListN.{length}
@@ -29,7 +29,6 @@ use Rattle.theory.specs.Cases.{by-if}
 use Rattle.theory.specs.Every.{Every, every-append, every-map}
 use Rattle.theory.specs.Lists.{count-le}
 use Rattle.theory.specs.StreamState.{axisOf}
-use Rattle.theory.specs.AcceptedRun.{finishOf}
 use Rattle.theory.specs.ListingCalls.{optionsOf, listingAnswer, listed-fine, listed-hermitian}
 use Rattle.words_wellformed.specs.HeldImages.{acts-letter}
 use Rattle.words_wellformed.specs.SupportQubits.{support-all}
@@ -61,19 +60,49 @@ barrier-in : (op : Operation) (kind : Kind) (a s : ℕ) → Stops kind → op .o
     → a ≤ 128 → Every InColumn (resultLine (barrierRecord op kind a s))
 unfolding resultLine barrierRecord
 barrier-in op rotate a s k o t g h = absurd k
-barrier-in op measure a s k o t g h =
-    (small-in 2 (omega arith), (small-in a (omega arith), (sign-in s, (small-in 0 (omega arith),
-    (outcome-in (op .outcome) (omega arith), (outcome-in (op .target) t, tt))))))
-barrier-in op conditional a s k o t g h =
-    (small-in 3 (omega arith), (small-in a (omega arith), (small-in 1 (omega arith), (small-in _ (omega (arith, withSign-small s (op .angle) g)),
-    (outcome-in (op .outcome) (omega arith), (outcome-in noOutcome (omega arith), tt))))))
+barrier-in op measure a s k o t g h = (
+  small-in 2 (omega arith),
+  (
+    small-in a (omega arith),
+    (
+      sign-in s,
+      (
+        small-in 0 (omega arith),
+        (outcome-in (op .outcome) (omega arith), (outcome-in (op .target) t, tt)),
+      ),
+    ),
+  ),
+)
+barrier-in op conditional a s k o t g h = (
+  small-in 3 (omega arith),
+  (
+    small-in a (omega arith),
+    (
+      small-in 1 (omega arith),
+      (
+        small-in _ (omega (arith, withSign-small s (op .angle) g)),
+        (outcome-in (op .outcome) (omega arith), (outcome-in noOutcome (omega arith), tt)),
+      ),
+    ),
+  ),
+)
 
 module _ (ops : List Operation) (fields : Every SmallFields ops) (m : ℕ) (few : m ≤ 128) where
   item-in : (i : Item) → ItemStands ops i → axisOf i < m → TurnsItem i → Every InColumn (resultLine (itemRecord ops i))
   unfolding resultLine itemRecord
-  item-in (rotation r) h k g =
-      (small-in 1 (omega arith), (small-in (r .axis) (omega arith), (small-in 1 (omega arith), (small-in (r .angle) (omega arith),
-      (outcome-in noOutcome (omega arith), (outcome-in noOutcome (omega arith), tt))))))
+  item-in (rotation r) h k g = (
+    small-in 1 (omega arith),
+    (
+      small-in (r .axis) (omega arith),
+      (
+        small-in 1 (omega arith),
+        (
+          small-in (r .angle) (omega arith),
+          (outcome-in noOutcome (omega arith), (outcome-in noOutcome (omega arith), tt)),
+        ),
+      ),
+    ),
+  )
   item-in (barrier o a s) h k g =
       let f = fields-at ops fields o in
       barrier-in (operationAt ops o) (operationAt ops o .kind) a s (h .0) (f .1 (h .0)) (f .0) (h .1) (omega arith)
@@ -128,9 +157,10 @@ rows-in : (p : Program) (m i : ℕ) → m ≤ 128 → (rs : List PauliRef) (fs :
     → Every (Every InColumn) (rowResultsFrom p i rs fs)
 unfolding rowResultsFrom
 rows-in p m i h [] fs k g = tt
-rows-in p m i h (r ∷ rs) fs k g =
-    (row-in m i h (omega arith) (isRoot p r) fs g,
-    rows-in p m (suc i) h rs (axesLeft (isRoot p r) fs) (omega arith) (left-in m (isRoot p r) fs g))
+rows-in p m i h (r ∷ rs) fs k g = (
+  row-in m i h (omega arith) (isRoot p r) fs g,
+  rows-in p m (suc i) h rs (axesLeft (isRoot p r) fs) (omega arith) (left-in m (isRoot p r) fs g),
+)
 
 -- ---- letters
 
@@ -181,10 +211,25 @@ module _ (t : Read) (small : SmallText t) (yes′ : listingAnswer (some t) ≡ A
       let a = few-handed t small yes′ in
       let b = few-items t small yes′ in
       let d = few-axes t small yes′ in
-      let n = results-length p (listed-fine t yes′) r 8 in
-      (small-in 0 (omega arith), (small-in _ (omega (arith, source-few (p .operations))), (small-in _ (omega (arith, result-few (operationResults p e))),
-      (small-in _ (omega (arith, c .merges)), (small-in _ (omega (arith, c .swaps)), (small-in _ (omega (arith, c .absorbed)),
-      (small-in _ (omega arith), (small-in _ (omega arith), tt))))))))
+      let n = results-length p (listed-fine t yes′) r 8 in (
+        small-in 0 (omega arith),
+        (
+          small-in _ (omega (arith, source-few (p .operations))),
+          (
+            small-in _ (omega (arith, result-few (operationResults p e))),
+            (
+              small-in _ (omega (arith, c .merges)),
+              (
+                small-in _ (omega (arith, c .swaps)),
+                (
+                  small-in _ (omega (arith, c .absorbed)),
+                  (small-in _ (omega arith), (small-in _ (omega arith), tt)),
+                ),
+              ),
+            ),
+          ),
+        ),
+      )
 
   -- the T-count of the lines is that of the records
   pub listed-t : resultTCount (map resultLine (operationResults (programOf (t .job)) (listedEnd t yes′)))
@@ -209,9 +254,12 @@ module _ (t : Read) (small : SmallText t) (yes′ : listingAnswer (some t) ≡ A
 
   -- the first line's, and those of operations, rows and letters
   pub listed-in : Every (Every InColumn) (listedFirst t yes′ ∷ listedRest t yes′)
-  listed-in = (first-in, every-append (Every InColumn) (map resultLine (operationResults p e))
-      (rowResults p e ++ letterLines (width (p .qubits)) 0 (e .store .axes)) operations-in
-      (every-append (Every InColumn) (rowResults p e) (letterLines (width (p .qubits)) 0 (e .store .axes)) frame-in axes-in))
+  listed-in = (
+    first-in,
+    every-append (Every InColumn) (map resultLine (operationResults p e))
+        (rowResults p e ++ letterLines (width (p .qubits)) 0 (e .store .axes)) operations-in
+        (every-append (Every InColumn) (rowResults p e) (letterLines (width (p .qubits)) 0 (e .store .axes)) frame-in axes-in),
+  )
 
 -- a refusal's line
 pub refusal-in : (a : Answer) → numberOf a ≤ 11 → Every (Every InColumn) (refusalLines a)

@@ -2,18 +2,17 @@
 -- slice out and the slices s lent the code answered a, printed the first `size` bytes of the output, and left the output out′ and the slices
 -- s′; this equation is the contract of `listing::listing`, for all arguments. What is said of a result is read back from the bytes printed
 -- (listing_columns, Back; Back here). Under each promise stand two wrong programs that it rules out. Assumes nothing.
-use mathlib.Core.Path.{_≡_, refl, sym, ap, ap₂, _∙_, subst}
+use mathlib.Core.Path.{_≡_, refl, sym, ap, _∙_, subst}
 use mathlib.Core.Logic.{_⊎_, inl, inr, _↔_}
 use mathlib.Core.Bool.{Bool, true, false}
 use mathlib.Core.Option.{Option, none, some}
-use mathlib.Core.List.{List, [], _∷_, map}
+use mathlib.Core.List.{List, map}
 use Prim.Native.Nat.{ℕ, _-_, _≤_, _<_}
 use native.Mathlib.Decide.{decLt}
 use native.Mathlib.Omega.{arith}
 use lib.ListN.{length, drop}
 use Rattle.groups.specs.Abelian.{pow2}
-use Rattle.store.specs.Part.{put, put-length}
-use Rattle.pauli.specs.Word.{width}
+use Rattle.store.specs.Part.{put-length}
 use Rattle.model.specs.declared.Answer.{Answer}
 use Rattle.model.specs.declared.Answer.the-variants.{Accepted, SliceShort, BadText}
 use Rattle.model.specs.Interface.{numberOf, accepts}
@@ -26,25 +25,25 @@ use Rattle.model.specs.Listing.{Read, read, textOf, resultLine, refusalLines, f
 use Rattle.theory.specs.Checked.{accepts-only}
 use Rattle.theory.specs.AcceptedRun.{finishOf}
 use Rattle.theory.specs.ListingCalls.{optionsOf, listingAnswer, read-limit, same-text-at-larger-limit, no-more-listed}
-use Rattle.run_wellformed.specs.Lengths.{SameLengths, same-lengths}
+use Rattle.run_wellformed.specs.Lengths.{SameLengths}
 use Rattle.result_effect.specs.Listing.{operations-are, rows-are, listed-axes}
 use Rattle.run_effect.specs.RunEffect.{Effects, sourceEffect, resultEffect}
 use Rattle.run_effect.specs.Calls.{listing-keeps-effect}
-use Rattle.promises.specs.Calls.{Called, answer-is}
+use Rattle.promises.specs.Calls.{Called}
 use Rattle.promises.specs.Strategies.{endWork}
 use Rattle.promises.specs.Promises as rewriting-promises
 use Rattle.promises.specs.Promises.{Cleared, Holds, tCountHanded}
 use Rattle.listing_columns.specs.Back.{textBack, linesBack, firstBack}
 use Rattle.listing_columns.specs.Texts.{text-back, lines-back}
-use Rattle.listing_call.specs.Call.{mostBytes, printedText, noRoom, ListingReply, listingCall}
+use Rattle.listing_call.specs.Call.{mostBytes, printedText, noRoom, ListingReply}
 use Rattle.listing_call.specs.Reads.{read-small}
-use Rattle.listing_call.specs.Replies.{bad-text, refused-lines, printed-size}
+use Rattle.listing_call.specs.Replies.{printed-size}
 use Rattle.listing_call.specs.Rooms.{call-fits}
-use Rattle.listing_promises.specs.Fields.{refusal-in, listed-t}
-use Rattle.listing_promises.specs.Calls.{ListingCalled, printed, without-room, room-of, unread-by, called-by, bytes-by, behind-by}
+use Rattle.listing_promises.specs.Fields.{listed-t}
+use Rattle.listing_promises.specs.Calls.{ListingCalled, printed, without-room, room-of, unread-by, called-by, behind-by}
 use Rattle.listing_promises.specs.Calls.{output-by, listing-printed, listing-answered}
 use Rattle.listing_promises.specs.TwoCalls.{AlikeTexts, alike-options, alike-back, ZeroOrNine, not-short}
-use Rattle.listing_promises.specs.Back.{headField, operationsPrinted, rowsPrinted, axesPrinted, listed-accepted, lines-listed, Lines}
+use Rattle.listing_promises.specs.Back.{headField, operationsPrinted, rowsPrinted, axesPrinted, listed-accepted, lines-listed}
 use Rattle.listing_promises.specs.Back.{refusal-by, lines-by}
 
 -- ==== what the sentences speak of
@@ -118,6 +117,12 @@ module _ {text out : List ℕ} {s : Lent} {a : Answer} {size : ℕ} {out′ : Li
       there f =
           by-cases _ (λ h. let e = no-room h .0 in let z : _≡_ {A = ℕ} 0 1 = cc in absurd (omega arith)) (λ h e. (h, e))
           (λ t h e. absurd (omega (arith, ap numberOf f, rewriting-promises.answers-0-to-10 (called-by call h t e))))
+
+  -- so whatever is answered but 3 and 11, the text says a program: the promises below about accepted calls leave none out.
+  -- Rules out: 0 for an empty text; 10 for a text of too many lines
+  pub program-read : (a ≡ SliceShort → ⊥) → (a ≡ BadText → ⊥) → (t : Read) × (read text ≡ some t)
+  program-read n m =
+      by-cases _ (λ h. absurd (n (no-room h .0))) (λ h e. absurd (m (unread-by call h e .0))) (λ t h e. (t, e))
 
   -- "then as rewriting": what is read is handed to Rewriting with Rust's defaults, and its answer and slices are the call's. So all that
   -- `promises` says of a call of Rewriting holds of this one.

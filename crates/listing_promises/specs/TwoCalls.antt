@@ -1,24 +1,16 @@
 -- Two listings that are alike but for the limit, and that read their texts. Assumes nothing.
-use mathlib.Core.Path.{_≡_, refl, sym, ap, _∙_}
+use mathlib.Core.Path.{_≡_, refl, sym}
 use mathlib.Core.Logic.{_⊎_, inl, inr}
-use mathlib.Core.Bool.{Bool, true, false, true≢false, _||_}
 use mathlib.Core.Option.{some}
 use mathlib.Core.List.{List}
-use Prim.Native.Nat.{ℕ, _≤_}
+use Prim.Native.Nat.{ℕ}
 use native.Mathlib.Omega.{arith}
 use Rattle.model.specs.declared.Answer.{Answer}
-use Rattle.model.specs.declared.Answer.the-variants.{Accepted, CountOutside, OptionOutside, SliceShort, NonHermitianAxis, ExpansionLimit}
-use Rattle.model.specs.declared.Options.{Options}
-use Rattle.model.specs.Lists.{if_then_else_}
-use Rattle.model.specs.Interface.{numberOf, accepts}
-use Rattle.model.specs.Program.{Job}
-use Rattle.model.specs.Rules.{absorptionOf, rulesOf}
-use Rattle.model.specs.Checking.{Lent, badCount, badOption, programShort, lentShort, checkProgram, checking}
-use Rattle.model.specs.Rewriting.{rewriting}
+use Rattle.model.specs.declared.Answer.the-variants.{Accepted, SliceShort, NonHermitianAxis}
 use Rattle.model.specs.Listing.{Read, read}
 use Rattle.theory.specs.Alike.{Alike}
-use Rattle.theory.specs.ListingCalls.{optionsOf, read-limit, defaults-good}
-use Rattle.promises.specs.Alike.{AlikeButRoundsAndLimit, AlikeButLimit}
+use Rattle.theory.specs.ListingCalls.{optionsOf}
+use Rattle.promises.specs.Alike.{AlikeButLimit}
 
 -- 01: "Two runs, both Rewriting or both Listing, are alike if their counts, counted records and options are equal": all but the limit, which
 -- the first line has

@@ -62,9 +62,10 @@ fields-checked n seen (r ∷ rs) h =
     let b = both-accepted _ _ h in
     let c = not-refused _ BadOperation _ refl (b .0) in
     let f = neither (eqb (fieldOf r 0) 0 || ltb 3 (fieldOf r 0) || ltb 7 (fieldOf r 3) || ltb noOutcome (fieldOf r 5)) _ (c .0) in
-    let target = neither (eqb (fieldOf r 0) 0 || ltb 3 (fieldOf r 0) || ltb 7 (fieldOf r 3)) _ (f .0) .1 in
-    ((ltb-false noOutcome (fieldOf r 5) target, λ k. ltb-false largestOutcome (fieldOf r 4) (not-rotation (fieldOf r 0) _ k (f .1))),
-    fields-checked n (measured seen r) rs (b .1))
+    let target = neither (eqb (fieldOf r 0) 0 || ltb 3 (fieldOf r 0) || ltb 7 (fieldOf r 3)) _ (f .0) .1 in (
+      (ltb-false noOutcome (fieldOf r 5) target, λ k. ltb-false largestOutcome (fieldOf r 4) (not-rotation (fieldOf r 0) _ k (f .1))),
+      fields-checked n (measured seen r) rs (b .1),
+    )
 
 program-fields : (j : Job) → checkProgram j ≡ Accepted → Every SmallFields (programOf j .operations)
 unfolding checkProgram programOf
