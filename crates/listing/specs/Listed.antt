@@ -26,6 +26,7 @@ use Rattle.listing_read.specs.Views.{Room, readBy}
 use Rattle.listing_print.specs.Printed.{Printed}
 use Rattle.listing_print.specs.Results.{resultLines, ResultPre, replyLines, ReplyPre}
 use Rattle.listing_call.specs.Call.{mostBytes, replyTo, printedLines, printedText, ListingReply, printedReply, noRoom, listingCall}
+use Rattle.listing_call.specs.Call.{ListingCalled}
 use Rattle.listing_call.specs.Reads.{SmallText}
 use Rattle.listing_call.specs.Replies.{accepted-lines, refused-lines, bad-text}
 use Rattle.listing_call.specs.Rooms.{result-asks, call-fits}
@@ -165,3 +166,8 @@ listing-called {text} {out} {s} e = record {
   same = e;
   fits = subst (λ (c : ListingReply). c .size ≤ length out) (sym e) (call-fits text out s);
 }
+
+-- so every call is one that `listing_promises` speaks of
+pub promised : {text out : List ℕ} {s : Lent} {l : Listed} {out′ : List ℕ} {s′ : Lent} → ListingCall text out s l out′ s′
+    → ListingCalled text out s (l .answer) (l .size) out′ s′
+promised c = record { replied = c .same }

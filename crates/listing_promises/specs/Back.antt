@@ -22,11 +22,11 @@ use Rattle.promises.specs.Calls.{answer-is}
 use Rattle.listing_columns.specs.Back.{linesBack, firstBack, restBack}
 use Rattle.listing_columns.specs.Digits.{InColumn}
 use Rattle.listing_columns.specs.Texts.{lines-back}
-use Rattle.listing_call.specs.Call.{mostBytes, printedLines, printedText}
+use Rattle.listing_call.specs.Call.{ListingCalled, mostBytes, printedLines, printedText}
 use Rattle.listing_call.specs.Reads.{read-small}
 use Rattle.listing_call.specs.Replies.{bad-text, refused-lines}
 use Rattle.listing_promises.specs.Fields.{listed-in, refusal-in}
-use Rattle.listing_promises.specs.Calls.{ListingCalled, printed, unread-by, called-by, bytes-by, listing-printed, listing-answered}
+use Rattle.listing_promises.specs.Calls.{printed, unread-by, called-by, bytes-by, listing-printed, listing-answered}
 
 -- ---- the records of a printed text
 

@@ -17,14 +17,8 @@ use Rattle.model.specs.Listing.{Read, read, textOf, listing}
 use Rattle.theory.specs.Cases.{if-true, if-false}
 use Rattle.theory.specs.ListingCalls.{optionsOf, listingAnswer}
 use Rattle.promises.specs.Calls.{Called}
-use Rattle.listing_call.specs.Call.{mostBytes, replyTo, printedText, ListingReply, printedReply, noRoom, listingCall}
+use Rattle.listing_call.specs.Call.{ListingCalled, mostBytes, replyTo, printedText, ListingReply, printedReply, noRoom, listingCall}
 use Rattle.listing_call.specs.Replies.{reply-answer, other-lines}
-
--- with the text handed in, the output slice out and the slices s lent, Listing answered a, printed the first `size` bytes of the output, and
--- left the output out′ and the slices s′. The equation is the contract of `listing::listing`, which has no `requires`: every call ends in
--- it, for all arguments
-pub record ListingCalled (text out : List ℕ) (s : Lent) (a : Answer) (size : ℕ) (out′ : List ℕ) (s′ : Lent) : Type 0 where
-  pub replied : _≡_ {A = ListingReply} (record { answer = a; size = size; output = out′; lent = s′ }) (listingCall text out s)
 
 -- "A Listing's results and counters are what it prints": the bytes
 abbrev pub printed : ℕ → List ℕ → List ℕ

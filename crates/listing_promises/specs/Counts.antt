@@ -123,23 +123,24 @@ module _ (l : ℕ) (r : Rules) (once : r .absorption ≡ atOnce) where
 
 -- ---- a run by Rust's defaults: 8 rounds and one more stream
 
-module _ (limit : ℕ) (p : Program) (fine : Fine p) where
-  pub record DefaultCounts (n : ℕ) (w : Work) : Type 0 where
-    pub merges : w .merges ≤ 9 * n
-    pub absorbed : w .absorbed ≤ 9 * n
-    pub swaps : w .swaps ≡ 0
+pub record DefaultCounts (n : ℕ) (w : Work) : Type 0 where
+  pub merges : w .merges ≤ 9 * n
+  pub absorbed : w .absorbed ≤ 9 * n
+  pub swaps : w .swaps ≡ 0
 
-  pub default-counts : DefaultCounts (length (p .operations)) (endOf (rulesOf (defaultsAt limit)) 8 p)
-  unfolding rulesOf absorptionOf endOf passes mergeRounds if_then_else_
-  default-counts =
-      let l = width (p .qubits) in
-      let r = rulesOf (defaultsAt limit) in
-      let b = length (p .operations) in
-      let first : Counted l r refl b 0 (startOf p) = record {
-        formed = start-formed p fine;
-        merges = unfold startOf in (omega arith);
-        absorbed = unfold startOf in (omega arith);
-        swaps = unfold startOf in refl;
-      } in
-      let h = closed l r refl refl 8 b (0 + 8 * b) (roundsFrom l r 8 true noRound (startOf p)) (rounded l r refl refl 8 b 0 true noRound (startOf p) first) in
-      record { merges = omega (arith, h .merges); absorbed = omega (arith, h .absorbed); swaps = h .swaps }
+pub default-counts : (limit : ℕ) (p : Program) → Fine p
+    → DefaultCounts (length (p .operations)) (endOf (rulesOf (defaultsAt limit)) 8 p)
+unfolding rulesOf absorptionOf endOf passes mergeRounds if_then_else_
+default-counts limit p fine =
+    let l = width (p .qubits) in
+    let r = rulesOf (defaultsAt limit) in
+    let b = length (p .operations) in
+    let first : Counted l r refl b 0 (startOf p) = record {
+      formed = start-formed p fine;
+      merges = unfold startOf in (omega arith);
+      absorbed = unfold startOf in (omega arith);
+      swaps = unfold startOf in refl;
+    } in
+    let h = closed l r refl refl 8 b (0 + 8 * b) (roundsFrom l r 8 true noRound (startOf p))
+    (rounded l r refl refl 8 b 0 true noRound (startOf p) first) in
+    record { merges = omega (arith, h .merges); absorbed = omega (arith, h .absorbed); swaps = h .swaps }

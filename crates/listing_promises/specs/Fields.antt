@@ -38,6 +38,7 @@ use Rattle.run_wellformed.specs.Points.{passes-reached}
 use Rattle.run_wellformed.specs.RunWellFormed.{end-formed, results-length}
 use Rattle.result_effect.specs.Records.{Stops, ItemStands, point-stands}
 use Rattle.result_effect.specs.Listing.{SmallFields, fields-at, listed-fields, listedEnd, listedFirst, listedRest}
+use Rattle.promises.specs.Left.{AxisIn, left-in}
 use Rattle.listing_columns.specs.Digits.{InColumn}
 use Rattle.listing_call.specs.Reads.{SmallText}
 use Rattle.listing_call.specs.Size.{few-handed, few-rows, few-items, few-axes, one-word}
@@ -138,22 +139,13 @@ items-t ops (i ∷ is) h =
 
 -- ---- rows
 
-abbrev IdBelow : ℕ → SignedAxis → Type 0
-IdBelow m f = f .axis < m
-
-row-in : (m i : ℕ) → m ≤ 128 → i ≤ 128 → (b : Bool) (fs : List SignedAxis) → Every (IdBelow m) fs → Every InColumn (rowRecord b i fs)
+row-in : (m i : ℕ) → m ≤ 128 → i ≤ 128 → (b : Bool) (fs : List SignedAxis) → Every (AxisIn m) fs → Every InColumn (rowRecord b i fs)
 unfolding rowRecord keptRow givenRow
 row-in m i h k false fs g = (small-in _ (omega arith), (small-in _ (omega arith), (inr refl, (small-in 0 (omega arith), tt))))
 row-in m i h k true [] g = (small-in _ (omega arith), (small-in _ (omega arith), (inr refl, (small-in 0 (omega arith), tt))))
 row-in m i h k true (f ∷ fs) g = (small-in _ (omega arith), (small-in _ (omega arith), (small-in _ (omega (arith, g .0)), (sign-in (f .sign), tt))))
 
-left-in : (m : ℕ) (b : Bool) (fs : List SignedAxis) → Every (IdBelow m) fs → Every (IdBelow m) (axesLeft b fs)
-unfolding axesLeft
-left-in m false fs h = h
-left-in m true [] h = tt
-left-in m true (f ∷ fs) h = h .1
-
-rows-in : (p : Program) (m i : ℕ) → m ≤ 128 → (rs : List PauliRef) (fs : List SignedAxis) → i + length rs ≤ 128 → Every (IdBelow m) fs
+rows-in : (p : Program) (m i : ℕ) → m ≤ 128 → (rs : List PauliRef) (fs : List SignedAxis) → i + length rs ≤ 128 → Every (AxisIn m) fs
     → Every (Every InColumn) (rowResultsFrom p i rs fs)
 unfolding rowResultsFrom
 rows-in p m i h [] fs k g = tt
@@ -247,7 +239,7 @@ module _ (t : Read) (small : SmallText t) (yes′ : listingAnswer (some t) ≡ A
   unfolding rowResults
   frame-in =
       rows-in p (length (e .store .axes)) 0 (few-axes t small yes′) (p .rows) _ (omega (arith, few-rows t small yes′))
-      (by-if (Every (IdBelow (length (e .store .axes)))) _ [] _ tt (ids .rows))
+      (by-if (Every (AxisIn (length (e .store .axes)))) _ [] _ tt (ids .rows))
 
   axes-in : Every (Every InColumn) (letterLines (width (p .qubits)) 0 (e .store .axes))
   axes-in = letters-in (width (p .qubits)) (one-word t small yes′) 0 (e .store .axes) (omega (arith, few-axes t small yes′))

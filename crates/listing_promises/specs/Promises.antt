@@ -1,4 +1,4 @@
--- The three demands about Listing, as theorems about its calls. `ListingCalled text out s a size out′ s′` (Calls): with this text, the output
+-- The three demands about Listing, as theorems about its calls. `ListingCalled text out s a size out′ s′` (listing_call, Call): with this text, the output
 -- slice out and the slices s lent the code answered a, printed the first `size` bytes of the output, and left the output out′ and the slices
 -- s′; this equation is the contract of `listing::listing`, for all arguments. What is said of a result is read back from the bytes printed
 -- (listing_columns, Back; Back here). Under each promise stand two wrong programs that it rules out. Assumes nothing.
@@ -35,14 +35,14 @@ use Rattle.promises.specs.Promises as rewriting-promises
 use Rattle.promises.specs.Promises.{Cleared, Holds, tCountHanded}
 use Rattle.listing_columns.specs.Back.{textBack, linesBack, firstBack}
 use Rattle.listing_columns.specs.Texts.{text-back, lines-back}
-use Rattle.listing_call.specs.Call.{mostBytes, printedText, noRoom, ListingReply}
+use Rattle.listing_call.specs.Call.{ListingCalled, mostBytes, printedText, noRoom, ListingReply}
 use Rattle.listing_call.specs.Reads.{read-small}
 use Rattle.listing_call.specs.Replies.{printed-size}
 use Rattle.listing_call.specs.Rooms.{call-fits}
 use Rattle.listing_promises.specs.Fields.{listed-t}
-use Rattle.listing_promises.specs.Calls.{ListingCalled, printed, without-room, room-of, unread-by, called-by, behind-by}
+use Rattle.listing_promises.specs.Calls.{printed, without-room, room-of, unread-by, called-by, behind-by}
 use Rattle.listing_promises.specs.Calls.{output-by, listing-printed, listing-answered}
-use Rattle.listing_promises.specs.TwoCalls.{AlikeTexts, alike-options, alike-back, ZeroOrNine, not-short}
+use Rattle.listing_promises.specs.Alike.{AlikeTexts, alike-options, alike-back, ZeroOrNine, not-short}
 use Rattle.listing_promises.specs.Back.{headField, operationsPrinted, rowsPrinted, axesPrinted, listed-accepted, lines-listed}
 use Rattle.listing_promises.specs.Back.{refusal-by, lines-by}
 
@@ -204,7 +204,7 @@ module _ {text out : List ℕ} {s : Lent} {a : Answer} {size : ℕ} {out′ : Li
   answers-the-listing n = listing-answered call n
 
   -- whatever is printed is lines of columns, each a number that is not cut, or -1: it can be read back.
-  -- Rules out: a ninth digit dropped; two fields without a blank between them where the second is read as one with the first
+  -- Rules out: a number whose ninth digit is dropped; a last line without its newline
   pub readable : mostBytes ≤ length out → textBack (printed size out′) ≡ some (linesBack (printed size out′))
   readable h =
       let l = lines-by call h (answers-0-to-11 call) in
