@@ -1,7 +1,7 @@
--- The three demands about Listing, as theorems about its calls. `ListingCalled text out s a size out′ s′` (listing_call, Call): with this text, the output
--- slice out and the slices s lent the code answered a, printed the first `size` bytes of the output, and left the output out′ and the slices
--- s′; this equation is the contract of `listing::listing`, for all arguments. What is said of a result is read back from the bytes printed
--- (listing_columns, Back; Back here). Under each promise stand two wrong programs that it rules out. Assumes nothing.
+-- The three demands about Listing, as theorems about its calls. `ListingCalled text out s a size out′ s′` (listing_call, Call): with this
+-- text, the output slice out and the slices s lent the code answered a, printed the first `size` bytes of the output, and left the output
+-- out′ and the slices s′; this equation is in the contract of `listing::listing`, for all arguments. What is said of a result is read back
+-- from the bytes printed (listing_columns, Back; Back here). Under each promise stand two wrong programs that it rules out. Assumes nothing.
 use mathlib.Core.Path.{_≡_, refl, sym, ap, _∙_, subst}
 use mathlib.Core.Logic.{_⊎_, inl, inr, _↔_}
 use mathlib.Core.Bool.{Bool, true, false}
@@ -190,10 +190,10 @@ pub acceptance : {text out : List ℕ} {s : Lent} {size : ℕ} {out′ : List �
     → (t : Read) → read text ≡ some t → Holds (programOf (t .job)) (endWork (optionsOf t) (t .job)) s s′
 acceptance call t e = rewriting-promises.acceptance (called-by call (room-of call (not-short (inl refl))) t e)
 
--- ==== Demand 2. Meaning
+-- ==== Demand 2. Meaning: "Each pass gives exactly what 01's rules give, as an equation with a definition"
 
 module _ {text out : List ℕ} {s : Lent} {a : Answer} {size : ℕ} {out′ : List ℕ} {s′ : Lent} (call : ListingCalled text out s a size out′ s′) where
-  -- "as an equation with a definition": where 3 does not refuse, the bytes printed are 01's listing of the text, byte by byte.
+  -- where 3 does not refuse, the bytes printed are 01's listing of the text, byte by byte.
   -- Rules out: one constant listing; a field that is left-justified
   pub prints-the-listing : (a ≡ SliceShort → ⊥) → printed size out′ ≡ listing text
   prints-the-listing n = listing-printed call n
