@@ -1,5 +1,6 @@
 -- What an accepted call of Listing prints, read back from its bytes alone: first line, operations, rows and axes. Assumes nothing.
 use mathlib.Core.Path.{_≡_, refl, sym, ap, ap₂, _∙_, subst}
+use mathlib.Core.Logic.{inl}
 use mathlib.Core.Bool.{Bool, true, false}
 use mathlib.Core.Option.{Option, none, some}
 use mathlib.Core.List.{List, [], _∷_}
@@ -8,7 +9,7 @@ use native.Mathlib.Omega.{arith}
 use lib.ListN.{length, getD}
 use Rattle.pauli.specs.Word.{width}
 use Rattle.model.specs.declared.Answer.{Answer}
-use Rattle.model.specs.declared.Answer.the-variants.{Accepted, SliceShort}
+use Rattle.model.specs.declared.Answer.the-variants.{Accepted}
 use Rattle.model.specs.Interface.{numberOf, accepts}
 use Rattle.model.specs.Program.{fieldOf}
 use Rattle.model.specs.Checking.{Lent}
@@ -26,6 +27,7 @@ use Rattle.listing_call.specs.Call.{ListingCalled, mostBytes, printedLines, pri
 use Rattle.listing_call.specs.Reads.{read-small}
 use Rattle.listing_call.specs.Replies.{bad-text, refused-lines}
 use Rattle.listing_promises.specs.Fields.{listed-in, refusal-in}
+use Rattle.listing_promises.specs.Alike.{not-short}
 use Rattle.listing_promises.specs.Calls.{printed, unread-by, called-by, bytes-by, listing-printed, listing-answered}
 
 -- ---- the records of a printed text
@@ -50,18 +52,15 @@ axesPrinted q bytes = axesRead (width q) 0 (headField bytes 7) (lettersRead q (f
 
 module _ {text out : List ℕ} {s : Lent} {size : ℕ} {out′ : List ℕ} {s′ : Lent} (call : ListingCalled text out s Accepted size out′ s′)
     (t : Read) (reads : read text ≡ some t) where
-  taken : Accepted ≡ SliceShort → ⊥
-  taken e = let z : _≡_ {A = ℕ} 0 1 = cc in omega arith
-
   -- the text's program was accepted
   pub listed-accepted : listingAnswer (some t) ≡ Accepted
-  listed-accepted = sym (listing-answered call taken ∙ ap listingAnswer reads)
+  listed-accepted = sym (listing-answered call (not-short (inl refl)) ∙ ap listingAnswer reads)
 
   inside : Every (Every InColumn) (listedFirst t listed-accepted ∷ listedRest t listed-accepted)
   inside = listed-in t (read-small text t reads) listed-accepted
 
   bytes-are : printed size out′ ≡ textOf (listedFirst t listed-accepted ∷ listedRest t listed-accepted)
-  bytes-are = listing-printed call taken ∙ listed-text t listed-accepted text reads
+  bytes-are = listing-printed call (not-short (inl refl)) ∙ listed-text t listed-accepted text reads
 
   -- the lines read back are those of its run's end
   pub lines-listed : linesBack (printed size out′) ≡ listedFirst t listed-accepted ∷ listedRest t listed-accepted
