@@ -26,10 +26,10 @@ use Rattle.listing_read.specs.Views.{Room, readBy}
 use Rattle.listing_print.specs.Printed.{Printed}
 use Rattle.listing_print.specs.Results.{resultLines, ResultPre, replyLines, ReplyPre}
 use Rattle.listing_call.specs.Call.{mostBytes, replyTo, printedLines, printedText, ListingReply, printedReply, noRoom, listingCall}
-use Rattle.listing_call.specs.Reads.{Small}
+use Rattle.listing_call.specs.Call.{ListingCalled}
+use Rattle.listing_call.specs.Reads.{SmallText}
 use Rattle.listing_call.specs.Replies.{accepted-lines, refused-lines, bad-text}
-use Rattle.listing_call.specs.Rooms.{result-asks}
-use Rattle.listing_call.specs.TwoCalls.{call-fits}
+use Rattle.listing_call.specs.Rooms.{result-asks, call-fits}
 use Rattle.listing.specs.declared.Listed.{Listed}
 use Rattle.rewrite.specs.declared.Rewritten.{Rewritten}
 use Rattle.rewrite.specs.Call.{RewritingCall}
@@ -53,7 +53,7 @@ readTo c limit nodes operations rows = record {
 }
 
 pub record RunPre (c : Counts) (limit : ℕ) (nodes operations rows out : List ℕ) : Type 0 where
-  pub small : Small (readTo c limit nodes operations rows)
+  pub small : SmallText (readTo c limit nodes operations rows)
   pub read-room : Room nodes operations rows
   pub room : mostBytes ≤ length out
 
@@ -79,7 +79,7 @@ reply-same {a} {b} {n} {m} {x} {y} {s} {z} p q r u =
 abbrev pub linesBy : ℕ → Rewritten → Lent → List (List ℕ)
 linesBy qubits r s = replyLines (r .answer) (r .counters) qubits (r .operations) (r .axes) (s .words) (s .operations) (s .rows)
 
-module _ (t : Read) (small : Small t) (s : Lent) (r : Rewritten) (s′ : Lent) (call : RewritingCall (optionsOf t) (t .job) s r s′) where
+module _ (t : Read) (small : SmallText t) (s : Lent) (r : Rewritten) (s′ : Lent) (call : RewritingCall (optionsOf t) (t .job) s r s′) where
   accepted-there : r .answer ≡ Accepted → rewriting (optionsOf t) (t .job) s .answer ≡ Accepted
   accepted-there e = sym (call .answer) ∙ e
 
@@ -166,3 +166,8 @@ listing-called {text} {out} {s} e = record {
   same = e;
   fits = subst (λ (c : ListingReply). c .size ≤ length out) (sym e) (call-fits text out s);
 }
+
+-- so every call is one that `listing_promises` speaks of
+pub promised : {text out : List ℕ} {s : Lent} {l : Listed} {out′ : List ℕ} {s′ : Lent} → ListingCall text out s l out′ s′
+    → ListingCalled text out s (l .answer) (l .size) out′ s′
+promised c = record { replied = c .same }

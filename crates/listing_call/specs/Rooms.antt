@@ -5,7 +5,9 @@ use mathlib.Core.List.{List}
 use Prim.Native.Nat.{ℕ, _*_, _≤_}
 use native.Mathlib.Nat.{le-trans}
 use native.Mathlib.Omega.{arith}
+use lib.Dec.{ltb}
 use lib.ListN.{length}
+use borrow.Author.Tests.{ltb-false}
 use Rattle.pauli.specs.Word.{width}
 use Rattle.model.specs.declared.Answer.the-variants.{Accepted}
 use Rattle.model.specs.Program.{operationOf, programOf}
@@ -13,7 +15,8 @@ use Rattle.model.specs.Rules.{rulesOf}
 use Rattle.model.specs.Run.{endOf}
 use Rattle.model.specs.Checking.{Lent, wordsAsked}
 use Rattle.model.specs.Rewriting.{rewriting}
-use Rattle.model.specs.Listing.{Read, textOf}
+use Rattle.model.specs.Listing.{Read, read, textOf}
+use Rattle.theory.specs.Cases.{on-if}
 use Rattle.theory.specs.Checked.{records-length, checked-fine}
 use Rattle.theory.specs.AcceptedRun.{hermitian-peak}
 use Rattle.theory.specs.TCountCalls.{accepted-checks, accepted-within, accepted-hermitian}
@@ -21,14 +24,14 @@ use Rattle.theory.specs.ListingCalls.{optionsOf}
 use Rattle.run_wellformed.specs.RunWellFormed.{end-formed}
 use Rattle.run_wellformed.specs.Lengths.{LongEnough, long-enough, operations-fit, same-lengths}
 use Rattle.listing_print.specs.Results.{ResultPre}
-use Rattle.listing_call.specs.Call.{mostBytes, printedText}
-use Rattle.listing_call.specs.Reads.{Small}
+use Rattle.listing_call.specs.Call.{mostBytes, replyTo, printedText, ListingReply, printedReply, noRoom, listingCall}
+use Rattle.listing_call.specs.Reads.{SmallText, read-small}
 use Rattle.listing_call.specs.Replies.{operationsOut, axesOut, accepted-lines, printed-size}
 
 some-same : {t u : Read} → _≡_ {A = Option Read} (some t) (some u) → t ≡ u
 some-same e = cc
 
-module _ (t : Read) (small : Small t) (s : Lent) (yes′ : rewriting (optionsOf t) (t .job) s .answer ≡ Accepted) where
+module _ (t : Read) (small : SmallText t) (s : Lent) (yes′ : rewriting (optionsOf t) (t .job) s .answer ≡ Accepted) where
   long : LongEnough (t .job) s (t .limit)
   long = long-enough (optionsOf t) (t .job) s (accepted-checks (optionsOf t) (t .job) s yes′)
 
@@ -64,5 +67,14 @@ module _ (t : Read) (small : Small t) (s : Lent) (yes′ : rewriting (optionsOf 
         rows-in = omega (arith, long .rows, same .rows);
         axes-in = omega (arith, axes-words, long .words, same .words);
         fits = le-trans (subst (λ (n : ℕ). n ≤ mostBytes) (ap (λ (ls : List (List ℕ)). length (textOf ls)) (accepted-lines t s yes′))
-            (printed-size (some t) (rewriting (optionsOf t) (t .job) s .answer) (λ u e. subst Small (some-same e) small))) h;
+            (printed-size (some t) (rewriting (optionsOf t) (t .job) s .answer) (λ u e. subst SmallText (some-same e) small))) h;
       }
+
+-- what is printed lies in the output
+pub call-fits : (text out : List ℕ) (s : Lent) → listingCall text out s .size ≤ length out
+unfolding listingCall printedReply noRoom
+call-fits text out s =
+    on-if (λ (c : ListingReply). c .size ≤ length out) (ltb (length out) mostBytes) (noRoom out s)
+    (printedReply (read text) out (replyTo (read text) s))
+    (λ e. omega arith)
+    (λ e. le-trans (printed-size (read text) _ (λ t f. read-small text t f)) (ltb-false (length out) mostBytes e))

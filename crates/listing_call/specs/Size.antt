@@ -1,5 +1,5 @@
 -- The largest listing. Assumes nothing.
-use mathlib.Core.Path.{_≡_, refl, sym, ap, ap₂, _∙_, subst}
+use mathlib.Core.Path.{_≡_, refl, sym, ap, _∙_, subst}
 use mathlib.Core.Bool.{Bool, true, false, true≢false}
 use mathlib.Core.Option.{Option, none, some}
 use mathlib.Core.List.{List, [], _∷_, _++_, map, flatten}
@@ -20,7 +20,7 @@ use Rattle.model.specs.Rounds.{Work}
 use Rattle.model.specs.Run.{Ending, nonHermitian, finished, Run, endAnswer, answerOf}
 use Rattle.model.specs.Results.{itemRecord, operationResults, rowResults}
 use Rattle.model.specs.Listing.{lineOf, textOf, resultLine, letterLines, refusalLines, firstLine, endLines, runLines, Read, read, jobLines}
-use Rattle.model.specs.Listing.{columns, linesOf, listing}
+use Rattle.model.specs.Listing.{linesOf, listing}
 use Rattle.theory.specs.Cases.{on-if, if-true, if-false}
 use Rattle.theory.specs.Checked.{accepts-only, records-length}
 use Rattle.theory.specs.AcceptedRun.{accepted-peak, hermitian-peak}
@@ -30,22 +30,13 @@ use Rattle.run_wellformed.specs.Memory.{axes-within, width-positive}
 use Rattle.run_wellformed.specs.RunWellFormed.{end-formed, rowResults-length}
 use Rattle.run_wellformed.specs.Lengths.{row-records-fit}
 use Rattle.result_effect.specs.Listing.{listedEnd, listedFirst, listed-lines}
-use Rattle.listing_print.specs.Columns.{lineBytes}
-use Rattle.listing_print.specs.Texts.{text-append, line-length}
+use Rattle.listing_columns.specs.Columns.{lineBytes, line-length, text-append, text-size}
 use Rattle.listing_call.specs.Call.{mostBytes}
-use Rattle.listing_call.specs.Reads.{Small, read-small}
+use Rattle.listing_call.specs.Reads.{SmallText, read-small}
 
--- ---- a text's length: a column for each field, a newline for each line
+-- ---- operations
 
-text-size : (ls : List (List ℕ)) → length (textOf ls) ≡ length (flatten ls) * columns + length ls
-unfolding textOf flatten
-text-size [] = refl
-text-size (x ∷ ls) =
-    length-append (lineOf x) (textOf ls) ∙ ap₂ (λ (a b : ℕ). a + b) (line-length x) (text-size ls)
-    ∙ (let e : lineBytes (length x) + (length (flatten ls) * columns + length ls) ≡ length (x ++ flatten ls) * columns + suc (length ls)
-    = omega (arith, length-append x (flatten ls)) in e)
-
--- lines of at mostBytes k fields
+-- lines of at most k fields
 fields-most : (k : ℕ) {A : Type 0} (f : A → List ℕ) → ((x : A) → length (f x) ≤ k) → (xs : List A)
     → length (flatten (map f xs)) ≤ length xs * k
 unfolding flatten
@@ -72,7 +63,7 @@ support-few l w = omega (arith, rising-length 0 (64 * l) (support l w) (support-
 axis-size : (f : ℕ → List ℕ) → ((q : ℕ) → length (f q) ≤ 3) → (qs : List ℕ) → length (textOf (map f qs)) ≤ lineBytes 3 * length qs
 axis-size f h qs = omega (arith, text-size (map f qs), fields-most 3 f h qs, length-map qs f)
 
--- axes of one word each plane: 64 lines at mostBytes
+-- axes of one word each plane: 64 lines at most
 letters-size : (l : ℕ) → l ≡ 1 → (id : ℕ) (ws : List (List ℕ)) → length (textOf (letterLines l id ws)) ≤ 64 * lineBytes 3 * length ws
 unfolding letterLines
 letters-size l e id [] = unfold textOf flatten in (omega arith)
@@ -101,40 +92,43 @@ width-one : (q : ℕ) → q ≤ 64 → width q ≡ 1
 unfolding width
 width-one q h = omega arith
 
-module _ (t : Read) (small : Small t) (yes′ : listingAnswer (some t) ≡ Accepted) where
+module _ (t : Read) (small : SmallText t) (yes′ : listingAnswer (some t) ≡ Accepted) where
   abbrev p : Program
   p = programOf (t .job)
 
   abbrev e : Work
   e = listedEnd t yes′
 
+  -- what was handed in
+  pub few-handed : length (programOf (t .job) .operations) ≤ 128
+  unfolding programOf
+  few-handed = omega (arith, records-length operationOf 6 (t .job .counts .operations) (t .job .operations), small .operations)
+
+  pub few-rows : length (programOf (t .job) .rows) ≤ 128
+  unfolding programOf
+  few-rows = omega (arith, records-length rowOf 4 (2 * t .job .counts .qubits) (t .job .rows), small .qubits)
+
+  -- what came out
+  pub few-items : length (listedEnd t yes′ .items) ≤ 128
+  few-items = omega (arith, end-formed p (listed-fine t yes′) (rulesOf (optionsOf t)) 8 .short, few-handed)
+
   few-operations : length (operationResults p e) ≤ 128
-  unfolding operationResults programOf
-  few-operations =
-      omega (
-        arith,
-        length-map (e .items) (itemRecord (p .operations)),
-        end-formed p (listed-fine t yes′) (rulesOf (optionsOf t)) 8 .short,
-        records-length operationOf 6 (t .job .counts .operations) (t .job .operations),
-        small .operations,
-      )
+  unfolding operationResults
+  few-operations = omega (arith, length-map (e .items) (itemRecord (p .operations)), few-items)
 
   rows-size : length (textOf (rowResults p e)) ≤ lineBytes 4 * 128
-  unfolding programOf
-  rows-size =
-      let n = records-length rowOf 4 (2 * t .job .counts .qubits) (t .job .rows) in
-      omega (arith, text-size (rowResults p e), row-records-fit p e, rowResults-length p e, small .qubits)
+  rows-size = omega (arith, text-size (rowResults p e), row-records-fit p e, rowResults-length p e, few-rows)
 
   within-limit : e .store .peak ≤ t .limit
   within-limit =
       subst (λ (k : ℕ). k ≤ t .limit) (hermitian-peak (rulesOf (optionsOf t)) 8 p (listed-hermitian t yes′))
       (accepted-peak (t .limit) (rulesOf (optionsOf t)) 8 p (listed-passed t yes′ .1))
 
-  one-word : width (p .qubits) ≡ 1
+  pub one-word : width (programOf (t .job) .qubits) ≡ 1
   unfolding programOf
   one-word = width-one (t .job .counts .qubits) (small .qubits)
 
-  few-axes : length (e .store .axes) ≤ 128
+  pub few-axes : length (listedEnd t yes′ .store .axes) ≤ 128
   few-axes =
       let a = axes-within (width (p .qubits)) (t .limit) (width-positive (p .qubits)) (e .store)
       (end-formed p (listed-fine t yes′) (rulesOf (optionsOf t)) 8 .fits) within-limit in
@@ -191,7 +185,7 @@ none-refused : (x : Option Read) → x ≡ none → accepts (listingAnswer x) �
 unfolding listingAnswer
 none-refused x f e = true≢false (sym e ∙ ap (λ (z : Option Read). accepts (listingAnswer z)) f)
 
-pub lines-size : (x : Option Read) → ((t : Read) → x ≡ some t → Small t) → length (textOf (linesOf x)) ≤ mostBytes
+pub lines-size : (x : Option Read) → ((t : Read) → x ≡ some t → SmallText t) → length (textOf (linesOf x)) ≤ mostBytes
 lines-size x small = go (accepts (listingAnswer x)) refl x refl
   where
     go : (b : Bool) → accepts (listingAnswer x) ≡ b → (y : Option Read) → x ≡ y → length (textOf (linesOf x)) ≤ mostBytes

@@ -34,10 +34,12 @@ four (x ∷ y ∷ z ∷ w ∷ v ∷ h) e p q r s = absurd (omega arith)
 pub same-taken : {h h′ s : List ℕ} {x : Option Taken} → h ≡ h′ → some (taken h′ s) ≡ x → some (taken h s) ≡ x
 same-taken {h} {h′} {s} e p = ap (λ (t : List ℕ). some (taken t s)) e ∙ p
 
+-- a first line that `tooLarge` does not refuse
 pub record Small (h : List ℕ) : Type 0 where
   pub qubits : fieldOf h 0 ≤ 64
   pub nodes : fieldOf h 1 ≤ 128
   pub operations : fieldOf h 2 ≤ 128
+  pub limit : fieldOf h 3 ≤ 256
 
 pub not-too-large : (h : List ℕ) {b : Bool} → b ≡ tooLarge h → b ≡ false → Small h
 not-too-large h e t =
@@ -48,6 +50,7 @@ not-too-large h e t =
       qubits = ltb-false 64 (fieldOf h 0) (n₁ .0);
       nodes = ltb-false 128 (fieldOf h 1) (n₁ .1);
       operations = ltb-false 128 (fieldOf h 2) (n₂ .1);
+      limit = ltb-false 256 (fieldOf h 3) (n₃ .1);
     }
 
 pub header-allowed : (h : List ℕ) {b : Bool} (x : Option (List ℕ)) → some h ≡ x → b ≡ tooLarge h → b ≡ false → some h ≡ bind x allowed

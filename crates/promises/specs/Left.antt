@@ -99,7 +99,7 @@ items-id ops n (barrier o a s ∷ is) h k =
 abbrev RowIdIn : ℕ → List ℕ → Type 0
 RowIdIn n r = (eqb (fieldOf r 3) 0 ≡ true) ⊎ (fieldOf r 2 < n)
 
-abbrev AxisIn : ℕ → SignedAxis → Type 0
+abbrev pub AxisIn : ℕ → SignedAxis → Type 0
 AxisIn n f = f .axis < n
 
 row-id : (n : ℕ) (b : Bool) (i : ℕ) (fs : List SignedAxis) → Every (AxisIn n) fs → RowIdIn n (rowRecord b i fs)
@@ -108,7 +108,8 @@ row-id n false i fs h = inl refl
 row-id n true i [] h = inl refl
 row-id n true i (f ∷ fs) h = inr (h .0)
 
-left-in : (n : ℕ) (b : Bool) (fs : List SignedAxis) → Every (AxisIn n) fs → Every (AxisIn n) (axesLeft b fs)
+-- so for the rows that are left
+pub left-in : (n : ℕ) (b : Bool) (fs : List SignedAxis) → Every (AxisIn n) fs → Every (AxisIn n) (axesLeft b fs)
 unfolding axesLeft
 left-in n false fs h = h
 left-in n true [] h = tt

@@ -44,8 +44,8 @@ use Rattle.result_effect.specs.Letters.{axes-read}
 
 -- ---- "Outcomes and targets are 16-bit, 0 to 65,534": so -1 is none of them
 
-abbrev SmallOutcome : Operation → Type 0
-SmallOutcome op = Stops (op .kind) → op .outcome ≤ largestOutcome
+abbrev pub SmallFields : Operation → Type 0
+SmallFields op = (op .target ≤ noOutcome) × (Stops (op .kind) → op .outcome ≤ largestOutcome)
 
 -- "outcome above 65,534 unless it is a plain rotation"
 not-rotation : (k : ℕ) (t : Bool) → Stops (kindOf k) → not (eqb k 1) && t ≡ false → t ≡ false
@@ -55,33 +55,36 @@ not-rotation k t h = go (eqb k 1) refl
     go true e f = absurd (subst (λ (n : ℕ). Stops (kindOf n)) (eqb-true k 1 e) h)
     go false e f = f
 
-outcomes-checked : (n : ℕ) (seen : List ℕ) (rs : List (List ℕ)) → checkOperations n seen rs ≡ Accepted → Every SmallOutcome (map operationOf rs)
+fields-checked : (n : ℕ) (seen : List ℕ) (rs : List (List ℕ)) → checkOperations n seen rs ≡ Accepted → Every SmallFields (map operationOf rs)
 unfolding checkOperations checkOperation operationOf badOperation
-outcomes-checked n seen [] h = tt
-outcomes-checked n seen (r ∷ rs) h =
+fields-checked n seen [] h = tt
+fields-checked n seen (r ∷ rs) h =
     let b = both-accepted _ _ h in
     let c = not-refused _ BadOperation _ refl (b .0) in
     let f = neither (eqb (fieldOf r 0) 0 || ltb 3 (fieldOf r 0) || ltb 7 (fieldOf r 3) || ltb noOutcome (fieldOf r 5)) _ (c .0) in
-    (λ k. ltb-false largestOutcome (fieldOf r 4) (not-rotation (fieldOf r 0) _ k (f .1)), outcomes-checked n (measured seen r) rs (b .1))
+    let target = neither (eqb (fieldOf r 0) 0 || ltb 3 (fieldOf r 0) || ltb 7 (fieldOf r 3)) _ (f .0) .1 in (
+      (ltb-false noOutcome (fieldOf r 5) target, λ k. ltb-false largestOutcome (fieldOf r 4) (not-rotation (fieldOf r 0) _ k (f .1))),
+      fields-checked n (measured seen r) rs (b .1),
+    )
 
-program-outcomes : (j : Job) → checkProgram j ≡ Accepted → Every SmallOutcome (programOf j .operations)
+program-fields : (j : Job) → checkProgram j ≡ Accepted → Every SmallFields (programOf j .operations)
 unfolding checkProgram programOf
-program-outcomes j h =
+program-fields j h =
     let a = both-accepted (checkNodes (j .counts .qubits) 0 _) _ h in
-    outcomes-checked (j .counts .nodes) [] (operationRecords j) (both-accepted _ (checkRows (j .counts .nodes) 0 (rowRecords j)) (a .1) .0)
+    fields-checked (j .counts .nodes) [] (operationRecords j) (both-accepted _ (checkRows (j .counts .nodes) 0 (rowRecords j)) (a .1) .0)
 
-outcome-at : (ops : List Operation) → Every SmallOutcome ops → (o : ℕ) → SmallOutcome (operationAt ops o)
+pub fields-at : (ops : List Operation) → Every SmallFields ops → (o : ℕ) → SmallFields (operationAt ops o)
 unfolding noOperation
-outcome-at [] h o k = absurd k
-outcome-at (x ∷ ops) h zero k = h .0 k
-outcome-at (x ∷ ops) h (suc o) k = outcome-at ops (h .1) o k
+fields-at [] h o = (omega arith, λ k. absurd k)
+fields-at (x ∷ ops) h zero = h .0
+fields-at (x ∷ ops) h (suc o) = fields-at ops (h .1) o
 
 -- ---- an operation's line means what its record means
 
 outcome-read : (m : ℕ) → m ≤ largestOutcome → from16 m ≡ m
 outcome-read m h = on-if (λ (x : ℕ). x ≡ m) (eqb m noOutcome) minusOne m (λ e. absurd (let z = eqb-true m noOutcome e in omega arith)) (λ e. refl)
 
-module _ {W : Type 0} (word : List ℕ → W) (ops : List Operation) (outcomes : Every SmallOutcome ops) (axes : List (List ℕ)) where
+module _ {W : Type 0} (word : List ℕ → W) (ops : List Operation) (outcomes : Every SmallFields ops) (axes : List (List ℕ)) where
   barrier-line : (op : Operation) (kind : Kind) (a s : ℕ) → Stops kind → op .outcome ≤ largestOutcome
       → resultOp word axes (resultLine (barrierRecord op kind a s)) ≡ resultOp word axes (barrierRecord op kind a s)
   unfolding resultOp resultOpOfKind resultLine barrierRecord
@@ -93,7 +96,7 @@ module _ {W : Type 0} (word : List ℕ → W) (ops : List Operation) (outcomes :
   item-line : (i : Item) → ItemStands ops i → resultOp word axes (resultLine (itemRecord ops i)) ≡ resultOp word axes (itemRecord ops i)
   unfolding itemRecord
   item-line (rotation r) h = unfold resultOp resultOpOfKind resultLine in refl
-  item-line (barrier o a s) h = barrier-line (operationAt ops o) (operationAt ops o .kind) a s (h .0) (outcome-at ops outcomes o (h .0))
+  item-line (barrier o a s) h = barrier-line (operationAt ops o) (operationAt ops o .kind) a s (h .0) (fields-at ops outcomes o .1 (h .0))
 
   item-lines : (is : List Item) → Every (ItemStands ops) is
       → map (resultOp word axes) (map resultLine (map (itemRecord ops) is)) ≡ map (resultOp word axes) (map (itemRecord ops) is)
@@ -112,6 +115,10 @@ module _ (t : Read) (yes′ : listingAnswer (some t) ≡ Accepted) where
   -- the work at the end of its run
   abbrev pub listedEnd : Work
   listedEnd = endOf (rulesOf (optionsOf t)) 8 (programOf (t .job))
+
+  -- its operations' outcomes and targets
+  pub listed-fields : Every SmallFields (programOf (t .job) .operations)
+  listed-fields = program-fields (t .job) (listed-checks t yes′)
 
   -- ---- its lines
 
@@ -155,14 +162,16 @@ module _ (t : Read) (yes′ : listingAnswer (some t) ≡ Accepted) where
       sym (rowResults-length p listedEnd
       ∙ unfold programOf in (length-map (rowRecords (t .job)) rowOf ∙ chunks-length 4 (2 * t .job .counts .qubits) (t .job .rows)))
 
-  operations-are : operationsRead listedFirst listedRest ≡ ops
+  -- "operations"
+  pub operations-are : operationsRead listedFirst listedRest ≡ map resultLine (operationResults (programOf (t .job)) listedEnd)
   unfolding operationsRead firstLine
   operations-are = ap (λ (n : ℕ). take n (ops ++ behind)) count ∙ take-front ops behind
 
   behind-are : drop (length (listedEnd .items)) (ops ++ behind) ≡ behind
   behind-are = ap (λ (n : ℕ). drop n (ops ++ behind)) count ∙ drop-front ops behind
 
-  rows-are : rowsRead (p .qubits) listedFirst listedRest ≡ rowResults p listedEnd
+  -- "rows"
+  pub rows-are : rowsRead (programOf (t .job) .qubits) listedFirst listedRest ≡ rowResults (programOf (t .job)) listedEnd
   unfolding rowsRead firstLine
   rows-are = ap₂ (λ (n : ℕ) (xs : List (List ℕ)). take n xs) rows-count behind-are ∙ take-front (rowResults p listedEnd) _
 
@@ -191,7 +200,7 @@ module _ (t : Read) (yes′ : listingAnswer (some t) ≡ Accepted) where
     lines-mean : (axes : List (List ℕ)) → resultOps word axes ops ≡ resultOps word axes (operationResults p listedEnd)
     unfolding resultOps operationResults endOf
     lines-mean axes =
-        item-lines word (p .operations) (program-outcomes (t .job) (listed-checks t yes′)) axes (listedEnd .items)
+        item-lines word (p .operations) listed-fields axes (listedEnd .items)
         (point-stands p (listed-fine t yes′) (listed-hermitian t yes′) r (passes-reached (width (p .qubits)) r (startOf p) (r .strategy) 8))
 
     -- the printed operations are the items at the end

@@ -1,0 +1,5 @@
+pub mod Columns
+pub mod Back
+pub mod Digits
+pub mod Texts
+pub mod Example

@@ -1,0 +1,1 @@
+// what calls of Listing leave and print: theorems, no code
