@@ -16,11 +16,12 @@ use Rattle.carrying.specs.declared.Carried.{Carried}
 use Rattle.carrying.specs.declared.Carried.the-variants.{To}
 use Rattle.clifford.specs.Holds.{SomeTouched}
 use Rattle.carrying.specs.Carrying.{CarryPre}
-use Rattle.stream_states.specs.declared.State.{State}
-use Rattle.stream_states.specs.declared.Stepped.{Stepped}
-use Rattle.stream_states.specs.declared.Stepped.the-variants.{ExpansionLimit}
+use Rattle.steps.specs.declared.State.{State}
+use Rattle.steps.specs.declared.Step.{Step}
+use Rattle.steps.specs.declared.Step.the-variants.{ExpansionLimit}
 use Rattle.stream_states.specs.declared.StreamRules.{StreamRules}
-use Rattle.stream_states.specs.States.{withAxes, heldOf, SomePass, absorptionSaid, SteppedAs, as-limit, stepped-from}
+use Rattle.steps.specs.State.{withAxes}
+use Rattle.stream_states.specs.States.{heldOf, SomePass, absorptionSaid, SteppedAs, as-limit, stepped-from}
 use Rattle.stream_states.specs.Carrying.{CarryPass, CarryLeft, carry-pre, carry-refused, carried-at, carried-in, carried-id, carried-turns}
 use Rattle.merging.specs.Taking.{TakingAt}
 
@@ -55,7 +56,7 @@ module _ {z : Shape} {c : StreamRules} {st : State} {a k : ℕ} {ws xs : List �
         })
 
     -- the model's arguments
-    pub taken-as : {q : Stepped} {ws″ xs″ : List ℕ} (g : Rules) (merging : Bool)
+    pub taken-as : {q : Step} {ws″ xs″ : List ℕ} (g : Rules) (merging : Bool)
         → SteppedAs z m 1 1 s q ws″ xs″ (takeRotation (z .l) g merging (carryAxis (z .l) p a) (to .id) k′)
         → SteppedAs z m 1 1 st q ws″ xs″ (takeRotation (z .l) g merging (carryAxis (z .l) p a) (imageId (z .l) (carryAxis (z .l) p a) a)
         (withSign (axisImage (z .l) (carryAxis (z .l) p a) a .turns) k))

@@ -30,11 +30,12 @@ use Rattle.clifford.specs.declared.Touching.{Touching}
 use Rattle.clifford.specs.declared.Touching.the-variants.{Slots}
 use Rattle.clifford.specs.Holds.{SomeTouched, LeftF, TouchedAs, maskPlace}
 use Rattle.absorbing.specs.Absorbing.{AbsorbAt}
-use Rattle.stream_states.specs.declared.State.{State}
-use Rattle.stream_states.specs.declared.Stepped.{Stepped}
-use Rattle.stream_states.specs.declared.Stepped.the-variants.{Next, ExpansionLimit}
+use Rattle.steps.specs.declared.State.{State}
+use Rattle.steps.specs.declared.Step.{Step}
+use Rattle.steps.specs.declared.Step.the-variants.{Next, ExpansionLimit}
 use Rattle.stream_states.specs.declared.StreamRules.{StreamRules}
-use Rattle.stream_states.specs.States.{withWaiting, heldOf, isWaiting, HoldsPass, PassAt, SomePass, absorptionSaid, streamRows}
+use Rattle.steps.specs.State.{withWaiting}
+use Rattle.stream_states.specs.States.{heldOf, isWaiting, HoldsPass, PassAt, SomePass, absorptionSaid, streamRows}
 use Rattle.stream_states.specs.States.{LeftS, SteppedAs, as-next, as-limit}
 use Rattle.stream_states.specs.Output.{WaitsBut, but-quiet, pass-other, with-list, angle-set, last-cleared, withOut, put-waits}
 use Rattle.stream_states.specs.Output.{rotation-put}
@@ -178,12 +179,12 @@ module _ {z : Shape} {c : StreamRules} {st : State} {id k : ℕ} {xs xs₁ xs₂
 abbrev pub absorbRows : List ℕ
 absorbRows = outRow ∷ (outRow + 1) ∷ (outRow + 2) ∷ lastRow ∷ fSlot ∷ fPhase ∷ []
 
-pub record LeftAbsorbed (z : Shape) (st : State) (ws xs : List ℕ) (r : Stepped) (ws′ xs′ : List ℕ) : Type 0 where
+pub record LeftAbsorbed (z : Shape) (st : State) (ws xs : List ℕ) (r : Step) (ws′ xs′ : List ℕ) : Type 0 where
   pub words : KeptFrom (maskPlace z + z .l) ws ws′
   pub numbers : Only absorbRows (z .u) xs xs′
   pub list : (s : State) → r ≡ Next s → s .waiting ≡ st .waiting
 
-pub absorbed-left : {z : Shape} {st : State} {ws xs : List ℕ} {r : Stepped} {ws′ xs′ : List ℕ} → LeftAbsorbed z st ws xs r ws′ xs′
+pub absorbed-left : {z : Shape} {st : State} {ws xs : List ℕ} {r : Step} {ws′ xs′ : List ℕ} → LeftAbsorbed z st ws xs r ws′ xs′
     → LeftS z ws xs ws′ xs′
 unfolding allOf member anyOf
 absorbed-left h = record { words = h .words; numbers = only-of streamRows refl (h .numbers) }
@@ -218,11 +219,14 @@ zero-left {z} {j} {id} {xs} pre wrote put = record {
 abbrev pub withSlots : ℕ → State → State
 withSlots s st = record {
   axes = st .axes;
+  id = st .id;
+  turns = st .turns;
   slots = s;
   out = st .out;
   start = st .start;
   waiting = st .waiting;
   merges = st .merges;
+  swaps = st .swaps;
   absorbed = st .absorbed + 1;
 }
 

@@ -10,9 +10,9 @@ use Rattle.model.specs.Rules.{Rules, rulesOf, absorptionOf}
 use Rattle.model.specs.Rounds.{Work, streamPass}
 use Rattle.layout.specs.declared.Shape.{Shape}
 use Rattle.layout.specs.Shape.{granted-same}
-use Rattle.stream_states.specs.declared.State.{State}
-use Rattle.stream_states.specs.declared.Stepped.{Stepped}
-use Rattle.stream_states.specs.declared.Stepped.the-variants as stepped
+use Rattle.steps.specs.declared.State.{State}
+use Rattle.steps.specs.declared.Step.{Step}
+use Rattle.steps.specs.declared.Step.the-variants as stepped
 use Rattle.stream_states.specs.declared.StreamRules.{StreamRules}
 use Rattle.stream_states.specs.States.{RulesAs, absorptionSaid}
 use Rattle.stream.specs.Passing.{PassAtWork, PassedAs, SomeWork, LeftP}
@@ -46,7 +46,7 @@ module _ (o : Options) (merging : Bool) (st : Run) {z : Shape} {ws xs : List ℕ
       → SomeWork (λ prog w g. PassAtWork z (streamRules o merging) prog w (st .axes) (st .items) ws xs g)
   stream-pre s = record { prog = s .p; w = s .w; g = rulesOf o; it = stream-at (s .at) }
 
-  module _ {r : Stepped} {ws′ xs′ : List ℕ} (left : LeftP z ws xs ws′ xs′)
+  module _ {r : Step} {ws′ xs′ : List ℕ} (left : LeftP z ws xs ws′ xs′)
       (call : (prog : Program) (w : Work) (g : Rules) → PassAtWork z (streamRules o merging) prog w (st .axes) (st .items) ws xs g
       → PassedAs z (streamRules o merging) prog w g r ws′ xs′) where
     pub stream-limit : r ≡ stepped.ExpansionLimit → (i : ℕ) (p : Program) (w : Work) → RunAt z i st ws xs p w

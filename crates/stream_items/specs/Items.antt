@@ -35,11 +35,12 @@ use Rattle.run_wellformed.specs.PassInside.{PassInside, inside-kept}
 use Rattle.carrying.specs.declared.CarriedAxis.{CarriedAxis}
 use Rattle.carrying.specs.declared.Carried.{Carried}
 use Rattle.carrying.specs.declared.Carried.the-variants.{To}
-use Rattle.stream_states.specs.declared.State.{State}
-use Rattle.stream_states.specs.declared.Stepped.{Stepped}
-use Rattle.stream_states.specs.declared.Stepped.the-variants.{Next, ExpansionLimit}
+use Rattle.steps.specs.declared.State.{State}
+use Rattle.steps.specs.declared.Step.{Step}
+use Rattle.steps.specs.declared.Step.the-variants.{Next, ExpansionLimit}
 use Rattle.stream_states.specs.declared.StreamRules.{StreamRules}
-use Rattle.stream_states.specs.States.{withAxes, lastIn, isWaiting, Waits, HoldsPass, FinePass, PassAt, absorptionSaid, RulesAs, LeftS}
+use Rattle.steps.specs.State.{withAxes}
+use Rattle.stream_states.specs.States.{lastIn, isWaiting, Waits, HoldsPass, FinePass, PassAt, absorptionSaid, RulesAs, LeftS}
 use Rattle.stream_states.specs.States.{left-then, granted-left, streamRows, SteppedAs, as-next, as-limit, stepped-from}
 use Rattle.stream_states.specs.Output.{holds-other, place-none}
 use Rattle.stream_states.specs.Known.{axes-count, out-few}
@@ -87,7 +88,7 @@ module _ {z : Shape} {st : State} {a : ℕ} {ws xs : List ℕ} {r : Carried} {ws
       few = h .few;
     })
 
-    pub blocked-as : {q : Stepped} {ws″ xs″ : List ℕ}
+    pub blocked-as : {q : Step} {ws″ xs″ : List ℕ}
         → SteppedAs z lazy 0 (s .out) s q ws″ xs″ (waitedAll z false (to .id) (carryAxis (z .l) p a))
         → SteppedAs z lazy 0 (st .out) st q ws″ xs″ (absorbBlocking (z .l) p a)
     blocked-as {q} {ws″} {xs″} t =
@@ -146,14 +147,14 @@ unfolding absorptionSaid
 said-lazy c e f = if-true _ _ e ∙ if-true _ _ f
 
 -- more may be absorbed
-more-absorbed : {z : Shape} {m : Absorption} {st : State} {r : Stepped} {ws xs : List ℕ} {p : Pass} → SteppedAs z m 1 1 st r ws xs p
+more-absorbed : {z : Shape} {m : Absorption} {st : State} {r : Step} {ws xs : List ℕ} {p : Pass} → SteppedAs z m 1 1 st r ws xs p
     → SteppedAs z m 1 (st .out + 1) st r ws xs p
 more-absorbed s = stepped-from 1 _ s (omega arith) (omega arith)
 
 module _ {z : Shape} {c : StreamRules} {g : Rules} (rules : RulesAs c g) {st : State} {a k : ℕ} {ws xs : List ℕ} {n : ℕ} {p : Pass}
     (h : RotationAt z c st a k ws xs (g .absorption) n p) where
   -- taken as it is
-  pub rotation-off : {r : Stepped} {ws′ xs′ : List ℕ} → c .«to_frame» ≡ false
+  pub rotation-off : {r : Step} {ws′ xs′ : List ℕ} → c .«to_frame» ≡ false
       → SteppedAs z (g .absorption) 1 1 st r ws′ xs′
       (takeRotation (z .l) g (c .merge) (carryAxis (z .l) p a) (imageId (z .l) (carryAxis (z .l) p a) a)
       (withSign (axisImage (z .l) (carryAxis (z .l) p a) a .turns) k))
@@ -162,7 +163,7 @@ module _ {z : Shape} {c : StreamRules} {g : Rules} (rules : RulesAs c g) {st : S
       subst (SteppedAs z (g .absorption) 1 (st .out + 1) st r ws′ xs′)
       (sym (plain-is (z .l) g (c .merge) p a k (inl (sym (rules .absorption) ∙ said-off c e)))) (more-absorbed s)
 
-  pub rotation-once : {r : Stepped} {ws′ xs′ : List ℕ} → c .«to_frame» ≡ true → c .lazy ≡ false
+  pub rotation-once : {r : Step} {ws′ xs′ : List ℕ} → c .«to_frame» ≡ true → c .lazy ≡ false
       → SteppedAs z (g .absorption) 1 1 st r ws′ xs′
       (takeRotation (z .l) g (c .merge) (carryAxis (z .l) p a) (imageId (z .l) (carryAxis (z .l) p a) a)
       (withSign (axisImage (z .l) (carryAxis (z .l) p a) a .turns) k))
@@ -180,7 +181,7 @@ module _ {z : Shape} {c : StreamRules} {st : State} {a k : ℕ} {ws xs : List �
     few = h .few-all;
   }
 
-  module _ {r : Stepped} {ws₁ xs₁ : List ℕ} (left : LeftS z ws xs ws₁ xs₁)
+  module _ {r : Step} {ws₁ xs₁ : List ℕ} (left : LeftS z ws xs ws₁ xs₁)
       (call : SteppedAs z lazy 0 (st .out) st r ws₁ xs₁ (absorbBlocking (z .l) p a)) {s : State} (e : r ≡ Next s) where
     blocked-fine : FinePass z n (absorbBlocking (z .l) p a)
     blocked-fine = record {
@@ -219,7 +220,7 @@ module _ {z : Shape} {c : StreamRules} {st : State} {a k : ℕ} {ws xs : List �
     }
 
 module _ (z : Shape) (c : StreamRules) (g : Rules) (st : State) (a k : ℕ) (p : Pass) (is-lazy : g .absorption ≡ lazy) where
-  pub rotation-lazy : {r q : Stepped} {ws₁ xs₁ ws₂ xs₂ : List ℕ} {s : State}
+  pub rotation-lazy : {r q : Step} {ws₁ xs₁ ws₂ xs₂ : List ℕ} {s : State}
       → SteppedAs z lazy 0 (st .out) st r ws₁ xs₁ (absorbBlocking (z .l) p a) → r ≡ Next s
       → SteppedAs z (g .absorption) 1 1 s q ws₂ xs₂ (takeRotation (z .l) g (c .merge) (carryAxis (z .l) (absorbBlocking (z .l) p a) a)
       (imageId (z .l) (carryAxis (z .l) (absorbBlocking (z .l) p a) a) a)
@@ -229,7 +230,7 @@ module _ (z : Shape) (c : StreamRules) (g : Rules) (st : State) (a k : ℕ) (p :
       subst (SteppedAs z (g .absorption) 1 (st .out + 1) st q ws₂ xs₂) (sym (lazy-is (z .l) g (c .merge) p a k is-lazy))
       (stepped-from 1 _ second (omega (arith, first .merges s e)) (omega (arith, first .absorbed s e)))
 
-  pub rotation-limit : {r : Stepped} {ws₁ xs₁ : List ℕ} → SteppedAs z lazy 0 (st .out) st r ws₁ xs₁ (absorbBlocking (z .l) p a)
+  pub rotation-limit : {r : Step} {ws₁ xs₁ : List ℕ} → SteppedAs z lazy 0 (st .out) st r ws₁ xs₁ (absorbBlocking (z .l) p a)
       → r ≡ ExpansionLimit
       → SteppedAs z (g .absorption) 1 (st .out + 1) st ExpansionLimit ws₁ xs₁ (streamItem (z .l) g (c .merge) p (rotation (rot a k)))
   rotation-limit {ws₁ = ws₁} {xs₁} first e =
@@ -280,7 +281,7 @@ module _ {z : Shape} {c : StreamRules} {st : State} {ws xs : List ℕ} {m : Abso
       few = h .few;
     }
 
-    pub all-as : {r : Stepped} {ws′ xs′ : List ℕ} → SteppedAs z lazy 0 (st .out) st r ws′ xs′ (waitedAll z true 0 p)
+    pub all-as : {r : Step} {ws′ xs′ : List ℕ} → SteppedAs z lazy 0 (st .out) st r ws′ xs′ (waitedAll z true 0 p)
         → SteppedAs z m 0 (st .out) st r ws′ xs′ (absorbAllWaiting (z .l) m p)
     unfolding absorbAllWaiting pickedBy
     all-as {r} {ws′} {xs′} s =
@@ -292,11 +293,14 @@ module _ {z : Shape} {c : StreamRules} {st : State} {ws xs : List ℕ} {m : Abso
 abbrev pub withBarrier : ℕ → State → State
 withBarrier n st = record {
   axes = n;
+  id = st .id;
+  turns = st .turns;
   slots = st .slots;
   out = st .out + 1;
   start = st .out + 1;
   waiting = st .waiting;
   merges = st .merges;
+  swaps = st .swaps;
   absorbed = st .absorbed;
 }
 

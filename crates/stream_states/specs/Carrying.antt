@@ -20,8 +20,9 @@ use Rattle.carrying.specs.declared.CarriedAxis.{CarriedAxis}
 use Rattle.carrying.specs.declared.Carried.{Carried}
 use Rattle.carrying.specs.declared.Carried.the-variants.{To}
 use Rattle.carrying.specs.Carrying.{imageOfAxis, carriedStore, CarryPre, LeftCarried, CarriedTo, CarriedAs}
-use Rattle.stream_states.specs.declared.State.{State}
-use Rattle.stream_states.specs.States.{withAxes, heldOf, HoldsPass, FinePass, PassAt, LeftS, streamRows}
+use Rattle.steps.specs.declared.State.{State}
+use Rattle.steps.specs.State.{withAxes}
+use Rattle.stream_states.specs.States.{heldOf, HoldsPass, FinePass, PassAt, LeftS, streamRows}
 use Rattle.stream_states.specs.Output.{pass-other}
 use Rattle.stream_states.specs.Known.{axes-count}
 

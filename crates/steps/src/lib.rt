@@ -1,0 +1,62 @@
+// Where a run stands beside what lies in the stores, and how a step of it ends.
+ghost use mathlib.Core.Path.{_≡_};
+ghost use Rattle.steps.specs.State.{withAxes, withImage, withSlots, withWaiting};
+
+// Axes stored; the image of the axis carried last, its id and its quarter turns; qubits that F has touched; items put out, and where their
+// last segment begins; how many places row WAITING names; merges, exchanges and absorbed rotations.
+pub struct State {
+    pub axes: usize,
+    pub id: usize,
+    pub turns: u32,
+    pub slots: usize,
+    pub out: usize,
+    pub start: usize,
+    pub waiting: usize,
+    pub merges: usize,
+    pub swaps: usize,
+    pub absorbed: usize,
+}
+
+// How a step ends: the state then, or refusal 10.
+pub enum Step {
+    Next(State),
+    ExpansionLimit,
+}
+
+// The state with so many axes.
+pub fn with_axes(st: State, axes: usize) -> State
+    ensures { λ r. ⌜ r ≡ withAxes axes st ⌝ }
+{
+    let mut s = st;
+    s.axes = axes;
+    s
+}
+
+// The state with an axis's image, among so many axes.
+pub fn with_image(st: State, axes: usize, id: usize, turns: u32) -> State
+    ensures { λ r. ⌜ r ≡ withImage axes id turns st ⌝ }
+{
+    let mut s = st;
+    s.axes = axes;
+    s.id = id;
+    s.turns = turns;
+    s
+}
+
+// The state with so many qubits touched.
+pub fn with_slots(st: State, slots: usize) -> State
+    ensures { λ r. ⌜ r ≡ withSlots slots st ⌝ }
+{
+    let mut s = st;
+    s.slots = slots;
+    s
+}
+
+// The state with so many places in row WAITING.
+pub fn with_waiting(st: State, waiting: usize) -> State
+    ensures { λ r. ⌜ r ≡ withWaiting waiting st ⌝ }
+{
+    let mut s = st;
+    s.waiting = waiting;
+    s
+}
