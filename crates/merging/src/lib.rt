@@ -12,8 +12,6 @@ ghost use Rattle.merging.specs.Steps.{isLater, NamePre, PlaceNamed, PutP
 ghost use Rattle.merging.specs.Taking.{MergedAt, MergingAt, lastSaid, LastPre, TakingAt};
 ghost use Rattle.merging.specs.Carried.{CarryingAt};
 use axes::Sizes;
-use carrying::Carried;
-use clifford::Touching;
 use layout::LAST;
 use layout::OUT;
 use layout::Shape;
@@ -134,12 +132,11 @@ fn absorb(
         × ((m : Absorption) (n : ℕ) (p : Pass) → AbsorbingAt shape st id k (now (words .entry)) (now (numbers .entry)) m n p
         → SteppedAs shape m 0 1 st r (now (words .exit)) (now (numbers .exit)) (absorb (shape .l) p id k)) ⌝ }
 {
-    let t = absorbing::absorb(words, numbers, shape, st.axes, st.slots, id, k);
-    let Touching::Slots(slots) = t else {
+    let t = absorbing::absorb(words, numbers, shape, st, id, k);
+    let Step::Next(after) = t else {
         return Step::ExpansionLimit;
     };
-    let mut s = st;
-    s.slots = slots;
+    let mut s = after;
     s.absorbed = st.absorbed + 1;
     Step::Next(s)
 }
@@ -274,18 +271,10 @@ pub fn carry_and_take(
         (takeRotation (shape .l) g (rules .merge) (carryAxis (shape .l) p a) (imageId (shape .l) (carryAxis (shape .l) p a) a)
         (withSign (axisImage (shape .l) (carryAxis (shape .l) p a) a .turns) angle))) ⌝ }
 {
-    let c = carrying::carry(words, numbers, shape, st.axes, st.slots, a);
-    let Carried::To(to) = c else {
+    let c = carrying::carry(words, numbers, shape, st, a);
+    let Step::Next(s) = c else {
         return Step::ExpansionLimit;
     };
-    let k = items::with_sign(to.turns, angle);
-    take(
-        words,
-        numbers,
-        shape,
-        rules,
-        steps::with_axes(st, to.axes),
-        to.id,
-        k,
-    )
+    let k = items::with_sign(s.turns, angle);
+    take(words, numbers, shape, rules, s, s.id, k)
 }
