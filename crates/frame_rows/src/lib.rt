@@ -6,7 +6,6 @@ ghost use Rattle.model.specs.Stream.{Pass, carryRowsFrom};
 ghost use Rattle.work.specs.Rows.{rowsIn};
 ghost use Rattle.stream_states.specs.States.{SomePass};
 ghost use Rattle.frame_rows.specs.FrameRows.{LeftR, RowAt, RowAs, RowsAt, RowsAs, rowsEnd, rowsCarried};
-use carrying::Carried;
 use layout::NO_AXIS;
 use layout::Shape;
 use steps::State;
@@ -25,8 +24,8 @@ fn carry_row(words: &mut [u64], numbers: &mut [u32], shape: Shape, st: State, j:
         return Step::Next(st);
     }
     let a = x.axis as usize;
-    let c = carrying::carry(words, numbers, shape, st.axes, st.slots, a);
-    let Carried::To(to) = c else {
+    let c = carrying::carry(words, numbers, shape, st, a);
+    let Step::Next(to) = c else {
         return Step::ExpansionLimit;
     };
     let moved = Root {
@@ -34,7 +33,7 @@ fn carry_row(words: &mut [u64], numbers: &mut [u32], shape: Shape, st: State, j:
         sign: (to.turns + x.sign) % 4,
     };
     work::put_root(numbers, shape.u, j, moved);
-    Step::Next(steps::with_axes(st, to.axes))
+    Step::Next(to)
 }
 
 // Carries all frame rows that are roots.

@@ -14,7 +14,6 @@ ghost use Rattle.stream_items.specs.WaitingList.{ListedAt, WaitAt, waite
 ghost use Rattle.stream_items.specs.Items.{BlockingAt, RotationAt, AllAt, BarrierAt, barrierPut};
 ghost use Rattle.stream_items.specs.Loop.{ItemAt, StreamAt, SomeStream, StreamedAs};
 use axes::Sizes;
-use carrying::Carried;
 use items::Tagged;
 use layout::ITEMS;
 use layout::OUT;
@@ -135,12 +134,11 @@ fn absorb_blocking(
         × ((n : ℕ) (p : Pass) → BlockingAt shape st a (now (words .entry)) (now (numbers .entry)) n p
         → SteppedAs shape lazy 0 (st .out) st r (now (words .exit)) (now (numbers .exit)) (absorbBlocking (shape .l) p a)) ⌝ }
 {
-    let c = carrying::carry(words, numbers, shape, st.axes, st.slots, a);
-    let Carried::To(to) = c else {
+    let c = carrying::carry(words, numbers, shape, st, a);
+    let Step::Next(s) = c else {
         return Step::ExpansionLimit;
     };
-    let s = steps::with_axes(st, to.axes);
-    absorb_waiting(words, numbers, shape, s, false, to.id)
+    absorb_waiting(words, numbers, shape, s, false, s.id)
 }
 
 // A rotation by an angle about axis a: those that wait and block it are absorbed first.
@@ -210,19 +208,18 @@ fn put_barrier(
         (barrierPut (shape .l) p (x .tag - 1) (x .axis) (x .angle))) ⌝ }
 {
     let a = x.axis as usize;
-    let c = carrying::carry(words, numbers, shape, st.axes, st.slots, a);
-    let Carried::To(to) = c else {
+    let c = carrying::carry(words, numbers, shape, st, a);
+    let Step::Next(to) = c else {
         return Step::ExpansionLimit;
     };
-    let out = st.out;
+    let out = to.out;
     let moved = Tagged {
         tag: x.tag,
         axis: to.id as u32,
         angle: (to.turns + x.angle) % 4,
     };
     items::put_item(numbers, shape.u, OUT, out, moved);
-    let mut s = st;
-    s.axes = to.axes;
+    let mut s = to;
     s.out = out + 1;
     s.start = out + 1;
     Step::Next(s)
