@@ -1,6 +1,6 @@
 // Where a run stands beside what lies in the stores, and how a step of it ends.
 ghost use mathlib.Core.Path.{_≡_};
-ghost use Rattle.steps.specs.State.{withAxes, withImage, withSlots, withWaiting};
+ghost use Rattle.steps.specs.State.{firstState, withImage, withSlots, withWaiting};
 
 // Axes stored; the image of the axis carried last, its id and its quarter turns; qubits that F has touched; items put out, and where their
 // last segment begins; how many places row WAITING names; merges, exchanges and absorbed rotations.
@@ -23,13 +23,22 @@ pub enum Step {
     ExpansionLimit,
 }
 
-// The state with so many axes.
-pub fn with_axes(st: State, axes: usize) -> State
-    ensures { λ r. ⌜ r ≡ withAxes axes st ⌝ }
+// Where a run or a stream begins: so many axes, so many items.
+pub fn first_state(axes: usize, out: usize) -> State
+    ensures { λ r. ⌜ r ≡ firstState axes out ⌝ }
 {
-    let mut s = st;
-    s.axes = axes;
-    s
+    State {
+        axes,
+        id: 0,
+        turns: 0,
+        slots: 0,
+        out,
+        start: 0,
+        waiting: 0,
+        merges: 0,
+        swaps: 0,
+        absorbed: 0,
+    }
 }
 
 // The state with an axis's image, among so many axes.
