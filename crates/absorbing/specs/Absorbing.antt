@@ -16,11 +16,12 @@ use Rattle.layout.specs.Shape.{Granted}
 use Rattle.axes.specs.View.{wordAt, axis-word}
 use Rattle.axes.specs.Held.{held-rows, held-words}
 use Rattle.words_wellformed.specs.HeldImages.{IsQuarters}
+use Rattle.steps.specs.declared.State.{State}
+use Rattle.steps.specs.declared.Step.{Step}
+use Rattle.steps.specs.declared.Step.the-variants.{Next, ExpansionLimit}
 use Rattle.clifford_states.specs.Slots.{slot-absorbed, image-absorbed}
 use Rattle.clifford_states.specs.SetBits.{touchAll-axes}
-use Rattle.clifford.specs.Holds.{Holds, SomeTouched, fRows, LeftF, TouchedAs, as-slots, as-limit, left-then, granted-left, AxisAt}
-use Rattle.clifford.specs.declared.Touching.{Touching}
-use Rattle.clifford.specs.declared.Touching.the-variants.{Slots, ExpansionLimit}
+use Rattle.clifford.specs.Holds.{Holds, SomeTouched, fRows, LeftF, TouchedAs, as-next, as-limit, left-then, granted-left, AxisAt}
 use Rattle.absorbing.specs.Turning.{TurnsPre, ImagesTurned}
 
 -- angle k, which is 2, 4 or 6, about axis id
@@ -29,11 +30,11 @@ pub record AbsorbAt (z : Shape) (n m id k : ℕ) (ws xs : List ℕ) (t : Touched
   pub quarters : IsQuarters k
 
 -- what the call that touches leaves
-abbrev pub AxisLeft : Shape → ℕ → ℕ → ℕ → List ℕ → List ℕ → Touching → List ℕ → List ℕ → Type 0
-AxisLeft z n m id ws xs r ws′ xs′ =
+abbrev pub AxisLeft : Shape → State → ℕ → List ℕ → List ℕ → Step → List ℕ → List ℕ → Type 0
+AxisLeft z st id ws xs r ws′ xs′ =
     LeftF z ws xs ws′ xs′
-    × ((t : Touched) → AxisAt z n m id ws xs t
-    → TouchedAs z n r ws′ xs′ (touchAll (z .l) t (support (z .l) (wordOf (t .store .axes) id))))
+    × ((t : Touched) → AxisAt z (st .axes) (st .slots) id ws xs t
+    → TouchedAs z st r ws′ xs′ (touchAll (z .l) t (support (z .l) (wordOf (t .store .axes) id))))
 
 -- ---- the images change
 
@@ -69,51 +70,55 @@ module _ {z : Shape} {n m b k : ℕ} {ws xs ws′ xs′ : List ℕ} {t : Touched
 
 -- ---- both steps
 
-module _ {z : Shape} {n m id k : ℕ} {ws xs ws₁ xs₁ : List ℕ} {r : Touching} (touched : AxisLeft z n m id ws xs r ws₁ xs₁) where
-  pub absorb-limit : r ≡ ExpansionLimit → (t : Touched) → AbsorbAt z n m id k ws xs t
-      → TouchedAs z n ExpansionLimit ws₁ xs₁ (absorbWord (z .l) t (wordOf (t .store .axes) id) k)
+module _ {z : Shape} {st : State} {id k : ℕ} {ws xs ws₁ xs₁ : List ℕ} {r : Step} (touched : AxisLeft z st id ws xs r ws₁ xs₁) where
+  pub absorb-limit : r ≡ ExpansionLimit → (t : Touched) → AbsorbAt z (st .axes) (st .slots) id k ws xs t
+      → TouchedAs z st ExpansionLimit ws₁ xs₁ (absorbWord (z .l) t (wordOf (t .store .axes) id) k)
   unfolding absorbWord
   absorb-limit e t h = as-limit (touched .1 t (h .axis) .refused e)
 
-  module _ {m₁ a : ℕ} (e : r ≡ Slots m₁) (place : a ≡ axisPlace (z .l) id) where
-    module _ {t : Touched} (h : AbsorbAt z n m id k ws xs t) where
+  module _ {s : State} {a : ℕ} (e : r ≡ Next s) (place : a ≡ axisPlace (z .l) id) where
+    module _ {t : Touched} (h : AbsorbAt z (st .axes) (st .slots) id k ws xs t) where
       now-granted : Granted z ws₁ xs₁
       now-granted = granted-left (h .axis .at .granted) (touched .0)
 
-      now-holds : Holds z n m₁ ws₁ xs₁ (touchAll (z .l) t (support (z .l) (wordOf (t .store .axes) id)))
-      now-holds = touched .1 t (h .axis) .held m₁ e
+      now-holds : Holds z (s .axes) (s .slots) ws₁ xs₁ (touchAll (z .l) t (support (z .l) (wordOf (t .store .axes) id)))
+      now-holds = touched .1 t (h .axis) .held s e
 
-      images-entry : 3 * m₁ < z .u
-      images-entry = now-granted .sized .words-row (3 * m₁) (omega (arith, now-holds .room))
+      -- as many axes as before
+      id-in : id < s .axes
+      id-in = omega (arith, h .axis .id-in, ap (λ (x : State). x .axes) (touched .1 t (h .axis) .kept s e))
 
-      pub turns-there : TurnsPre z (3 * m₁) a k ws₁ xs₁
+      images-entry : 3 * s .slots < z .u
+      images-entry = now-granted .sized .words-row (3 * s .slots) (omega (arith, now-holds .room))
+
+      pub turns-there : TurnsPre z (3 * s .slots) a k ws₁ xs₁
       turns-there = record {
         slots = omega (arith, now-holds .room);
         words-long = omega (arith, now-granted .words-long);
         numbers-long = now-granted .numbers-long;
         entry = omega (arith, images-entry);
         small = now-granted .sized .u-small;
-        word = omega (arith, place, now-holds .room, slots-le (z .l) id n (h .axis .id-in));
+        word = omega (arith, place, now-holds .room, slots-le (z .l) id (s .axes) id-in);
         quarters = h .quarters;
       }
 
       same-axis : wordAt (z .l) ws₁ a ≡ wordOf (t .store .axes) id
       same-axis =
-          ap (wordAt (z .l) ws₁) place ∙ sym (axis-word (z .l) n ws₁ id (h .axis .id-in))
+          ap (wordAt (z .l) ws₁) place ∙ sym (axis-word (z .l) (s .axes) ws₁ id id-in)
           ∙ ap (λ (axes : List (List ℕ)). wordOf axes id) (now-holds .axes .are
           ∙ touchAll-axes (z .l) t (support (z .l) (wordOf (t .store .axes) id)))
 
-      pub absorb-holds : {ws₂ xs₂ : List ℕ} → ImagesTurned z (3 * m₁) a k ws₁ xs₁ ws₂ xs₂
-          → TouchedAs z n (Slots m₁) ws₂ xs₂ (absorbWord (z .l) t (wordOf (t .store .axes) id) k)
+      pub absorb-holds : {ws₂ xs₂ : List ℕ} → ImagesTurned z (3 * s .slots) a k ws₁ xs₁ ws₂ xs₂
+          → TouchedAs z st (Next s) ws₂ xs₂ (absorbWord (z .l) t (wordOf (t .store .axes) id) k)
       unfolding absorbWord
-      absorb-holds turned = as-slots (rw same-axis at (turned-holds now-holds turned))
+      absorb-holds turned = as-next (touched .1 t (h .axis) .kept s e) (rw same-axis at (turned-holds now-holds turned))
 
-    pub absorb-turns : SomeTouched (λ (t : Touched). AbsorbAt z n m id k ws xs t) → TurnsPre z (3 * m₁) a k ws₁ xs₁
+    pub absorb-turns : SomeTouched (λ (t : Touched). AbsorbAt z (st .axes) (st .slots) id k ws xs t) → TurnsPre z (3 * s .slots) a k ws₁ xs₁
     absorb-turns s = turns-there (s .it)
 
-    pub absorb-small : SomeTouched (λ (t : Touched). AbsorbAt z n m id k ws xs t) → 3 * m₁ < 1187839
+    pub absorb-small : SomeTouched (λ (t : Touched). AbsorbAt z (st .axes) (st .slots) id k ws xs t) → 3 * s .slots < 1187839
     absorb-small s = omega (arith, images-entry (s .it), now-granted (s .it) .sized .u-small)
 
-    pub absorb-left : SomeTouched (λ (t : Touched). AbsorbAt z n m id k ws xs t) → {ws₂ xs₂ : List ℕ}
-        → ImagesTurned z (3 * m₁) a k ws₁ xs₁ ws₂ xs₂ → LeftF z ws xs ws₂ xs₂
+    pub absorb-left : SomeTouched (λ (t : Touched). AbsorbAt z (st .axes) (st .slots) id k ws xs t) → {ws₂ xs₂ : List ℕ}
+        → ImagesTurned z (3 * s .slots) a k ws₁ xs₁ ws₂ xs₂ → LeftF z ws xs ws₂ xs₂
     absorb-left s turned = left-then (touched .0) (turned-left (now-holds (s .it)) turned)

@@ -15,14 +15,16 @@ use Rattle.theory.specs.Peak.{touchAll-rises}
 use Rattle.theory.specs.Ids.{id-in}
 use Rattle.layout.specs.declared.Shape.{Shape}
 use Rattle.layout.specs.Words.{axisPlace}
+use Rattle.steps.specs.declared.State.{State}
+use Rattle.steps.specs.declared.Step.{Step}
+use Rattle.steps.specs.declared.Step.the-variants.{Next, ExpansionLimit}
+use Rattle.steps.specs.State.{withSlots}
 use Rattle.words_wellformed.specs.Inside.{inside-support}
 use Rattle.clifford_states.specs.SetBits.{setBits-none, setBits-lowest, qubitsAt, qubitsFrom, support-from, qubits-end, qubits-next}
 use Rattle.clifford_states.specs.SetBits.{touchAll-append, touchAll-axes, support-number}
-use Rattle.clifford.specs.Holds.{Holds, SomeTouched, LeftF, TouchedAs, as-slots, as-limit, HeldAt, left-none, left-then, granted-left}
+use Rattle.clifford.specs.Holds.{Holds, SomeTouched, LeftF, TouchedAs, as-next, as-limit, HeldAt, left-none, left-then, granted-left}
 use Rattle.clifford.specs.Holds.{axis-in, axis-number, AxisAt}
 use Rattle.clifford.specs.Touching.{TouchAt}
-use Rattle.clifford.specs.declared.Touching.{Touching}
-use Rattle.clifford.specs.declared.Touching.the-variants.{Slots, ExpansionLimit}
 
 -- ---- the qubits of a number's set bits
 
@@ -36,26 +38,33 @@ pub number-small : {z : Shape} {n m j w : ℕ} {ws xs : List ℕ} {t : Touched} 
 number-small h = omega (arith, h .number, h .at .granted .sized .few)
 
 -- those of `rest` are still to be touched
-pub record BitsNow (z : Shape) (n j w : ℕ) (ws xs : List ℕ) (m rest : ℕ) (t : Touched) : Type 0 where
+pub record BitsNow (z : Shape) (j w : ℕ) (ws xs : List ℕ) (st : State) (rest : ℕ) (t : Touched) : Type 0 where
   pub now : Touched
   pub whole : touchAll (z .l) t (setBits 64 (64 * j) w) ≡ touchAll (z .l) now (setBits 64 (64 * j) rest)
-  pub at : HeldAt z n m ws xs now
+  pub at : HeldAt z (st .axes) (st .slots) ws xs now
   pub qubits : Every (λ q. q < z .qubits) (setBits 64 (64 * j) rest)
 
-pub record BitsLoop (z : Shape) (n m₀ j w : ℕ) (ws₀ xs₀ ws xs : List ℕ) (m rest : ℕ) : Type 0 where
+pub record BitsLoop (z : Shape) (first : State) (j w : ℕ) (ws₀ xs₀ ws xs : List ℕ) (st : State) (rest : ℕ) : Type 0 where
   pub small : rest < 2 ^ 64
   pub left : LeftF z ws₀ xs₀ ws xs
-  pub at : (t : Touched) → BitsAt z n m₀ j w ws₀ xs₀ t → BitsNow z n j w ws xs m rest t
+  pub same : st ≡ withSlots (st .slots) first
+  pub at : (t : Touched) → BitsAt z (first .axes) (first .slots) j w ws₀ xs₀ t → BitsNow z j w ws xs st rest t
 
-pub bits-first : {z : Shape} {n m j w : ℕ} {ws xs : List ℕ} → w < 2 ^ 64 → BitsLoop z n m j w ws xs ws xs m w
-bits-first b = record { small = b; left = left-none _ _ _; at = λ t h. record { now = t; whole = refl; at = h .at; qubits = h .qubits } }
+pub bits-first : {z : Shape} {st : State} {j w : ℕ} {ws xs : List ℕ} → w < 2 ^ 64 → BitsLoop z st j w ws xs ws xs st w
+bits-first b = record {
+  small = b;
+  left = left-none _ _ _;
+  same = refl;
+  at = λ t h. record { now = t; whole = refl; at = h .at; qubits = h .qubits };
+}
 
 -- what a turn's call leaves, where it touches qubit q
-abbrev pub TouchLeft : Shape → ℕ → ℕ → ℕ → List ℕ → List ℕ → Touching → List ℕ → List ℕ → Type 0
-TouchLeft z n m q ws xs r ws′ xs′ =
-    LeftF z ws xs ws′ xs′ × ((t : Touched) → TouchAt z n m q ws xs t → TouchedAs z n r ws′ xs′ (touch (z .l) t q))
+abbrev pub TouchLeft : Shape → State → ℕ → List ℕ → List ℕ → Step → List ℕ → List ℕ → Type 0
+TouchLeft z st q ws xs r ws′ xs′ =
+    LeftF z ws xs ws′ xs′
+    × ((t : Touched) → TouchAt z (st .axes) (st .slots) q ws xs t → TouchedAs z st r ws′ xs′ (touch (z .l) t q))
 
-module _ {z : Shape} {n m₀ j w : ℕ} {ws₀ xs₀ ws xs : List ℕ} {m rest q : ℕ} (b : BitsLoop z n m₀ j w ws₀ xs₀ ws xs m rest)
+module _ {z : Shape} {first st : State} {j w : ℕ} {ws₀ xs₀ ws xs : List ℕ} {rest q : ℕ} (b : BitsLoop z first j w ws₀ xs₀ ws xs st rest)
     (some : rest ≡ 0 → ⊥) (place : q ≡ 64 * j + trailingZeros 64 rest) where
   -- the lowest bit first
   lowest : setBits 64 (64 * j) rest ≡ q ∷ setBits 64 (64 * j) (bitAnd rest (rest - 1))
@@ -63,42 +72,45 @@ module _ {z : Shape} {n m₀ j w : ℕ} {ws₀ xs₀ ws xs : List ℕ} {m rest q
       setBits-lowest 64 (64 * j) rest (omega arith) (b .small)
       ∙ ap (λ (x : ℕ). x ∷ setBits 64 (64 * j) (bitAnd rest (rest - 1))) (sym place)
 
-  split : {t : Touched} → BitsNow z n j w ws xs m rest t
+  split : {t : Touched} → BitsNow z j w ws xs st rest t
       → (q < z .qubits) × Every (λ i. i < z .qubits) (setBits 64 (64 * j) (bitAnd rest (rest - 1)))
   split k = subst (Every (λ i. i < z .qubits)) lowest (k .qubits)
 
-  pub bits-turn : SomeTouched (λ (t : Touched). BitsAt z n m₀ j w ws₀ xs₀ t) → SomeTouched (λ (t : Touched). TouchAt z n m q ws xs t)
+  pub bits-turn : SomeTouched (λ (t : Touched). BitsAt z (first .axes) (first .slots) j w ws₀ xs₀ t)
+      → SomeTouched (λ (t : Touched). TouchAt z (st .axes) (st .slots) q ws xs t)
   bits-turn s = let k = b .at (s .state) (s .it) in record { state = k .now; it = record { at = k .at; qubit = split k .0 } }
 
   -- the rest, from the state after q
-  after : {t : Touched} (k : BitsNow z n j w ws xs m rest t)
+  after : {t : Touched} (k : BitsNow z j w ws xs st rest t)
       → touchAll (z .l) t (setBits 64 (64 * j) w) ≡ touchAll (z .l) (touch (z .l) (k .now) q) (setBits 64 (64 * j) (bitAnd rest (rest - 1)))
   unfolding touchAll
   after k = k .whole ∙ ap (touchAll (z .l) (k .now)) lowest
 
-  module _ {r : Touching} {ws′ xs′ : List ℕ} (call : TouchLeft z n m q ws xs r ws′ xs′) where
+  module _ {r : Step} {ws′ xs′ : List ℕ} (call : TouchLeft z st q ws xs r ws′ xs′) where
     pub bits-left : LeftF z ws₀ xs₀ ws′ xs′
     bits-left = left-then (b .left) (call .0)
 
-    said : {t : Touched} (k : BitsNow z n j w ws xs m rest t) → TouchedAs z n r ws′ xs′ (touch (z .l) (k .now) q)
+    said : {t : Touched} (k : BitsNow z j w ws xs st rest t) → TouchedAs z st r ws′ xs′ (touch (z .l) (k .now) q)
     said k = call .1 (k .now) (record { at = k .at; qubit = split k .0 })
 
-    pub bits-next : (m′ : ℕ) → r ≡ Slots m′ → BitsLoop z n m₀ j w ws₀ xs₀ ws′ xs′ m′ (bitAnd rest (rest - 1))
-    bits-next m′ e = record {
+    pub bits-next : SomeTouched (λ (t : Touched). BitsAt z (first .axes) (first .slots) j w ws₀ xs₀ t) → (s : State) → r ≡ Next s
+        → BitsLoop z first j w ws₀ xs₀ ws′ xs′ s (bitAnd rest (rest - 1))
+    bits-next some-state s e = record {
       small = omega (arith, clear-lt rest (let p : 0 < rest = omega arith in p), b .small);
       left = bits-left;
+      same = said (b .at (some-state .state) (some-state .it)) .kept s e ∙ ap (withSlots (s .slots)) (b .same);
       at = λ t h.
           let k = b .at t h in
           record {
             now = touch (z .l) (k .now) q;
             whole = after k;
-            at = record { granted = granted-left (k .at .granted) (call .0); holds = said k .held m′ e };
+            at = record { granted = granted-left (k .at .granted) (call .0); holds = said k .held s e };
             qubits = split k .1;
           };
     }
 
-    pub bits-limit : r ≡ ExpansionLimit → (t : Touched) → BitsAt z n m₀ j w ws₀ xs₀ t
-        → TouchedAs z n ExpansionLimit ws′ xs′ (touchAll (z .l) t (setBits 64 (64 * j) w))
+    pub bits-limit : r ≡ ExpansionLimit → (t : Touched) → BitsAt z (first .axes) (first .slots) j w ws₀ xs₀ t
+        → TouchedAs z first ExpansionLimit ws′ xs′ (touchAll (z .l) t (setBits 64 (64 * j) w))
     bits-limit e t h =
         let k = b .at t h in
         let p = said k .refused e in
@@ -109,12 +121,13 @@ module _ {z : Shape} {n m₀ j w : ℕ} {ws₀ xs₀ ws xs : List ℕ} {m rest q
         ))
 
 -- all are touched
-pub bits-end : {z : Shape} {n m₀ j w : ℕ} {ws₀ xs₀ ws xs : List ℕ} {m rest : ℕ} → BitsLoop z n m₀ j w ws₀ xs₀ ws xs m rest → rest ≡ 0
-    → (t : Touched) → BitsAt z n m₀ j w ws₀ xs₀ t → TouchedAs z n (Slots m) ws xs (touchAll (z .l) t (setBits 64 (64 * j) w))
+pub bits-end : {z : Shape} {first st : State} {j w : ℕ} {ws₀ xs₀ ws xs : List ℕ} {rest : ℕ}
+    → BitsLoop z first j w ws₀ xs₀ ws xs st rest → rest ≡ 0 → (t : Touched) → BitsAt z (first .axes) (first .slots) j w ws₀ xs₀ t
+    → TouchedAs z first (Next st) ws xs (touchAll (z .l) t (setBits 64 (64 * j) w))
 unfolding touchAll
-bits-end {z} {n} {j = j} {ws = ws} {xs} {m} b e t h =
+bits-end {z} {st = st} {j} {ws = ws} {xs} b e t h =
     let k = b .at t h in
-    as-slots (subst (Holds z n m ws xs) (sym (k .whole ∙ ap (λ (x : ℕ). touchAll (z .l) (k .now) (setBits 64 (64 * j) x)) e
+    as-next (b .same) (subst (Holds z (st .axes) (st .slots) ws xs) (sym (k .whole ∙ ap (λ (x : ℕ). touchAll (z .l) (k .now) (setBits 64 (64 * j) x)) e
     ∙ ap (touchAll (z .l) (k .now)) (setBits-none 64 (64 * j)))) (k .at .holds))
 
 -- ---- the qubits of an axis
@@ -123,29 +136,36 @@ pub axis-small : {z : Shape} {n m id : ℕ} {ws xs : List ℕ} {t : Touched} →
 axis-small h = omega (arith, axis-in (h .at .holds) (h .id-in), h .at .granted .sized .limit)
 
 -- the numbers from the j-th on are still to be gone through
-pub record AxisNow (z : Shape) (n id : ℕ) (ws xs : List ℕ) (m j : ℕ) (t : Touched) : Type 0 where
+pub record AxisNow (z : Shape) (id : ℕ) (ws xs : List ℕ) (st : State) (j : ℕ) (t : Touched) : Type 0 where
   pub now : Touched
   pub whole : touchAll (z .l) t (support (z .l) (wordOf (t .store .axes) id))
       ≡ touchAll (z .l) now (qubitsFrom (z .l) (wordOf (t .store .axes) id) j (z .l - j))
   pub axes : now .store .axes ≡ t .store .axes
-  pub at : HeldAt z n m ws xs now
+  pub at : HeldAt z (st .axes) (st .slots) ws xs now
 
-pub record NumbersLoop (z : Shape) (n m₀ id : ℕ) (ws₀ xs₀ ws xs : List ℕ) (m j : ℕ) : Type 0 where
+pub record NumbersLoop (z : Shape) (first : State) (id : ℕ) (ws₀ xs₀ ws xs : List ℕ) (st : State) (j : ℕ) : Type 0 where
   pub index : j ≤ z .l
   pub left : LeftF z ws₀ xs₀ ws xs
-  pub at : (t : Touched) → AxisAt z n m₀ id ws₀ xs₀ t → AxisNow z n id ws xs m j t
+  pub same : st ≡ withSlots (st .slots) first
+  pub at : (t : Touched) → AxisAt z (first .axes) (first .slots) id ws₀ xs₀ t → AxisNow z id ws xs st j t
+
+-- as many axes as before
+id-now : {z : Shape} {first st : State} {id : ℕ} {ws₀ xs₀ ws xs : List ℕ} {j : ℕ} → NumbersLoop z first id ws₀ xs₀ ws xs st j → id < first .axes
+    → id < st .axes
+id-now b h = omega (arith, h, ap (λ (s : State). s .axes) (b .same))
 
 -- the axis's word is there at every turn
-pub numbers-word : {z : Shape} {n m₀ id : ℕ} {ws₀ xs₀ ws xs : List ℕ} {m j a : ℕ} → NumbersLoop z n m₀ id ws₀ xs₀ ws xs m j
-    → SomeTouched (λ (t : Touched). AxisAt z n m₀ id ws₀ xs₀ t) → a ≡ axisPlace (z .l) id → a + 2 * z .l ≤ length ws
+pub numbers-word : {z : Shape} {first st : State} {id : ℕ} {ws₀ xs₀ ws xs : List ℕ} {j a : ℕ} → NumbersLoop z first id ws₀ xs₀ ws xs st j
+    → SomeTouched (λ (t : Touched). AxisAt z (first .axes) (first .slots) id ws₀ xs₀ t) → a ≡ axisPlace (z .l) id → a + 2 * z .l ≤ length ws
 numbers-word b s e =
     let k = b .at (s .state) (s .it) in
-    omega (arith, axis-in (k .at .holds) (s .it .id-in), k .at .granted .words-long)
+    omega (arith, axis-in (k .at .holds) (id-now b (s .it .id-in)), k .at .granted .words-long)
 
-pub numbers-first : {z : Shape} {n m id : ℕ} {ws xs : List ℕ} → NumbersLoop z n m id ws xs ws xs m 0
+pub numbers-first : {z : Shape} {st : State} {id : ℕ} {ws xs : List ℕ} → NumbersLoop z st id ws xs ws xs st 0
 numbers-first {z} {id = id} = record {
   index = omega arith;
   left = left-none _ _ _;
+  same = refl;
   at = λ t h. record {
     now = t;
     whole =
@@ -156,13 +176,14 @@ numbers-first {z} {id = id} = record {
   };
 }
 
-abbrev pub BitsLeft : Shape → ℕ → ℕ → ℕ → ℕ → List ℕ → List ℕ → Touching → List ℕ → List ℕ → Type 0
-BitsLeft z n m j w ws xs r ws′ xs′ =
-    LeftF z ws xs ws′ xs′ × ((t : Touched) → BitsAt z n m j w ws xs t → TouchedAs z n r ws′ xs′ (touchAll (z .l) t (setBits 64 (64 * j) w)))
+abbrev pub BitsLeft : Shape → State → ℕ → ℕ → List ℕ → List ℕ → Step → List ℕ → List ℕ → Type 0
+BitsLeft z st j w ws xs r ws′ xs′ =
+    LeftF z ws xs ws′ xs′
+    × ((t : Touched) → BitsAt z (st .axes) (st .slots) j w ws xs t → TouchedAs z st r ws′ xs′ (touchAll (z .l) t (setBits 64 (64 * j) w)))
 
-module _ {z : Shape} {n m₀ id : ℕ} {ws₀ xs₀ ws xs : List ℕ} {m j a w : ℕ} (b : NumbersLoop z n m₀ id ws₀ xs₀ ws xs m j) (more : j < z .l)
-    (place : a ≡ axisPlace (z .l) id) (read : w ≡ bitOr (getD ws (a + j) 0) (getD ws (a + (z .l + j)) 0)) where
-  module _ {t : Touched} (h : AxisAt z n m₀ id ws₀ xs₀ t) where
+module _ {z : Shape} {first st : State} {id : ℕ} {ws₀ xs₀ ws xs : List ℕ} {j a w : ℕ} (b : NumbersLoop z first id ws₀ xs₀ ws xs st j)
+    (more : j < z .l) (place : a ≡ axisPlace (z .l) id) (read : w ≡ bitOr (getD ws (a + j) 0) (getD ws (a + (z .l + j)) 0)) where
+  module _ {t : Touched} (h : AxisAt z (first .axes) (first .slots) id ws₀ xs₀ t) where
     word : List ℕ
     word = wordOf (t .store .axes) id
 
@@ -170,10 +191,10 @@ module _ {z : Shape} {n m₀ id : ℕ} {ws₀ xs₀ ws xs : List ℕ} {m j a w :
     unfolding qubitsAt
     these =
         let k = b .at t h in
-        ap (setBits 64 (64 * j)) (axis-number (k .at .holds) (h .id-in) a w j more place read
+        ap (setBits 64 (64 * j)) (axis-number (k .at .holds) (id-now b (h .id-in)) a w j more place read
         ∙ ap (λ (axes : List (List ℕ)). bitOr (xWord (wordOf axes id) j) (zWord (z .l) (wordOf axes id) j)) (k .axes))
 
-    pub bits-there : BitsAt z n m j w ws xs (b .at t h .now)
+    pub bits-there : BitsAt z (st .axes) (st .slots) j w ws xs (b .at t h .now)
     bits-there = record {
       at = b .at t h .at;
       number = more;
@@ -192,17 +213,20 @@ module _ {z : Shape} {n m₀ id : ℕ} {ws₀ xs₀ ws xs : List ℕ} {m j a w :
         ∙ ap (λ (xs : List ℕ). xs ++ qubitsFrom (z .l) (wordOf (t .store .axes) id) (suc j) (z .l - suc j)) (sym these))
         ∙ touchAll-append (z .l) (b .at t h .now) (setBits 64 (64 * j) w) _
 
-  pub numbers-turn : SomeTouched (λ (t : Touched). AxisAt z n m₀ id ws₀ xs₀ t) → SomeTouched (λ (t : Touched). BitsAt z n m j w ws xs t)
+  pub numbers-turn : SomeTouched (λ (t : Touched). AxisAt z (first .axes) (first .slots) id ws₀ xs₀ t)
+      → SomeTouched (λ (t : Touched). BitsAt z (st .axes) (st .slots) j w ws xs t)
   numbers-turn s = record { state = b .at (s .state) (s .it) .now; it = bits-there (s .it) }
 
-  module _ {r : Touching} {ws′ xs′ : List ℕ} (call : BitsLeft z n m j w ws xs r ws′ xs′) where
+  module _ {r : Step} {ws′ xs′ : List ℕ} (call : BitsLeft z st j w ws xs r ws′ xs′) where
     pub numbers-left : LeftF z ws₀ xs₀ ws′ xs′
     numbers-left = left-then (b .left) (call .0)
 
-    pub numbers-next : (m′ : ℕ) → r ≡ Slots m′ → NumbersLoop z n m₀ id ws₀ xs₀ ws′ xs′ m′ (j + 1)
-    numbers-next m′ e = record {
+    pub numbers-next : SomeTouched (λ (t : Touched). AxisAt z (first .axes) (first .slots) id ws₀ xs₀ t) → (s : State) → r ≡ Next s
+        → NumbersLoop z first id ws₀ xs₀ ws′ xs′ s (j + 1)
+    numbers-next some s e = record {
       index = omega arith;
       left = numbers-left;
+      same = call .1 _ (bits-there (some .it)) .kept s e ∙ ap (withSlots (s .slots)) (b .same);
       at = λ t h.
           let k = b .at t h in
           let f : suc j ≡ j + 1 = omega arith in
@@ -212,13 +236,13 @@ module _ {z : Shape} {n m₀ id : ℕ} {ws₀ xs₀ ws xs : List ℕ} {m j a w :
             axes = touchAll-axes (z .l) (k .now) (setBits 64 (64 * j) w) ∙ k .axes;
             at = record {
               granted = granted-left (k .at .granted) (call .0);
-              holds = call .1 (k .now) (bits-there h) .held m′ e;
+              holds = call .1 (k .now) (bits-there h) .held s e;
             };
           };
     }
 
-    pub numbers-limit : r ≡ ExpansionLimit → (t : Touched) → AxisAt z n m₀ id ws₀ xs₀ t
-        → TouchedAs z n ExpansionLimit ws′ xs′ (touchAll (z .l) t (support (z .l) (wordOf (t .store .axes) id)))
+    pub numbers-limit : r ≡ ExpansionLimit → (t : Touched) → AxisAt z (first .axes) (first .slots) id ws₀ xs₀ t
+        → TouchedAs z first ExpansionLimit ws′ xs′ (touchAll (z .l) t (support (z .l) (wordOf (t .store .axes) id)))
     numbers-limit e t h =
         let k = b .at t h in
         let p = call .1 (k .now) (bits-there h) .refused e in
@@ -229,13 +253,14 @@ module _ {z : Shape} {n m₀ id : ℕ} {ws₀ xs₀ ws xs : List ℕ} {m j a w :
               (qubitsFrom (z .l) (wordOf (t .store .axes) id) (suc j) (z .l - suc j)),
         ))
 
-pub numbers-end : {z : Shape} {n m₀ id : ℕ} {ws₀ xs₀ ws xs : List ℕ} {m j : ℕ} → NumbersLoop z n m₀ id ws₀ xs₀ ws xs m j → z .l ≤ j
-    → (t : Touched) → AxisAt z n m₀ id ws₀ xs₀ t
-    → TouchedAs z n (Slots m) ws xs (touchAll (z .l) t (support (z .l) (wordOf (t .store .axes) id)))
+pub numbers-end : {z : Shape} {first st : State} {id : ℕ} {ws₀ xs₀ ws xs : List ℕ} {j : ℕ} → NumbersLoop z first id ws₀ xs₀ ws xs st j
+    → z .l ≤ j
+    → (t : Touched) → AxisAt z (first .axes) (first .slots) id ws₀ xs₀ t
+    → TouchedAs z first (Next st) ws xs (touchAll (z .l) t (support (z .l) (wordOf (t .store .axes) id)))
 unfolding touchAll
-numbers-end {z} {n} {id = id} {ws = ws} {xs} {m} {j} b e t h =
+numbers-end {z} {st = st} {id} {ws = ws} {xs} {j} b e t h =
     let k = b .at t h in
     let none : z .l - j ≡ 0 = omega arith in
-    as-slots (subst (Holds z n m ws xs) (sym (k .whole
+    as-next (b .same) (subst (Holds z (st .axes) (st .slots) ws xs) (sym (k .whole
     ∙ ap (λ (x : ℕ). touchAll (z .l) (k .now) (qubitsFrom (z .l) (wordOf (t .store .axes) id) j x)) none
     ∙ ap (touchAll (z .l) (k .now)) (qubits-end (z .l) (wordOf (t .store .axes) id) j))) (k .at .holds))

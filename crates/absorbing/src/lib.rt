@@ -10,37 +10,37 @@ ghost use Rattle.clifford.specs.Holds.{SomeTouched, LeftF, TouchedAs, AxisAt};
 ghost use Rattle.absorbing.specs.Turning.{TurnPre, ImageTurned, TurnsPre, ImagesTurned};
 ghost use Rattle.absorbing.specs.AxisQubits.{BitsAt};
 ghost use Rattle.absorbing.specs.Absorbing.{AbsorbAt};
-use clifford::Touching;
 use layout::F_PHASE;
 use layout::Shape;
+use steps::State;
+use steps::Step;
 
 // Touches the qubits of the set bits of number j of a plane.
 fn touch_bits(
     words: &mut [u64],
     numbers: &mut [u32],
     shape: Shape,
-    axes: usize,
-    before: usize,
+    first: State,
     j: usize,
     acted: u64,
-) -> Touching
-    requires { ⌜ SomeTouched (λ (t : Touched). BitsAt shape axes before j acted (now words) (now numbers) t) ⌝ }
+) -> Step
+    requires { ⌜ SomeTouched (λ (t : Touched). BitsAt shape (first .axes) (first .slots) j acted (now words) (now numbers) t) ⌝ }
     ensures { λ r. ⌜ LeftF shape (now (words .entry)) (now (numbers .entry)) (now (words .exit)) (now (numbers .exit))
-        × ((t : Touched) → BitsAt shape axes before j acted (now (words .entry)) (now (numbers .entry)) t
-        → TouchedAs shape axes r (now (words .exit)) (now (numbers .exit)) (touchAll (shape .l) t (setBits 64 (64 * j) acted))) ⌝ }
+        × ((t : Touched) → BitsAt shape (first .axes) (first .slots) j acted (now (words .entry)) (now (numbers .entry)) t
+        → TouchedAs shape first r (now (words .exit)) (now (numbers .exit)) (touchAll (shape .l) t (setBits 64 (64 * j) acted))) ⌝ }
 {
-    let mut slots = before;
+    let mut st = first;
     let mut rest = acted;
     while rest != 0 {
         let q = 64 * j + u64::trailing_zeros(rest) as usize;
-        let t = clifford::touch(words, numbers, shape, axes, slots, q);
+        let t = clifford::touch(words, numbers, shape, st, q);
         match t {
-            Touching::Slots(n) => slots = n,
-            Touching::ExpansionLimit => return Touching::ExpansionLimit,
+            Step::Next(s) => st = s,
+            Step::ExpansionLimit => return Step::ExpansionLimit,
         }
         rest &= rest - 1;
     }
-    Touching::Slots(slots)
+    Step::Next(st)
 }
 
 // Touches the qubits of axis id.
@@ -48,27 +48,26 @@ fn touch_all(
     words: &mut [u64],
     numbers: &mut [u32],
     shape: Shape,
-    axes: usize,
-    before: usize,
+    first: State,
     id: usize,
-) -> Touching
-    requires { ⌜ SomeTouched (λ (t : Touched). AxisAt shape axes before id (now words) (now numbers) t) ⌝ }
+) -> Step
+    requires { ⌜ SomeTouched (λ (t : Touched). AxisAt shape (first .axes) (first .slots) id (now words) (now numbers) t) ⌝ }
     ensures { λ r. ⌜ LeftF shape (now (words .entry)) (now (numbers .entry)) (now (words .exit)) (now (numbers .exit))
-        × ((t : Touched) → AxisAt shape axes before id (now (words .entry)) (now (numbers .entry)) t
-        → TouchedAs shape axes r (now (words .exit)) (now (numbers .exit))
+        × ((t : Touched) → AxisAt shape (first .axes) (first .slots) id (now (words .entry)) (now (numbers .entry)) t
+        → TouchedAs shape first r (now (words .exit)) (now (numbers .exit))
         (touchAll (shape .l) t (support (shape .l) (wordOf (t .store .axes) id)))) ⌝ }
 {
     let at = layout::axis_at(shape.l, id);
-    let mut slots = before;
+    let mut st = first;
     for j in 0..shape.l {
         let acted = clifford::acted_at(&words[..], at, shape.l, j);
-        let t = touch_bits(words, numbers, shape, axes, slots, j, acted);
+        let t = touch_bits(words, numbers, shape, st, j, acted);
         match t {
-            Touching::Slots(n) => slots = n,
-            Touching::ExpansionLimit => return Touching::ExpansionLimit,
+            Step::Next(s) => st = s,
+            Step::ExpansionLimit => return Step::ExpansionLimit,
         }
     }
-    Touching::Slots(slots)
+    Step::Next(st)
 }
 
 // Adds e to the phase of image i.
@@ -125,21 +124,20 @@ pub fn absorb(
     words: &mut [u64],
     numbers: &mut [u32],
     shape: Shape,
-    axes: usize,
-    slots: usize,
+    st: State,
     id: usize,
     k: u32,
-) -> Touching
-    requires { ⌜ SomeTouched (λ (t : Touched). AbsorbAt shape axes slots id k (now words) (now numbers) t) ⌝ }
+) -> Step
+    requires { ⌜ SomeTouched (λ (t : Touched). AbsorbAt shape (st .axes) (st .slots) id k (now words) (now numbers) t) ⌝ }
     ensures { λ r. ⌜ LeftF shape (now (words .entry)) (now (numbers .entry)) (now (words .exit)) (now (numbers .exit))
-        × ((t : Touched) → AbsorbAt shape axes slots id k (now (words .entry)) (now (numbers .entry)) t
-        → TouchedAs shape axes r (now (words .exit)) (now (numbers .exit)) (absorbWord (shape .l) t (wordOf (t .store .axes) id) k)) ⌝ }
+        × ((t : Touched) → AbsorbAt shape (st .axes) (st .slots) id k (now (words .entry)) (now (numbers .entry)) t
+        → TouchedAs shape st r (now (words .exit)) (now (numbers .exit)) (absorbWord (shape .l) t (wordOf (t .store .axes) id) k)) ⌝ }
 {
-    let t = touch_all(words, numbers, shape, axes, slots, id);
-    let Touching::Slots(n) = t else {
-        return Touching::ExpansionLimit;
+    let t = touch_all(words, numbers, shape, st, id);
+    let Step::Next(s) = t else {
+        return Step::ExpansionLimit;
     };
     let at = layout::axis_at(shape.l, id);
-    turn_images(words, numbers, shape, 3 * n, at, k);
-    Touching::Slots(n)
+    turn_images(words, numbers, shape, 3 * s.slots, at, k);
+    Step::Next(s)
 }

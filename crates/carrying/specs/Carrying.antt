@@ -22,15 +22,16 @@ use Rattle.axes.specs.declared.Interned.the-variants.{Id}
 use Rattle.axes.specs.declared.Sizes.{Sizes}
 use Rattle.axes.specs.Intern.{InternPre, Stores, intern-old, countWith}
 use Rattle.axes.specs.Stored.{HasId, NoRoom, InternedAs, interned-is}
+use Rattle.steps.specs.declared.State.{State}
+use Rattle.steps.specs.declared.Step.{Step}
+use Rattle.steps.specs.declared.Step.the-variants.{Next, ExpansionLimit}
+use Rattle.steps.specs.State.{withImage}
 use Rattle.words_wellformed.specs.Conjugation.{value-eq}
 use Rattle.words_wellformed.specs.StoredWords.{StoredWords}
 use Rattle.clifford.specs.Holds.{imageIn, maskPlace, Holds, AxisAt, holds-behind, axis-in}
 use Rattle.carrying.specs.Fixed.{NoneMarked, fixed-image}
 use Rattle.carrying.specs.Letters.{axisWord, CarryAt, WordCarried}
 use Rattle.carrying.specs.Scratch.{scratchValue}
-use Rattle.carrying.specs.declared.Carried.{Carried}
-use Rattle.carrying.specs.declared.Carried.the-variants.{To, ExpansionLimit}
-use Rattle.carrying.specs.declared.CarriedAxis.{CarriedAxis}
 
 -- the image of axis a, and the store once it is in
 unfoldable pub imageOfAxis : ℕ → Touched → ℕ → Value
@@ -40,8 +41,8 @@ unfoldable pub carriedStore : ℕ → Touched → ℕ → Store
 carriedStore l t a = intern l (imageWords l (t .held)) (t .store) (imageOfAxis l t a .word)
 
 -- id is an axis, and every axis is a word that is stored once
-pub record CarryPre (z : Shape) (n m id : ℕ) (ws xs : List ℕ) (t : Touched) : Type 0 where
-  pub axis : AxisAt z n m id ws xs t
+pub record CarryPre (z : Shape) (st : State) (id : ℕ) (ws xs : List ℕ) (t : Touched) : Type 0 where
+  pub axis : AxisAt z (st .axes) (st .slots) id ws xs t
   pub stored : StoredWords (z .l) (t .store .axes)
 
 -- what carrying leaves of both stores: where an axis is stored, rows that are kept for axes may change
@@ -52,63 +53,65 @@ pub record LeftCarried (z : Shape) (ws xs ws′ xs′ : List ℕ) : Type 0 where
 pub left-fixed : (z : Shape) (ws xs : List ℕ) → LeftCarried z ws xs ws xs
 left-fixed z ws xs = record { words = kept-none _ ws; numbers = only-none axesRows (z .u) xs }
 
--- what the code's image means
-pub record CarriedTo (z : Shape) (m id : ℕ) (t : Touched) (ws xs : List ℕ) (c : CarriedAxis) : Type 0 where
-  pub id-is : c .id ≡ idOf (carriedStore (z .l) t id .axes) (imageOfAxis (z .l) t id .word)
-  pub id-in : c .id < c .axes
-  pub turns-are : c .turns ≡ imageOfAxis (z .l) t id .turns
-  pub small : c .turns < 4
-  pub holds : Holds z (c .axes) m ws xs (record { store = carriedStore (z .l) t id; held = t .held })
+-- what the state after a step from st means: the image is stored, with its id and its turns, and all else is st
+pub record CarriedTo (z : Shape) (st : State) (id : ℕ) (t : Touched) (ws xs : List ℕ) (s : State) : Type 0 where
+  pub id-is : s .id ≡ idOf (carriedStore (z .l) t id .axes) (imageOfAxis (z .l) t id .word)
+  pub id-in : s .id < s .axes
+  pub turns-are : s .turns ≡ imageOfAxis (z .l) t id .turns
+  pub small : s .turns < 4
+  pub holds : Holds z (s .axes) (st .slots) ws xs (record { store = carriedStore (z .l) t id; held = t .held })
+  pub same : s ≡ withImage (s .axes) (s .id) (s .turns) st
 
 -- what an answer means: the image is stored, or the model's peak is above the limit
-pub record CarriedAs (z : Shape) (m id : ℕ) (t : Touched) (r : Carried) (ws xs : List ℕ) : Type 0 where
-  pub to : (c : CarriedAxis) → r ≡ To c → CarriedTo z m id t ws xs c
+pub record CarriedAs (z : Shape) (st : State) (id : ℕ) (t : Touched) (r : Step) (ws xs : List ℕ) : Type 0 where
+  pub to : (s : State) → r ≡ Next s → CarriedTo z st id t ws xs s
   pub refused : r ≡ ExpansionLimit → z .limit < carriedStore (z .l) t id .peak
 
-pub as-to : {z : Shape} {m id : ℕ} {t : Touched} {ws xs : List ℕ} {c : CarriedAxis} → CarriedTo z m id t ws xs c
-    → CarriedAs z m id t (To c) ws xs
-as-to {z} {m} {id} {t} {ws} {xs} {c} h = record {
-  to = λ d e. let f : c ≡ d = cc in subst (CarriedTo z m id t ws xs) f h;
-  refused = λ e. let f : _≡_ {A = ℕ} 0 1 = cc in absurd (omega arith);
+pub as-to : {z : Shape} {st s : State} {n a e id : ℕ} {t : Touched} {ws xs : List ℕ} → s ≡ withImage n a e st
+    → CarriedTo z st id t ws xs (withImage n a e st) → CarriedAs z st id t (Next s) ws xs
+as-to {z} {st} {s} {id = id} {t} {ws} {xs} f h = record {
+  to = λ k e. let g : s ≡ k = cc in subst (CarriedTo z st id t ws xs) (sym f ∙ g) h;
+  refused = λ e. let g : _≡_ {A = ℕ} 0 1 = cc in absurd (omega arith);
 }
 
-pub as-refused : {z : Shape} {m id : ℕ} {t : Touched} {ws xs : List ℕ} → z .limit < carriedStore (z .l) t id .peak
-    → CarriedAs z m id t ExpansionLimit ws xs
+pub as-refused : {z : Shape} {st : State} {id : ℕ} {t : Touched} {ws xs : List ℕ} → z .limit < carriedStore (z .l) t id .peak
+    → CarriedAs z st id t ExpansionLimit ws xs
 as-refused h = record {
-  to = λ d e. let f : _≡_ {A = ℕ} 0 1 = cc in absurd (omega arith);
+  to = λ k e. let f : _≡_ {A = ℕ} 0 1 = cc in absurd (omega arith);
   refused = λ e. h;
 }
 
-module _ {z : Shape} {n m id : ℕ} {ws xs : List ℕ} {t : Touched} (h : CarryPre z n m id ws xs t) where
-  axes-count : length (t .store .axes) ≡ n
+module _ {z : Shape} {st : State} {id : ℕ} {ws xs : List ℕ} {t : Touched} (h : CarryPre z st id ws xs t) where
+  axes-count : length (t .store .axes) ≡ (st .axes)
   axes-count = held-count (h .axis .at .holds .axes)
 
   id-count : id < length (t .store .axes)
   id-count = omega (arith, axes-count, h .axis .id-in)
 
   pub carry-at : CarryAt z id ws xs t
-  carry-at = record { held = record { axes = n; slots = m; at = h .axis .at; id-in = h .axis .id-in }; inside = h .axis .inside }
+  carry-at = record { held = record { axes = (st .axes); slots = (st .slots); at = h .axis .at; id-in = h .axis .id-in }; inside = h .axis .inside }
 
   pub carry-words : (axisPlace (z .l) id + 2 * z .l ≤ z .limit) × (z .limit + 16 * z .l ≤ length ws)
   carry-words = (axis-in (h .axis .at .holds) (h .axis .id-in), h .axis .at .granted .words-long)
 
-  pub carry-numbers : (n < longestRow) × (m * (6 * z .l) ≤ 1048576) × (z .limit ≤ 1048576) × (z .l ≤ 64)
+  pub carry-numbers : ((st .axes) < longestRow) × ((st .slots) * (6 * z .l) ≤ 1048576) × (z .limit ≤ 1048576) × (z .l ≤ 64)
   carry-numbers =
       let r = h .axis .at .holds .room in
       let s = h .axis .at .granted .sized in
-      (omega (arith, s .words-row n (omega arith), s .u-small), omega (arith, s .limit), s .limit, s .few)
+      (omega (arith, s .words-row (st .axes) (omega arith), s .u-small), omega (arith, s .limit), s .limit, s .few)
 
   -- F leaves it: it has its id, and nothing is stored
-  pub fixed-to : {a b : ℕ} → a ≡ axisPlace (z .l) id → b ≡ maskPlace z → NoneMarked (z .l) ws a b (z .l)
-      → CarriedAs z m id t (To (record { id = id; turns = 0; axes = n })) ws xs
+  pub fixed-to : {a b : ℕ} {s : State} → a ≡ axisPlace (z .l) id → b ≡ maskPlace z → NoneMarked (z .l) ws a b (z .l)
+      → s ≡ withImage (st .axes) id 0 st → CarriedAs z st id t (Next s) ws xs
   unfolding imageOfAxis carriedStore
-  fixed-to {a} place mask marked =
-      as-to (record {
-        id-is = sym (ap₂ (λ (st : Store) (v : Value). idOf (st .axes) (v .word)) same image ∙ h .stored .distinct id id-count);
+  fixed-to {a} place mask marked with-image =
+      as-to with-image (record {
+        id-is = sym (ap₂ (λ (store : Store) (v : Value). idOf (store .axes) (v .word)) same image ∙ h .stored .distinct id id-count);
         id-in = h .axis .id-in;
         turns-are = sym (ap (λ (v : Value). v .turns) image);
         small = omega arith;
-        holds = subst (λ (st : Store). Holds z n m ws xs (record { store = st; held = t .held })) (sym same) (h .axis .at .holds);
+        holds = subst (λ (store : Store). Holds z (st .axes) (st .slots) ws xs (record { store = store; held = t .held })) (sym same) (h .axis .at .holds);
+        same = refl;
       })
     where
       image : wordImage (z .l) (t .held) (axisWord id t) ≡ asValue (axisWord id t)
@@ -123,7 +126,7 @@ module _ {z : Shape} {n m id : ℕ} {ws xs : List ℕ} {t : Touched} (h : CarryP
 
   -- it is worked out behind the limit
   module _ {ws₁ : List ℕ} {e : ℕ} (word : WordCarried z id ws t ws₁ e) where
-    now-holds : Holds z n m ws₁ xs t
+    now-holds : Holds z (st .axes) (st .slots) ws₁ xs t
     now-holds = holds-behind (word .words) (h .axis .at .holds)
 
     long₁ : z .limit + 16 * z .l ≤ length ws₁
@@ -134,7 +137,7 @@ module _ {z : Shape} {n m id : ℕ} {ws xs : List ℕ} {t : Touched} (h : CarryP
     the-word = ap (λ (v : Value). v .word) (word .value)
 
     -- whatever words are counted besides the axes
-    pub intern-there : {o others : ℕ} {y : Sizes} → o ≡ scratchPlace (z .limit) → y ≡ sizesOf z n → others ≤ z .limit
+    pub intern-there : {o others : ℕ} {y : Sizes} → o ≡ scratchPlace (z .limit) → y ≡ sizesOf z (st .axes) → others ≤ z .limit
         → InternPre y others ws₁ xs o
     intern-there e f counted = rw f (record {
       held = held-stored (now-holds .axes);
@@ -143,61 +146,61 @@ module _ {z : Shape} {n m id : ℕ} {ws xs : List ℕ} {t : Touched} (h : CarryP
       behind = omega arith;
     })
 
-    others-are : imageWords (z .l) (t .held) ≡ m * (6 * z .l)
+    others-are : imageWords (z .l) (t .held) ≡ (st .slots) * (6 * z .l)
     unfolding imageWords
     others-are = ap (λ (x : ℕ). x * (6 * z .l)) (h .axis .at .holds .count)
 
-    store-is : carriedStore (z .l) t id ≡ intern (z .l) (m * (6 * z .l)) (t .store) (wordAt (z .l) ws₁ (z .limit))
+    store-is : carriedStore (z .l) t id ≡ intern (z .l) ((st .slots) * (6 * z .l)) (t .store) (wordAt (z .l) ws₁ (z .limit))
     unfolding carriedStore
     store-is = ap₂ (λ (x : ℕ) (w : List ℕ). intern (z .l) x (t .store) w) others-are (sym the-word)
 
-    images-in : m * (6 * z .l) ≤ z .limit
+    images-in : (st .slots) * (6 * z .l) ≤ z .limit
     images-in = omega (arith, h .axis .at .holds .room)
 
-    module _ {r : Interned} {ws₂ xs₂ : List ℕ} {o : ℕ} {y : Sizes} (scratch : o ≡ scratchPlace (z .limit)) (sizes : y ≡ sizesOf z n)
-        (said : Stores y (m * (6 * z .l)) ws₁ xs o r ws₂ xs₂) where
+    module _ {r : Interned} {ws₂ xs₂ : List ℕ} {o : ℕ} {y : Sizes} (scratch : o ≡ scratchPlace (z .limit)) (sizes : y ≡ sizesOf z (st .axes))
+        (said : Stores y ((st .slots) * (6 * z .l)) ws₁ xs o r ws₂ xs₂) where
       -- what the answer means
-      meant : InternedAs (sizesOf z n) (m * (6 * z .l)) ws₁ xs (t .store) (wordAt (z .l) ws₁ (z .limit)) r ws₂ xs₂
+      meant : InternedAs (sizesOf z (st .axes)) ((st .slots) * (6 * z .l)) ws₁ xs (t .store) (wordAt (z .l) ws₁ (z .limit)) r ws₂ xs₂
       meant =
-          interned-is (sizesOf z n) (m * (6 * z .l)) ws₁ xs (z .limit) (intern-there refl refl images-in) (t .store) (now-holds .axes)
+          interned-is (sizesOf z (st .axes)) ((st .slots) * (6 * z .l)) ws₁ xs (z .limit) (intern-there refl refl images-in) (t .store) (now-holds .axes)
           (rw (scratch, sizes) at said)
           (now-holds .peak-in)
 
       module _ (f : r ≡ Rattle.axes.specs.declared.Interned.the-variants.ExpansionLimit) where
-        no-room : NoRoom (sizesOf z n) (m * (6 * z .l)) ws₁ xs (t .store) (wordAt (z .l) ws₁ (z .limit)) ws₂ xs₂
+        no-room : NoRoom (sizesOf z (st .axes)) ((st .slots) * (6 * z .l)) ws₁ xs (t .store) (wordAt (z .l) ws₁ (z .limit)) ws₂ xs₂
         no-room =
-            subst (λ (x : Interned). InternedAs (sizesOf z n) (m * (6 * z .l)) ws₁ xs (t .store)
+            subst (λ (x : Interned). InternedAs (sizesOf z (st .axes)) ((st .slots) * (6 * z .l)) ws₁ xs (t .store)
             (wordAt (z .l) ws₁ (z .limit)) x ws₂ xs₂) f meant
 
         pub limit-left : LeftCarried z ws xs ws₂ xs₂
         limit-left = record { words = rw (no-room .kept) (words-kept (word .words)); numbers = no-room .numbers }
 
-        pub carry-limit : CarriedAs z m id t ExpansionLimit ws₂ xs₂
+        pub carry-limit : CarriedAs z st id t ExpansionLimit ws₂ xs₂
         carry-limit = as-refused (rw store-is (no-room .exceeds))
 
       module _ {new : ℕ} (f : r ≡ Id new) where
-        has : HasId (sizesOf z n) (m * (6 * z .l)) ws₁ xs (t .store) (wordAt (z .l) ws₁ (z .limit)) new ws₂ xs₂
+        has : HasId (sizesOf z (st .axes)) ((st .slots) * (6 * z .l)) ws₁ xs (t .store) (wordAt (z .l) ws₁ (z .limit)) new ws₂ xs₂
         has =
-            subst (λ (x : Interned). InternedAs (sizesOf z n) (m * (6 * z .l)) ws₁ xs (t .store)
+            subst (λ (x : Interned). InternedAs (sizesOf z (st .axes)) ((st .slots) * (6 * z .l)) ws₁ xs (t .store)
             (wordAt (z .l) ws₁ (z .limit)) x ws₂ xs₂) f meant
 
-        kept₂ : KeptFrom (z .limit - m * (6 * z .l)) ws₁ ws₂
+        kept₂ : KeptFrom (z .limit - (st .slots) * (6 * z .l)) ws₁ ws₂
         kept₂ = has .kept
 
         pub carry-left : LeftCarried z ws xs ws₂ xs₂
         carry-left = record { words = kept-then (words-kept (word .words)) (kept-later (omega arith) kept₂); numbers = has .numbers }
 
-        image-same : (i : ℕ) → i < 3 * m → imageIn z ws₂ xs₂ i ≡ imageIn z ws₁ xs i
+        image-same : (i : ℕ) → i < 3 * (st .slots) → imageIn z ws₂ xs₂ i ≡ imageIn z ws₁ xs i
         unfolding imageIn member anyOf
         image-same i b =
-            let room : 3 * m * (2 * z .l) ≤ z .limit = omega (arith, now-holds .room) in
+            let room : 3 * (st .slots) * (2 * z .l) ≤ z .limit = omega (arith, now-holds .room) in
             value-eq (ap (λ (s : List ℕ). getD s i 0) (has .numbers .rows fPhase (omega arith) refl))
             (kept-part kept₂ (slotPlace (z .limit) (z .l) i) (2 * z .l)
-            (omega (arith, slot-counted (z .limit) (z .l) (3 * m) room i b))
-            (omega (arith, slot-in (z .limit) (z .l) (3 * m) room i b, long₁)))
+            (omega (arith, slot-counted (z .limit) (z .l) (3 * (st .slots)) room i b))
+            (omega (arith, slot-in (z .limit) (z .l) (3 * (st .slots)) room i b, long₁)))
 
-        next-holds : Holds z (countWith n new) m ws₂ xs₂ (record {
-          store = intern (z .l) (m * (6 * z .l)) (t .store) (wordAt (z .l) ws₁ (z .limit));
+        next-holds : Holds z (countWith (st .axes) new) (st .slots) ws₂ xs₂ (record {
+          store = intern (z .l) ((st .slots) * (6 * z .l)) (t .store) (wordAt (z .l) ws₁ (z .limit));
           held = t .held;
         })
         unfolding member anyOf
@@ -211,24 +214,25 @@ module _ {z : Shape} {n m id : ℕ} {ws xs : List ℕ} {t : Touched} (h : CarryP
           mask = λ q b g. ap (λ (x : ℕ). bit x (q % 64)) (kept₂ .kept _ (omega arith)) ∙ now-holds .mask q b g;
         }
 
-        new-in : new < countWith n new
+        new-in : new < countWith (st .axes) new
         new-in =
-            let k = id-in (z .l) (m * (6 * z .l)) (t .store) (wordAt (z .l) ws₁ (z .limit)) in
-            let old = id-stored (z .l) (m * (6 * z .l)) (t .store) (wordAt (z .l) ws₁ (z .limit)) in
+            let k = id-in (z .l) ((st .slots) * (6 * z .l)) (t .store) (wordAt (z .l) ws₁ (z .limit)) in
+            let old = id-stored (z .l) ((st .slots) * (6 * z .l)) (t .store) (wordAt (z .l) ws₁ (z .limit)) in
             omega (arith, k, old, has .id-is, held-count (has .held))
 
-        pub carry-to : {count : ℕ} → count ≡ countWith n new
-            → CarriedAs z m id t (To (record { id = new; turns = e; axes = count })) ws₂ xs₂
+        pub carry-to : {count : ℕ} {s : State} → count ≡ countWith (st .axes) new → s ≡ withImage count new e st
+            → CarriedAs z st id t (Next s) ws₂ xs₂
         unfolding imageOfAxis
-        carry-to g =
-            as-to (rw g (record {
+        carry-to g with-image =
+            as-to with-image (rw g (record {
               id-is =
-                  has .id-is ∙ sym (id-stored (z .l) (m * (6 * z .l)) (t .store) (wordAt (z .l) ws₁ (z .limit)))
-                  ∙ ap₂ (λ (st : Store) (w : List ℕ). idOf (st .axes) w) (sym store-is) the-word;
+                  has .id-is ∙ sym (id-stored (z .l) ((st .slots) * (6 * z .l)) (t .store) (wordAt (z .l) ws₁ (z .limit)))
+                  ∙ ap₂ (λ (store : Store) (w : List ℕ). idOf (store .axes) w) (sym store-is) the-word;
               id-in = new-in;
               turns-are = unfold scratchValue in (ap (λ (v : Value). v .turns) (word .value));
               small = word .small;
               holds =
-                  subst (λ (st : Store). Holds z (countWith n new) m ws₂ xs₂ (record { store = st; held = t .held }))
+                  subst (λ (store : Store). Holds z (countWith (st .axes) new) (st .slots) ws₂ xs₂ (record { store = store; held = t .held }))
                   (sym store-is) next-holds;
+              same = refl;
             }))

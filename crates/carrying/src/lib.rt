@@ -16,19 +16,8 @@ use axes::Interned;
 use layout::F_PHASE;
 use layout::F_SLOT;
 use layout::Shape;
-
-// An axis's image: the id of its word, its quarter turns, and how many axes there are then.
-pub struct CarriedAxis {
-    pub id: usize,
-    pub turns: u32,
-    pub axes: usize,
-}
-
-// The image, or the limit refuses its word.
-pub enum Carried {
-    To(CarriedAxis),
-    ExpansionLimit,
-}
+use steps::State;
+use steps::Step;
 
 // Whether the word at a place has no letter where the mask has a bit. Only the time of `carry` depends on it.
 fn fixes(words: &[u64], at: usize, mask: usize, l: usize) -> bool
@@ -142,35 +131,25 @@ fn carry_word(words: &mut [u64], numbers: &[u32], shape: Shape, id: usize) -> u3
 }
 
 // The image of axis id: its word's id, stored if it is new, and its quarter turns. The limit is tested with F's images counted.
-pub fn carry(
-    words: &mut [u64],
-    numbers: &mut [u32],
-    shape: Shape,
-    axes: usize,
-    slots: usize,
-    id: usize,
-) -> Carried
-    requires { ⌜ SomeTouched (λ (t : Touched). CarryPre shape axes slots id (now words) (now numbers) t) ⌝ }
+pub fn carry(words: &mut [u64], numbers: &mut [u32], shape: Shape, st: State, id: usize) -> Step
+    requires { ⌜ SomeTouched (λ (t : Touched). CarryPre shape st id (now words) (now numbers) t) ⌝ }
     ensures { λ r. ⌜ LeftCarried shape (now (words .entry)) (now (numbers .entry)) (now (words .exit)) (now (numbers .exit))
-        × ((t : Touched) → CarryPre shape axes slots id (now (words .entry)) (now (numbers .entry)) t
-        → CarriedAs shape slots id t r (now (words .exit)) (now (numbers .exit))) ⌝ }
+        × ((t : Touched) → CarryPre shape st id (now (words .entry)) (now (numbers .entry)) t
+        → CarriedAs shape st id t r (now (words .exit)) (now (numbers .exit))) ⌝ }
 {
     let at = layout::axis_at(shape.l, id);
     let mask = clifford::mask_at(shape.limit, shape.l);
     if fixes(&words[..], at, mask, shape.l) {
-        return Carried::To(CarriedAxis { id, turns: 0, axes });
+        return Step::Next(steps::with_image(st, st.axes, id, 0));
     }
     let turns = carry_word(words, &numbers[..], shape, id);
-    let counted = slots * (6 * shape.l);
+    let counted = st.slots * (6 * shape.l);
     let scratch = layout::scratch_at(shape.limit);
-    let z = axes::sizes_of(shape, axes);
+    let z = axes::sizes_of(shape, st.axes);
     let i = axes::intern(words, numbers, z, counted, scratch);
     let Interned::Id(new) = i else {
-        return Carried::ExpansionLimit;
+        return Step::ExpansionLimit;
     };
-    Carried::To(CarriedAxis {
-        id: new,
-        turns,
-        axes: axes::count_with(axes, new),
-    })
+    let count = axes::count_with(st.axes, new);
+    Step::Next(steps::with_image(st, count, new, turns))
 }

@@ -24,9 +24,10 @@ use Rattle.packing_answer.specs.declared.Packed.the-variants as packs
 use Rattle.packing_answer.specs.Answer.{packedAnswer, packingAnswer}
 use Rattle.packing_answer.specs.Run.{run-refused}
 use Rattle.packing.specs.Packed.{PackedAs}
-use Rattle.points.specs.declared.Run.{Run}
-use Rattle.points.specs.declared.Ended.{Ended}
-use Rattle.points.specs.declared.Ended.the-variants as ended
+use Rattle.steps.specs.declared.State.{State}
+use Rattle.steps.specs.State.{firstState}
+use Rattle.steps.specs.declared.Step.{Step}
+use Rattle.steps.specs.declared.Step.the-variants as steps
 use Rattle.points.specs.Points.{RunAt, SameLong, EndedAs, long-then}
 use Rattle.decision.specs.declared.Started.{Started}
 use Rattle.decision.specs.declared.Decided.{Decided}
@@ -67,15 +68,11 @@ decides-refused {z} {o} {ns} {os} {rs} {a = a} long r = record {
 
 -- ---- the passes
 
--- where they start
-abbrev firstRun : Started → ℕ → Run
-firstRun s n = record { items = s .items; axes = n; merges = 0; swaps = 0; absorbed = 0 }
-
 pub first-run : {z : Shape} {o : Options} {ns os rs : List ℕ} {n : ℕ} {ws xs : List ℕ} {s : Started} {ys : List ℕ}
-    → PackedIn z ns os rs n ws xs → StartedAs z o ns os rs n ws xs s ys
-    → RunAt z 0 (firstRun s n) ws ys (programIn z ns os rs) (startOf (programIn z ns os rs))
+    → PackedIn z ns os rs n ws xs → StartedAs z o ns os rs n ws xs s ys → {first : State} → first ≡ firstState n (s .items)
+    → RunAt z 0 first ws ys (programIn z ns os rs) (startOf (programIn z ns os rs))
 unfolding startOf
-first-run h a = record {
+first-run h a e = rw e (record {
   granted = granted-same (packed-granted h) refl (a .long);
   work = a .work;
   well = start-well h;
@@ -83,7 +80,7 @@ first-run h a = record {
   swaps = refl;
   absorbed = refl;
   few = omega arith;
-}
+})
 
 -- the model's end, from the start
 end-is : (o : Options) (l : ℕ) (p : Program) → l ≡ width (p .qubits)
@@ -92,19 +89,19 @@ unfolding endOf rulesOf
 end-is o l p e = ap (λ (m : ℕ). passes (o .strategy) m (rulesOf o) (o .rounds) (startOf p)) e
 
 module _ (o : Options) {z : Shape} {ns os rs : List ℕ} {n : ℕ} {ws xs : List ℕ} {s : Started} {t : List ℕ}
-    (h : PackedIn z ns os rs n ws xs) (a : StartedAs z o ns os rs n ws xs s t)
-    {e : Ended} {vs ys : List ℕ} (ran : SameLong ws t vs ys × ((p : Program) (w : Work) → RunAt z 0 (firstRun s n) ws t p w
+    (h : PackedIn z ns os rs n ws xs) (a : StartedAs z o ns os rs n ws xs s t) {first : State} (begins : first ≡ firstState n (s .items))
+    {e : Step} {vs ys : List ℕ} (ran : SameLong ws t vs ys × ((p : Program) (w : Work) → RunAt z 0 first ws t p w
     → EndedAs z 511 e vs ys p (passes (o .strategy) (z .l) (rulesOf o) (o .rounds) w))) where
   ended-as : EndedAs z 511 e vs ys (programIn z ns os rs) (endIn z o ns os rs)
   ended-as =
       let p = programIn z ns os rs in
-      subst (EndedAs z 511 e vs ys p) (end-is o (z .l) p (width-is h)) (ran .1 p (startOf p) (first-run h a))
+      subst (EndedAs z 511 e vs ys p) (end-is o (z .l) p (width-is h)) (ran .1 p (startOf p) (first-run h a begins))
 
   long-here : SameLong ws xs vs ys
   long-here = record { words = ran .0 .words; numbers = ran .0 .numbers ∙ a .long }
 
   -- where packing refuses nothing, the run's peak is its end's
-  pub passes-limit : e ≡ ended.ExpansionLimit → DecisionAs z o ns os rs ws xs (Refused answers.ExpansionLimit) vs ys
+  pub passes-limit : e ≡ steps.ExpansionLimit → DecisionAs z o ns os rs ws xs (Refused answers.ExpansionLimit) vs ys
   passes-limit f =
       decides-refused long-here (record {
         answer =
@@ -114,7 +111,7 @@ module _ (o : Options) {z : Shape} {ns os rs : List ℕ} {n : ℕ} {ws xs : List
         other = limit-other;
       })
 
-  pub passes-end : (st : Run) → e ≡ ended.Done st → EndPre z o ns os rs s st vs ys
+  pub passes-end : (st : State) → e ≡ steps.Next st → EndPre z o ns os rs s st vs ys
   passes-end st f = record {
     given = h .pre .given;
     hermitian = packed-hermitian h;
@@ -151,13 +148,14 @@ module _ {z : Shape} {ns os rs ws xs vs ys : List ℕ} {r : Packed} (h : PackedA
   decide-passes k = record { long = long-then (packed-long h) (k .long); done = k .done; refused = k .refused }
 
   -- packing's refusal is the run's
-  refused-as : (o : Options) (a : Answer) → packingAnswer r ≡ a → (a ≡ answers.Accepted → ⊥) → RefusedAs z o ns os rs a
-  refused-as o a e n =
-      let f : packingAnswer (packedAnswer (z .limit) (packed (programIn z ns os rs))) ≡ a = sym (ap packingAnswer (h .answer)) ∙ e in
-      record { answer = run-refused (rulesOf o) (o .rounds) (programIn z ns os rs) (z .limit) (λ g. n (sym f ∙ g)) ∙ f; other = n }
-
-  pub decide-odd : (o : Options) → r ≡ packs.NonHermitianAxis → DecisionAs z o ns os rs ws xs (Refused answers.NonHermitianAxis) vs ys
-  decide-odd o e = decides-refused (packed-long h) (refused-as o answers.NonHermitianAxis (ap packingAnswer e) odd-other)
-
-  pub decide-limit : (o : Options) → r ≡ packs.ExpansionLimit → DecisionAs z o ns os rs ws xs (Refused answers.ExpansionLimit) vs ys
-  decide-limit o e = decides-refused (packed-long h) (refused-as o answers.ExpansionLimit (ap packingAnswer e) limit-other)
+  pub decide-refused : (o : Options) {a : Answer} → a ≡ packingAnswer r → (packingAnswer r ≡ answers.Accepted → ⊥)
+      → DecisionAs z o ns os rs ws xs (Refused a) vs ys
+  decide-refused o {a} e n =
+      let f : packingAnswer (packedAnswer (z .limit) (packed (programIn z ns os rs))) ≡ a = sym (ap packingAnswer (h .answer)) ∙ sym e in
+      decides-refused (packed-long h) (record {
+        answer = run-refused (rulesOf o) (o .rounds) (programIn z ns os rs) (z .limit) (λ g. n (e′ ∙ g)) ∙ f;
+        other = λ g. n (sym e ∙ g);
+      })
+    where
+      e′ : packingAnswer r ≡ packingAnswer (packedAnswer (z .limit) (packed (programIn z ns os rs)))
+      e′ = ap packingAnswer (h .answer)

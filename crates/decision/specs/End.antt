@@ -28,7 +28,7 @@ use Rattle.depth.specs.Contracts.{DepthPre}
 use Rattle.counters.specs.declared.RunCounts.{RunCounts}
 use Rattle.counters.specs.Summary.{SummaryPre, Summed, CountsOf, summary-pre, summary-is}
 use Rattle.run_wellformed.specs.WorkWell as well
-use Rattle.points.specs.declared.Run.{Run}
+use Rattle.steps.specs.declared.State.{State}
 use Rattle.points.specs.Points.{RunAt}
 use Rattle.points.specs.Demands.{depth-pre}
 use Rattle.decision.specs.declared.Started.{Started}
@@ -43,7 +43,7 @@ abbrev pub finishedIn : Shape → Options → List ℕ → List ℕ → List ℕ
 finishedIn z o ns os rs = finishOf (rulesOf o) (o .rounds) (programIn z ns os rs)
 
 -- the passes are done, and the start was counted
-pub record EndPre (z : Shape) (o : Options) (ns os rs : List ℕ) (s : Started) (st : Run) (ws xs : List ℕ) : Type 0 where
+pub record EndPre (z : Shape) (o : Options) (ns os rs : List ℕ) (s : Started) (st : State) (ws xs : List ℕ) : Type 0 where
   pub given : Given z ns os rs
   pub hermitian : packed (programIn z ns os rs) .refused ≡ false
   pub at : RunAt z 511 st ws xs (programIn z ns os rs) (endIn z o ns os rs)
@@ -67,21 +67,21 @@ pub record DecidedAs (z : Shape) (o : Options) (ns os rs ws xs : List ℕ) (d : 
   pub changed : d .changed ≡ not (eqb (endIn z o ns os rs .absorbed) 0)
   pub long : length ys ≡ length xs
 
-module _ {z : Shape} {o : Options} {ns os rs : List ℕ} {s : Started} {st : Run} {ws xs : List ℕ} (h : EndPre z o ns os rs s st ws xs) where
+module _ {z : Shape} {o : Options} {ns os rs : List ℕ} {s : Started} {st : State} {ws xs : List ℕ} (h : EndPre z o ns os rs s st ws xs) where
   abbrev p : Program
   p = programIn z ns os rs
 
-  pub end-depth : DepthPre (sizesOf z (st .axes)) ws xs (st .items)
+  pub end-depth : DepthPre (sizesOf z (st .axes)) ws xs (st .out)
   end-depth = depth-pre (h .at .granted) (h .at .work) (h .at .well)
 
-  module _ {d : ℕ} {ys : List ℕ} (f : DepthAs (sizesOf z (st .axes)) (o .«measure_depth») ws xs (st .items) d ys) where
+  module _ {d : ℕ} {ys : List ℕ} (f : DepthAs (sizesOf z (st .axes)) (o .«measure_depth») ws xs (st .out) d ys) where
     granted : Granted z ws ys
     granted = granted-same (h .at .granted) refl (f .only .long)
 
-    work : WorkIn z (programIn z ns os rs) (endIn z o ns os rs) (st .axes) (st .items) ws ys
+    work : WorkIn z (programIn z ns os rs) (endIn z o ns os rs) (st .axes) (st .out) ws ys
     work = work-kept (h .at .work) (f .only)
 
-    pub end-summary : SummaryPre z os ws ys (st .items)
+    pub end-summary : SummaryPre z os ws ys (st .out)
     end-summary =
         summary-pre (h .given) (finishedIn z o ns os rs) granted work (end-barriers o (h .given) (h .hermitian))
         (well.work-range (h .at .well))
@@ -106,9 +106,9 @@ module _ {z : Shape} {o : Options} {ns os rs : List ℕ} {s : Started} {st : Run
       weight-before = h .weight;
     }
 
-    pub end-done : {c : Counters} → Summed z os ws ys (st .items) counts c
+    pub end-done : {c : Counters} → Summed z os ws ys (st .out) counts c
         → DecidedAs z o ns os rs ws xs
-        (record { items = st .items; axes = st .axes; changed = not (eqb (st .absorbed) 0); counters = c }) ys
+        (record { items = st .out; axes = st .axes; changed = not (eqb (st .absorbed) 0); counters = c }) ys
     end-done m = record {
       given = h .given;
       hermitian = h .hermitian;

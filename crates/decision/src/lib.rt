@@ -13,8 +13,8 @@ use model::Answer;
 use model::Counters;
 use model::Options;
 use packing_answer::Packed;
-use points::Ended;
-use points::Run;
+use steps::Step;
+use steps::State;
 
 // What the passes start from: items, the source's weight, its T-depth.
 pub struct Started {
@@ -91,7 +91,7 @@ fn end_run(
     shape: Shape,
     options: Options,
     started: Started,
-    run: Run,
+    run: State,
 ) -> Decided
     requires { ⌜ EndPre shape options (now nodes) (now operations) (now rows) started run (now words) (now numbers) ⌝ }
     ensures { λ d. ⌜ DecidedAs shape options (now (nodes .entry)) (now (operations .entry)) (now (rows .entry))
@@ -103,7 +103,7 @@ fn end_run(
         shape,
         options.measure_depth,
         run.axes,
-        run.items,
+        run.out,
     );
     let counts = RunCounts {
         merges: run.merges,
@@ -113,9 +113,9 @@ fn end_run(
         depth_after: depth,
         weight_before: started.weight,
     };
-    let counters = counters::summary(operations, words, &numbers[..], shape, run.items, counts);
+    let counters = counters::summary(operations, words, &numbers[..], shape, run.out, counts);
     Decided {
-        items: run.items,
+        items: run.out,
         axes: run.axes,
         changed: run.absorbed != 0,
         counters,
@@ -147,15 +147,9 @@ fn passes(
         options,
         axes,
     );
-    let first = Run {
-        items: s.items,
-        axes,
-        merges: 0,
-        swaps: 0,
-        absorbed: 0,
-    };
+    let first = steps::first_state(axes, s.items);
     let e = rounds::passes(words, numbers, shape, options, first);
-    let Ended::Done(run) = e else {
+    let Step::Next(run) = e else {
         return Decision::Refused(Answer::ExpansionLimit);
     };
     Decision::Done(end_run(
@@ -186,9 +180,8 @@ pub fn decide(
         (now (words .entry)) (now (numbers .entry)) d (now (words .exit)) (now (numbers .exit)) ⌝ }
 {
     let p = packing::pack(nodes, operations, rows, words, numbers, shape);
-    match p {
-        Packed::Axes(n) => passes(nodes, operations, rows, words, numbers, shape, options, n),
-        Packed::NonHermitianAxis => Decision::Refused(Answer::NonHermitianAxis),
-        Packed::ExpansionLimit => Decision::Refused(Answer::ExpansionLimit),
-    }
+    let Packed::Axes(n) = p else {
+        return Decision::Refused(packing_answer::answer(p));
+    };
+    passes(nodes, operations, rows, words, numbers, shape, options, n)
 }

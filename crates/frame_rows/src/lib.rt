@@ -6,15 +6,14 @@ ghost use Rattle.model.specs.Stream.{Pass, carryRowsFrom};
 ghost use Rattle.work.specs.Rows.{rowsIn};
 ghost use Rattle.stream_states.specs.States.{SomePass};
 ghost use Rattle.frame_rows.specs.FrameRows.{LeftR, RowAt, RowAs, RowsAt, RowsAs, rowsEnd, rowsCarried};
-use carrying::Carried;
 use layout::NO_AXIS;
 use layout::Shape;
-use stream_states::State;
-use stream_states::Stepped;
+use steps::State;
+use steps::Step;
 use work::Root;
 
 // Carries the axis of reference j, if it has one.
-fn carry_row(words: &mut [u64], numbers: &mut [u32], shape: Shape, st: State, j: usize) -> Stepped
+fn carry_row(words: &mut [u64], numbers: &mut [u32], shape: Shape, st: State, j: usize) -> Step
     requires { ⌜ SomePass (λ m n p. RowAt shape st j (now words) (now numbers) m n p) ⌝ }
     ensures { λ r. ⌜ LeftR shape (now (words .entry)) (now (numbers .entry)) (now (words .exit)) (now (numbers .exit))
         × ((m : Absorption) (n : ℕ) (p : Pass) → RowAt shape st j (now (words .entry)) (now (numbers .entry)) m n p
@@ -22,23 +21,23 @@ fn carry_row(words: &mut [u64], numbers: &mut [u32], shape: Shape, st: State, j:
 {
     let x = work::root_at(&numbers[..], shape.u, j);
     if x.axis == NO_AXIS {
-        return Stepped::Next(st);
+        return Step::Next(st);
     }
     let a = x.axis as usize;
-    let c = carrying::carry(words, numbers, shape, st.axes, st.slots, a);
-    let Carried::To(to) = c else {
-        return Stepped::ExpansionLimit;
+    let c = carrying::carry(words, numbers, shape, st, a);
+    let Step::Next(to) = c else {
+        return Step::ExpansionLimit;
     };
     let moved = Root {
         axis: to.id as u32,
         sign: (to.turns + x.sign) % 4,
     };
     work::put_root(numbers, shape.u, j, moved);
-    Stepped::Next(stream_states::with_axes(st, to.axes))
+    Step::Next(to)
 }
 
 // Carries all frame rows that are roots.
-fn carry_rows(words: &mut [u64], numbers: &mut [u32], shape: Shape, first: State) -> Stepped
+fn carry_rows(words: &mut [u64], numbers: &mut [u32], shape: Shape, first: State) -> Step
     requires { ⌜ SomePass (λ m n p. RowsAt shape first (now words) (now numbers) m n p) ⌝ }
     ensures { λ r. ⌜ LeftR shape (now (words .entry)) (now (numbers .entry)) (now (words .exit)) (now (numbers .exit))
         × ((m : Absorption) (n : ℕ) (p : Pass) → RowsAt shape first (now (words .entry)) (now (numbers .entry)) m n p
@@ -51,15 +50,15 @@ fn carry_rows(words: &mut [u64], numbers: &mut [u32], shape: Shape, first: State
     for j in shape.operations..end {
         let t = carry_row(words, numbers, shape, st, j);
         match t {
-            Stepped::Next(s) => st = s,
-            Stepped::ExpansionLimit => return Stepped::ExpansionLimit,
+            Step::Next(s) => st = s,
+            Step::ExpansionLimit => return Step::ExpansionLimit,
         }
     }
-    Stepped::Next(st)
+    Step::Next(st)
 }
 
 // Carries the frame rows if anything was absorbed.
-pub fn carry_frame(words: &mut [u64], numbers: &mut [u32], shape: Shape, st: State) -> Stepped
+pub fn carry_frame(words: &mut [u64], numbers: &mut [u32], shape: Shape, st: State) -> Step
     requires { ⌜ SomePass (λ m n p. RowsAt shape st (now words) (now numbers) m n p) ⌝ }
     ensures { λ r. ⌜ LeftR shape (now (words .entry)) (now (numbers .entry)) (now (words .exit)) (now (numbers .exit))
         × ((m : Absorption) (n : ℕ) (p : Pass) → RowsAt shape st (now (words .entry)) (now (numbers .entry)) m n p
@@ -67,7 +66,7 @@ pub fn carry_frame(words: &mut [u64], numbers: &mut [u32], shape: Shape, st: Sta
         (rowsCarried shape (now (numbers .entry)) p)) ⌝ }
 {
     if st.absorbed == 0 {
-        return Stepped::Next(st);
+        return Step::Next(st);
     }
     carry_rows(words, numbers, shape, st)
 }

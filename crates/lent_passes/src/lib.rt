@@ -12,33 +12,33 @@ use exchange::Rules;
 use layering::Layering;
 use layout::Shape;
 use model::Counters;
-use stream_states::Stepped;
+use steps::Step;
 use stream_states::StreamRules;
 
 // How a stream ends, and what it counted: 0 where it is refused.
 pub struct Counted {
-    pub outcome: Stepped,
+    pub outcome: Step,
     pub merges: usize,
     pub absorbed: usize,
 }
 
 // 01's `merges` of one stream.
-fn merges_of(t: Stepped) -> usize
+fn merges_of(t: Step) -> usize
     ensures { λ r. ⌜ r ≡ mergesOf t ⌝ }
 {
     match t {
-        Stepped::Next(s) => s.merges,
-        Stepped::ExpansionLimit => 0,
+        Step::Next(s) => s.merges,
+        Step::ExpansionLimit => 0,
     }
 }
 
 // 01's `cliffords_to_frame` of one stream.
-fn absorbed_of(t: Stepped) -> usize
+fn absorbed_of(t: Step) -> usize
     ensures { λ r. ⌜ r ≡ absorbedOf t ⌝ }
 {
     match t {
-        Stepped::Next(s) => s.absorbed,
-        Stepped::ExpansionLimit => 0,
+        Step::Next(s) => s.absorbed,
+        Step::ExpansionLimit => 0,
     }
 }
 
@@ -66,7 +66,7 @@ fn stream_counted(
 }
 
 // What the stream counted is added, and how it ended is given.
-fn add_counted(stats: &mut Counters, r: Counted) -> Stepped
+fn add_counted(stats: &mut Counters, r: Counted) -> Step
     requires { ⌜ (now stats .merges + r .merges < 2 ^ 64) × (now stats .«cliffords_to_frame» + r .absorbed < 2 ^ 64) ⌝ }
     ensures { λ t. ⌜ (now (stats .exit) ≡ raised (now (stats .entry)) (r .merges) (r .absorbed)) × (t ≡ r .outcome) ⌝ }
 {
@@ -84,7 +84,7 @@ pub fn stream_pass(
     items: usize,
     axes: usize,
     stats: &mut Counters,
-) -> Stepped
+) -> Step
     requires { ⌜ SomeWork (λ prog w g. PassAtWork shape rules prog w axes items (now words) (now numbers) g) × Room (now stats) ⌝ }
     ensures { λ r. ⌜ StreamedAs shape rules items axes (now (words .entry)) (now (numbers .entry)) (now (stats .entry)) r
         (now (words .exit)) (now (numbers .exit)) (now (stats .exit)) ⌝ }

@@ -11,9 +11,9 @@ use Rattle.model.specs.Program.{Program}
 use Rattle.model.specs.Rules.{rulesOf}
 use Rattle.model.specs.Rounds.{Work, streamPass, layeringPass}
 use Rattle.layout.specs.declared.Shape.{Shape}
-use Rattle.points.specs.declared.Run.{Run}
-use Rattle.points.specs.declared.Ended.{Ended}
-use Rattle.points.specs.declared.Ended.the-variants.{Done, ExpansionLimit}
+use Rattle.steps.specs.declared.State.{State}
+use Rattle.steps.specs.declared.Step.{Step}
+use Rattle.steps.specs.declared.Step.the-variants.{Next, ExpansionLimit}
 use Rattle.points.specs.Points.{RunAt, SameLong, EndedAs, later}
 use Rattle.litinski.specs.declared.Round.{Round}
 use Rattle.litinski.specs.declared.Round.the-variants as round
@@ -32,17 +32,17 @@ nothingMerged z w = eqb (layeringPass (z .l) w .merges) (w .merges)
 
 -- what a round's answer means: w before it
 pub record RoundAs (z : Shape) (i : ℕ) (o : Options) (r : Round) (ws xs : List ℕ) (p : Program) (w : Work) : Type 0 where
-  pub again : (s : Run) → r ≡ round.Again s → RunAt z i s ws xs p (streamOf z o (layersOf z w)) × (nothingMerged z w ≡ false)
-  pub stop : (s : Run) → r ≡ round.Stop s → RunAt z i s ws xs p (layersOf z w) × (nothingMerged z w ≡ true)
+  pub again : (s : State) → r ≡ round.Again s → RunAt z i s ws xs p (streamOf z o (layersOf z w)) × (nothingMerged z w ≡ false)
+  pub stop : (s : State) → r ≡ round.Stop s → RunAt z i s ws xs p (layersOf z w) × (nothingMerged z w ≡ true)
   pub refused : r ≡ round.ExpansionLimit → (z .limit < streamOf z o (layersOf z w) .store .peak) × (nothingMerged z w ≡ false)
 
 -- what a round promises
-abbrev pub RoundCall : Shape → Options → Run → List ℕ → List ℕ → Round → List ℕ → List ℕ → Type 0
+abbrev pub RoundCall : Shape → Options → State → List ℕ → List ℕ → Round → List ℕ → List ℕ → Type 0
 RoundCall z o st ws xs r ws′ xs′ =
     SameLong ws xs ws′ xs′
     × ((i : ℕ) (p : Program) (w : Work) → RunAt z i st ws xs p w → RoundAs z (i + 2) o r ws′ xs′ p w)
 
-module _ (o : Options) {z : Shape} {i : ℕ} {st s : Run} {ws₀ xs₀ ws xs : List ℕ} {p : Program} {w : Work}
+module _ (o : Options) {z : Shape} {i : ℕ} {st s : State} {ws₀ xs₀ ws xs : List ℕ} {p : Program} {w : Work}
     (b : RunAt z i st ws₀ xs₀ p w) (h : RunAt z (i + 1) s ws xs p (layersOf z w)) where
   test-is : eqb (s .merges) (st .merges) ≡ nothingMerged z w
   unfolding nothingMerged
@@ -53,13 +53,13 @@ module _ (o : Options) {z : Shape} {i : ℕ} {st s : Run} {ws₀ xs₀ ws xs : L
     again = λ x f. let c : _≡_ {A = ℕ} 0 1 = cc in absurd (omega arith);
     stop = λ x f.
         let c : s ≡ x = cc in (
-          subst (λ (y : Run). RunAt z (i + 2) y ws xs p (layersOf z w)) c (later (omega arith) h),
+          subst (λ (y : State). RunAt z (i + 2) y ws xs p (layersOf z w)) c (later (omega arith) h),
           sym test-is ∙ eq-eqb (s .merges) (st .merges) e,
         );
     refused = λ f. let c : _≡_ {A = ℕ} 0 1 = cc in absurd (omega arith);
   }
 
-  module _ (n : s .merges ≡ st .merges → ⊥) {r : Ended} {ws₁ xs₁ : List ℕ}
+  module _ (n : s .merges ≡ st .merges → ⊥) {r : Step} {ws₁ xs₁ : List ℕ}
       (call : EndedAs z (i + 1 + 1) r ws₁ xs₁ p (streamOf z o (layersOf z w))) where
     goes-on : nothingMerged z w ≡ false
     goes-on = sym test-is ∙ ne-eqb (s .merges) (st .merges) n
@@ -71,11 +71,11 @@ module _ (o : Options) {z : Shape} {i : ℕ} {st s : Run} {ws₀ xs₀ ws xs : L
       refused = λ f. (call .refused e, goes-on);
     }
 
-    pub round-again : (q : Run) → r ≡ Done q → RoundAs z (i + 2) o (round.Again q) ws₁ xs₁ p w
+    pub round-again : (q : State) → r ≡ Next q → RoundAs z (i + 2) o (round.Again q) ws₁ xs₁ p w
     round-again q e = record {
       again = λ x f.
           let c : q ≡ x = cc in (
-            subst (λ (y : Run). RunAt z (i + 2) y ws₁ xs₁ p (streamOf z o (layersOf z w))) c (later (omega arith) (call .done q e)),
+            subst (λ (y : State). RunAt z (i + 2) y ws₁ xs₁ p (streamOf z o (layersOf z w))) c (later (omega arith) (call .done q e)),
             goes-on,
           );
       stop = λ x f. let c : _≡_ {A = ℕ} 0 1 = cc in absurd (omega arith);

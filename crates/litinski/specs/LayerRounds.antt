@@ -13,9 +13,9 @@ use Rattle.model.specs.Rounds.{Work, litinskiFrom, litinskiRounds}
 use Rattle.theory.specs.Cases.{if-true, if-false}
 use Rattle.theory.specs.Peak.{litinskiFrom-rises}
 use Rattle.layout.specs.declared.Shape.{Shape}
-use Rattle.points.specs.declared.Run.{Run}
-use Rattle.points.specs.declared.Ended.{Ended}
-use Rattle.points.specs.declared.Ended.the-variants.{Done, ExpansionLimit}
+use Rattle.steps.specs.declared.State.{State}
+use Rattle.steps.specs.declared.Step.{Step}
+use Rattle.steps.specs.declared.Step.the-variants.{Next, ExpansionLimit}
 use Rattle.points.specs.Points.{RunAt, SomeRun, OptionsIn, SameLong, long-same, long-then, EndedAs, later, ended-at, ended-limit}
 use Rattle.litinski.specs.declared.Round.{Round}
 use Rattle.litinski.specs.declared.Round.the-variants as round
@@ -28,17 +28,17 @@ roundsOf z o k w = litinskiFrom (z .l) (rulesOf o) k w
 -- ---- after j rounds
 
 -- memory holds some work, from which the rounds that are left make what all make of w
-pub record RoundsNow (z : Shape) (o : Options) (ws xs : List ℕ) (st : Run) (j : ℕ) (p : Program) (w : Work) : Type 0 where
+pub record RoundsNow (z : Shape) (o : Options) (ws xs : List ℕ) (st : State) (j : ℕ) (p : Program) (w : Work) : Type 0 where
   pub now : Work
   pub same : roundsOf z o (o .rounds) w ≡ roundsOf z o (o .rounds - j) now
   pub at : RunAt z (1 + 2 * j) st ws xs p now
 
-pub record RoundsDone (z : Shape) (o : Options) (st₀ : Run) (ws₀ xs₀ ws xs : List ℕ) (st : Run) (j : ℕ) : Type 0 where
+pub record RoundsDone (z : Shape) (o : Options) (st₀ : State) (ws₀ xs₀ ws xs : List ℕ) (st : State) (j : ℕ) : Type 0 where
   pub index : j ≤ o .rounds
   pub long : SameLong ws₀ xs₀ ws xs
   pub at : (p : Program) (w : Work) → RunAt z 1 st₀ ws₀ xs₀ p w → RoundsNow z o ws xs st j p w
 
-pub rounds-first : (z : Shape) (o : Options) (st : Run) (ws xs : List ℕ) → RoundsDone z o st ws xs ws xs st 0
+pub rounds-first : (z : Shape) (o : Options) (st : State) (ws xs : List ℕ) → RoundsDone z o st ws xs ws xs st 0
 rounds-first z o st ws xs = record {
   index = omega arith;
   long = long-same ws xs;
@@ -58,7 +58,7 @@ one-more z o k w b e =
     ap (λ (n : ℕ). roundsOf z o n w) (let f : k + 1 ≡ suc k = omega arith in f)
     ∙ ap (λ (x : Bool). if x then layersOf z w else roundsOf z o k (streamOf z o (layersOf z w))) e
 
-module _ {z : Shape} {o : Options} {st₀ : Run} {ws₀ xs₀ ws xs : List ℕ} {st : Run} {j : ℕ}
+module _ {z : Shape} {o : Options} {st₀ : State} {ws₀ xs₀ ws xs : List ℕ} {st : State} {j : ℕ}
     (b : RoundsDone z o st₀ ws₀ xs₀ ws xs st j) (more : j < o .rounds) where
   pub rounds-some : SomeRun z 1 st₀ ws₀ xs₀ → OptionsIn o → SomeRun z 510 st ws xs
   rounds-some f k =
@@ -96,22 +96,22 @@ module _ {z : Shape} {o : Options} {st₀ : Run} {ws₀ xs₀ ws xs : List ℕ} 
           ended-limit (subst (λ (v : Work). z .limit < v .store .peak) (sym (rest-on (a .1)))
           (lt-of-lt-of-le (a .0) (litinskiFrom-rises (z .l) (rulesOf o) (o .rounds - (j + 1)) _)))
 
-      pub rounds-stop : OptionsIn o → (s : Run) → r ≡ round.Stop s → EndedAs z 511 (Done s) ws′ xs′ p (roundsOf z o (o .rounds) w)
+      pub rounds-stop : OptionsIn o → (s : State) → r ≡ round.Stop s → EndedAs z 511 (Next s) ws′ xs′ p (roundsOf z o (o .rounds) w)
       rounds-stop k s e =
           let a = step .stop s e in
           ended-at (omega (arith, k .rounds)) (subst (RunAt z (1 + 2 * j + 2) s ws′ xs′ p) (sym (rest-last (a .1))) (a .0))
 
-      rounds-now : (s : Run) → r ≡ round.Again s → RoundsNow z o ws′ xs′ s (j + 1) p w
+      rounds-now : (s : State) → r ≡ round.Again s → RoundsNow z o ws′ xs′ s (j + 1) p w
       rounds-now s e =
           let a = step .again s e in
           record { now = streamOf z o (layersOf z (here .now)); same = rest-on (a .1); at = later (omega arith) (a .0) }
 
-    pub rounds-next : (s : Run) → r ≡ round.Again s → RoundsDone z o st₀ ws₀ xs₀ ws′ xs′ s (j + 1)
+    pub rounds-next : (s : State) → r ≡ round.Again s → RoundsDone z o st₀ ws₀ xs₀ ws′ xs′ s (j + 1)
     rounds-next s e = record { index = omega arith; long = rounds-long; at = λ p w h. rounds-now h s e }
 
-pub rounds-end : {z : Shape} {o : Options} {st₀ : Run} {ws₀ xs₀ ws xs : List ℕ} {st : Run} {j : ℕ}
+pub rounds-end : {z : Shape} {o : Options} {st₀ : State} {ws₀ xs₀ ws xs : List ℕ} {st : State} {j : ℕ}
     → RoundsDone z o st₀ ws₀ xs₀ ws xs st j → o .rounds ≤ j → OptionsIn o
-    → (p : Program) (w : Work) → RunAt z 1 st₀ ws₀ xs₀ p w → EndedAs z 511 (Done st) ws xs p (roundsOf z o (o .rounds) w)
+    → (p : Program) (w : Work) → RunAt z 1 st₀ ws₀ xs₀ p w → EndedAs z 511 (Next st) ws xs p (roundsOf z o (o .rounds) w)
 unfolding litinskiFrom
 rounds-end {z} {o} {ws = ws} {xs = xs} {st = st} {j = j} b e k p w h =
     let n = b .at p w h in
@@ -122,8 +122,8 @@ rounds-end {z} {o} {ws = ws} {xs = xs} {st = st} {j = j} b e k p w h =
 -- ---- the strategy
 
 -- "Rounds 0 does nothing."
-pub litinski-zero : (o : Options) {z : Shape} {st : Run} {ws xs : List ℕ} {p : Program} {w : Work} → RunAt z 0 st ws xs p w
-    → o .rounds ≡ 0 → EndedAs z 511 (Done st) ws xs p (litinskiRounds (z .l) (rulesOf o) (o .rounds) w)
+pub litinski-zero : (o : Options) {z : Shape} {st : State} {ws xs : List ℕ} {p : Program} {w : Work} → RunAt z 0 st ws xs p w
+    → o .rounds ≡ 0 → EndedAs z 511 (Next st) ws xs p (litinskiRounds (z .l) (rulesOf o) (o .rounds) w)
 unfolding litinskiRounds
 litinski-zero o {z} {st} {ws} {xs} {p} {w} r e =
     ended-at (omega arith) (subst (RunAt z 0 st ws xs p) (sym (ap (λ (k : ℕ). litinskiRounds (z .l) (rulesOf o) k w) e)) r)
@@ -136,16 +136,16 @@ after-stream z o w n =
     let f : o .rounds ≡ suc (o .rounds - 1) = omega (arith, n) in
     ap (λ (k : ℕ). litinskiRounds (z .l) (rulesOf o) k w) f ∙ ap (λ (k : ℕ). roundsOf z o k (streamOf z o w)) (sym f)
 
-module _ (o : Options) (w : Work) (n : o .rounds ≡ 0 → ⊥) {z : Shape} {r : Ended} {ws xs : List ℕ} {p : Program}
+module _ (o : Options) (w : Work) (n : o .rounds ≡ 0 → ⊥) {z : Shape} {r : Step} {ws xs : List ℕ} {p : Program}
     (h : EndedAs z (0 + 1) r ws xs p (streamOf z o w)) where
   pub litinski-limit : r ≡ ExpansionLimit → EndedAs z 511 ExpansionLimit ws xs p (litinskiRounds (z .l) (rulesOf o) (o .rounds) w)
   litinski-limit e =
       ended-limit (subst (λ (v : Work). z .limit < v .store .peak) (sym (after-stream z o w n))
       (lt-of-lt-of-le (h .refused e) (litinskiFrom-rises (z .l) (rulesOf o) (o .rounds) _)))
 
-  pub litinski-some : (s : Run) → r ≡ Done s → SomeRun z 1 s ws xs
+  pub litinski-some : (s : State) → r ≡ Next s → SomeRun z 1 s ws xs
   litinski-some s e = record { p = p; w = _; at = h .done s e }
 
-  pub litinski-end : {q : Ended} {ws′ xs′ : List ℕ} → EndedAs z 511 q ws′ xs′ p (roundsOf z o (o .rounds) (streamOf z o w))
+  pub litinski-end : {q : Step} {ws′ xs′ : List ℕ} → EndedAs z 511 q ws′ xs′ p (roundsOf z o (o .rounds) (streamOf z o w))
       → EndedAs z 511 q ws′ xs′ p (litinskiRounds (z .l) (rulesOf o) (o .rounds) w)
   litinski-end {q} {ws′} {xs′} k = subst (EndedAs z 511 q ws′ xs′ p) (sym (after-stream z o w n)) k

@@ -7,13 +7,13 @@ ghost use Rattle.points.specs.Points.{SomeRun, OptionsIn, SameLong, RunAt, Ende
 ghost use Rattle.litinski.specs.LayerRound.{RoundAs};
 use layout::Shape;
 use model::Options;
-use points::Ended;
-use points::Run;
+use steps::Step;
+use steps::State;
 
 // How a round ends: streamed; as the last; refused by the limit.
 pub enum Round {
-    Again(Run),
-    Stop(Run),
+    Again(State),
+    Stop(State),
     ExpansionLimit,
 }
 
@@ -23,7 +23,7 @@ fn layer_round(
     numbers: &mut [u32],
     shape: Shape,
     options: Options,
-    run: Run,
+    run: State,
 ) -> Round
     requires { ⌜ SomeRun shape 510 run (now words) (now numbers) × OptionsIn options ⌝ }
     ensures { λ r. ⌜ SameLong (now (words .entry)) (now (numbers .entry)) (now (words .exit)) (now (numbers .exit))
@@ -35,7 +35,7 @@ fn layer_round(
         return Round::Stop(s);
     }
     let e = points::stream_pass(words, numbers, shape, options, false, s);
-    let Ended::Done(next) = e else {
+    let Step::Next(next) = e else {
         return Round::ExpansionLimit;
     };
     Round::Again(next)
@@ -47,8 +47,8 @@ fn litinski_from(
     numbers: &mut [u32],
     shape: Shape,
     options: Options,
-    first: Run,
-) -> Ended
+    first: State,
+) -> Step
     requires { ⌜ SomeRun shape 1 first (now words) (now numbers) × OptionsIn options ⌝ }
     ensures { λ r. ⌜ SameLong (now (words .entry)) (now (numbers .entry)) (now (words .exit)) (now (numbers .exit))
         × ((p : Program) (w : Work) → RunAt shape 1 first (now (words .entry)) (now (numbers .entry)) p w
@@ -60,11 +60,11 @@ fn litinski_from(
         let r = layer_round(words, numbers, shape, options, run);
         match r {
             Round::Again(s) => run = s,
-            Round::Stop(s) => return Ended::Done(s),
-            Round::ExpansionLimit => return Ended::ExpansionLimit,
+            Round::Stop(s) => return Step::Next(s),
+            Round::ExpansionLimit => return Step::ExpansionLimit,
         }
     }
-    Ended::Done(run)
+    Step::Next(run)
 }
 
 // Litinski's strategy.
@@ -73,8 +73,8 @@ pub fn litinski_rounds(
     numbers: &mut [u32],
     shape: Shape,
     options: Options,
-    first: Run,
-) -> Ended
+    first: State,
+) -> Step
     requires { ⌜ SomeRun shape 0 first (now words) (now numbers) × OptionsIn options ⌝ }
     ensures { λ r. ⌜ SameLong (now (words .entry)) (now (numbers .entry)) (now (words .exit)) (now (numbers .exit))
         × ((p : Program) (w : Work) → RunAt shape 0 first (now (words .entry)) (now (numbers .entry)) p w
@@ -82,11 +82,11 @@ pub fn litinski_rounds(
         (litinskiRounds (shape .l) (rulesOf options) (options .rounds) w)) ⌝ }
 {
     if options.rounds == 0 {
-        return Ended::Done(first);
+        return Step::Next(first);
     }
     let e = points::stream_pass(words, numbers, shape, options, false, first);
-    let Ended::Done(run) = e else {
-        return Ended::ExpansionLimit;
+    let Step::Next(run) = e else {
+        return Step::ExpansionLimit;
     };
     litinski_from(words, numbers, shape, options, run)
 }

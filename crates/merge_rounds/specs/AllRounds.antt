@@ -16,8 +16,8 @@ use Rattle.model.specs.Items.{Item, tCount}
 use Rattle.model.specs.Rounds.{Work, RoundBefore, noRound, tCountWas, notLower, goesOn, roundsFrom}
 use Rattle.theory.specs.Peak.{roundsFrom-rises}
 use Rattle.layout.specs.declared.Shape.{Shape}
-use Rattle.points.specs.declared.Run.{Run}
-use Rattle.points.specs.declared.Ended.the-variants.{Done, ExpansionLimit}
+use Rattle.steps.specs.declared.State.{State}
+use Rattle.steps.specs.declared.Step.the-variants.{Next, ExpansionLimit}
 use Rattle.points.specs.Demands.{items-count}
 use Rattle.points.specs.Points.{RunAt, SomeRun, OptionsIn, SameLong, long-same, long-then, EndedAs, later, ended-at, ended-limit}
 use Rattle.merge_rounds.specs.declared.Round.{Round}
@@ -51,19 +51,19 @@ count-few (x ∷ is) = omega (arith, count-few is)
 -- ---- after j rounds
 
 -- memory holds some work, from which the rounds that are left make what all make of w
-pub record RoundsNow (z : Shape) (o : Options) (ws xs : List ℕ) (st : Run) (t j : ℕ) (p : Program) (w : Work) : Type 0 where
+pub record RoundsNow (z : Shape) (o : Options) (ws xs : List ℕ) (st : State) (t j : ℕ) (p : Program) (w : Work) : Type 0 where
   pub now : Work
   pub before : RoundBefore
   pub same : allRounds z o w ≡ roundsOf z o (o .rounds - j) true before now
   pub at : RunAt z (2 * j) st ws xs p now
   pub compares : ComparesAs z before t
 
-pub record RoundsDone (z : Shape) (o : Options) (st₀ : Run) (ws₀ xs₀ ws xs : List ℕ) (st : Run) (t j : ℕ) : Type 0 where
+pub record RoundsDone (z : Shape) (o : Options) (st₀ : State) (ws₀ xs₀ ws xs : List ℕ) (st : State) (t j : ℕ) : Type 0 where
   pub index : j ≤ o .rounds
   pub long : SameLong ws₀ xs₀ ws xs
   pub at : (p : Program) (w : Work) → RunAt z 0 st₀ ws₀ xs₀ p w → RoundsNow z o ws xs st t j p w
 
-pub rounds-first : (z : Shape) (o : Options) (st : Run) (ws xs : List ℕ) → RoundsDone z o st ws xs ws xs st (z .operations + 1) 0
+pub rounds-first : (z : Shape) (o : Options) (st : State) (ws xs : List ℕ) → RoundsDone z o st ws xs ws xs st (z .operations + 1) 0
 rounds-first z o st ws xs = record {
   index = omega arith;
   long = long-same ws xs;
@@ -89,7 +89,7 @@ one-more : (z : Shape) (o : Options) (k : ℕ) (b : RoundBefore) (w : Work)
 unfolding roundsFrom
 one-more z o k b w = ap (λ (n : ℕ). roundsOf z o n true b w) (let e : k + 1 ≡ suc k = omega arith in e)
 
-module _ {z : Shape} {o : Options} {st₀ : Run} {ws₀ xs₀ ws xs : List ℕ} {st : Run} {t j : ℕ}
+module _ {z : Shape} {o : Options} {st₀ : State} {ws₀ xs₀ ws xs : List ℕ} {st : State} {t j : ℕ}
     (b : RoundsDone z o st₀ ws₀ xs₀ ws xs st t j) (more : j < o .rounds) where
   pub rounds-some : SomeRun z 0 st₀ ws₀ xs₀ → OptionsIn o → SomeRun z 510 st ws xs
   rounds-some f k =
@@ -122,7 +122,7 @@ module _ {z : Shape} {o : Options} {st₀ : Run} {ws₀ xs₀ ws xs : List ℕ} 
           (let e : o .rounds - j ≡ (o .rounds - (j + 1)) + 1 = omega arith in e)
           ∙ one-more z o (o .rounds - (j + 1)) (here .before) (here .now)
 
-      goes : {s : Run} → RunAt z (2 * j + 2) s ws′ xs′ p (roundOf z o (here .now))
+      goes : {s : State} → RunAt z (2 * j + 2) s ws′ xs′ p (roundOf z o (here .now))
           → goesOn (here .before) (here .now) (roundOf z o (here .now)) ≡ not (isLast t (here .now) (roundOf z o (here .now)))
       unfolding goesOn isLast
       goes a =
@@ -135,7 +135,7 @@ module _ {z : Shape} {o : Options} {st₀ : Run} {ws₀ xs₀ ws xs : List ℕ} 
           ended-limit (subst (λ (v : Work). z .limit < v .store .peak) (sym rest)
           (lt-of-lt-of-le (step .refused e) (roundsFrom-rises (z .l) (rulesOf o) (o .rounds - (j + 1)) _ _ next)))
 
-      pub rounds-stop : OptionsIn o → (s : Run) → r ≡ round.Stop s → EndedAs z 510 (Done s) ws′ xs′ p (allRounds z o w)
+      pub rounds-stop : OptionsIn o → (s : State) → r ≡ round.Stop s → EndedAs z 510 (Next s) ws′ xs′ p (allRounds z o w)
       rounds-stop k s e =
           let a = step .stop s e in
           let last : allRounds z o w ≡ next =
@@ -144,7 +144,7 @@ module _ {z : Shape} {o : Options} {st₀ : Run} {ws₀ xs₀ ws xs : List ℕ} 
           ∙ stopped (z .l) (rulesOf o) (o .rounds - (j + 1)) left next in
           ended-at (omega (arith, k .rounds)) (subst (RunAt z (2 * j + 2) s ws′ xs′ p) (sym last) (a .0))
 
-      rounds-now : (s : Run) (m : ℕ) → r ≡ round.Again s m → RoundsNow z o ws′ xs′ s m (j + 1) p w
+      rounds-now : (s : State) (m : ℕ) → r ≡ round.Again s m → RoundsNow z o ws′ xs′ s m (j + 1) p w
       rounds-now s m e =
           let a = step .again s m e in
           record {
@@ -155,12 +155,12 @@ module _ {z : Shape} {o : Options} {st₀ : Run} {ws₀ xs₀ ws xs : List ℕ} 
             compares = λ n f. ap (λ (x : ℕ). leb x n) (sym (a .1));
           }
 
-    pub rounds-next : (s : Run) (m : ℕ) → r ≡ round.Again s m → RoundsDone z o st₀ ws₀ xs₀ ws′ xs′ s m (j + 1)
+    pub rounds-next : (s : State) (m : ℕ) → r ≡ round.Again s m → RoundsDone z o st₀ ws₀ xs₀ ws′ xs′ s m (j + 1)
     rounds-next s m e = record { index = omega arith; long = rounds-long; at = λ p w h. rounds-now h s m e }
 
-pub rounds-end : {z : Shape} {o : Options} {st₀ : Run} {ws₀ xs₀ ws xs : List ℕ} {st : Run} {t j : ℕ}
+pub rounds-end : {z : Shape} {o : Options} {st₀ : State} {ws₀ xs₀ ws xs : List ℕ} {st : State} {t j : ℕ}
     → RoundsDone z o st₀ ws₀ xs₀ ws xs st t j → o .rounds ≤ j → OptionsIn o
-    → (p : Program) (w : Work) → RunAt z 0 st₀ ws₀ xs₀ p w → EndedAs z 510 (Done st) ws xs p (allRounds z o w)
+    → (p : Program) (w : Work) → RunAt z 0 st₀ ws₀ xs₀ p w → EndedAs z 510 (Next st) ws xs p (allRounds z o w)
 unfolding roundsFrom
 rounds-end {z} {o} {ws = ws} {xs = xs} {st = st} {j = j} b e k p w h =
     let n = b .at p w h in

@@ -17,9 +17,9 @@ use Rattle.theory.specs.Peak.{closingStream-rises}
 use Rattle.layout.specs.declared.Shape.{Shape}
 use Rattle.layout.specs.Rows.{itemsRow}
 use Rattle.items.specs.View.{itemsIn}
-use Rattle.points.specs.declared.Run.{Run}
-use Rattle.points.specs.declared.Ended.{Ended}
-use Rattle.points.specs.declared.Ended.the-variants.{Done, ExpansionLimit}
+use Rattle.steps.specs.declared.State.{State}
+use Rattle.steps.specs.declared.Step.{Step}
+use Rattle.steps.specs.declared.Step.the-variants.{Next, ExpansionLimit}
 use Rattle.points.specs.Points.{RunAt, SomeRun, EndedAs, later, ended-at, ended-limit}
 use Rattle.merge_rounds.specs.OneRound.{streamOf, items-are}
 use Rattle.merge_rounds.specs.AllRounds.{allRounds}
@@ -49,48 +49,48 @@ closing-by z o w b n e =
     ap (λ (k : ℕ). closingStream (z .l) (rulesOf o) k w) (let f : o .rounds ≡ suc (o .rounds - 1) = omega (arith, n) in f)
     ∙ ap (λ (x : Bool). if x then streamOf z o w else w) e
 
-module _ (o : Options) {z : Shape} {i : ℕ} {st : Run} {ws xs : List ℕ} {p : Program} {w : Work} (r : RunAt z i st ws xs p w) where
+module _ (o : Options) {z : Shape} {i : ℕ} {st : State} {ws xs : List ℕ} {p : Program} {w : Work} (r : RunAt z i st ws xs p w) where
   -- no stream
-  stays : closed z o w ≡ w → EndedAs z (i + 1) (Done st) ws xs p (closed z o w)
+  stays : closed z o w ≡ w → EndedAs z (i + 1) (Next st) ws xs p (closed z o w)
   stays e = ended-at (omega arith) (subst (RunAt z i st ws xs p) (sym e) r)
 
-  pub closing-zero : o .rounds ≡ 0 → EndedAs z (i + 1) (Done st) ws xs p (closed z o w)
+  pub closing-zero : o .rounds ≡ 0 → EndedAs z (i + 1) (Next st) ws xs p (closed z o w)
   unfolding closingStream
   closing-zero e = stays (ap (λ (k : ℕ). closingStream (z .l) (rulesOf o) k w) e)
 
   module _ (n : o .rounds ≡ 0 → ⊥) where
-    pub closing-off : not (o .«clifford_to_frame») ≡ true → EndedAs z (i + 1) (Done st) ws xs p (closed z o w)
+    pub closing-off : not (o .«clifford_to_frame») ≡ true → EndedAs z (i + 1) (Next st) ws xs p (closed z o w)
     closing-off e =
         stays (closing-by z o w false n (ap (λ (x : Bool). x && anyOf isEvenRotation (w .items)) (off-frame o (not-true _ e)))
         ∙ if-false _ _ refl)
 
     module _ {b : Bool} (e : not (o .«clifford_to_frame») ≡ false)
-        (f : b ≡ anyOf isEvenRotation (itemsIn xs (z .u) itemsRow 0 (st .items - 0))) where
+        (f : b ≡ anyOf isEvenRotation (itemsIn xs (z .u) itemsRow 0 (st .out - 0))) where
       even-is : isOn (rulesOf o .absorption) && anyOf isEvenRotation (w .items) ≡ b
       even-is =
           ap (λ (x : Bool). x && anyOf isEvenRotation (w .items)) (on-frame o (not-false _ e))
           ∙ sym (f ∙ ap (anyOf isEvenRotation) (items-are r))
 
-      pub closing-none : b ≡ false → EndedAs z (i + 1) (Done st) ws xs p (closed z o w)
+      pub closing-none : b ≡ false → EndedAs z (i + 1) (Next st) ws xs p (closed z o w)
       closing-none is-no = stays (closing-by z o w false n (even-is ∙ is-no) ∙ if-false _ _ refl)
 
-      pub closing-even : b ≡ true → {q : Ended} {ws′ xs′ : List ℕ} → EndedAs z (i + 1) q ws′ xs′ p (streamOf z o w)
+      pub closing-even : b ≡ true → {q : Step} {ws′ xs′ : List ℕ} → EndedAs z (i + 1) q ws′ xs′ p (streamOf z o w)
           → EndedAs z (i + 1) q ws′ xs′ p (closed z o w)
       closing-even is-so {q} {ws′} {xs′} h =
           subst (EndedAs z (i + 1) q ws′ xs′ p) (sym (closing-by z o w true n (even-is ∙ is-so) ∙ if-true _ _ refl)) h
 
 -- ---- the strategy
 
-module _ (o : Options) (w : Work) {z : Shape} {r : Ended} {ws xs : List ℕ} {p : Program}
+module _ (o : Options) (w : Work) {z : Shape} {r : Step} {ws xs : List ℕ} {p : Program}
     (h : EndedAs z 510 r ws xs p (allRounds z o w)) where
   pub merging-limit : r ≡ ExpansionLimit → EndedAs z 511 ExpansionLimit ws xs p (mergeRounds (z .l) (rulesOf o) (o .rounds) w)
   unfolding mergeRounds
   merging-limit e = ended-limit (lt-of-lt-of-le (h .refused e) (closingStream-rises (z .l) (rulesOf o) (o .rounds) _))
 
-  pub merging-some : (s : Run) → r ≡ Done s → SomeRun z 511 s ws xs
+  pub merging-some : (s : State) → r ≡ Next s → SomeRun z 511 s ws xs
   merging-some s e = record { p = p; w = _; at = later (omega arith) (h .done s e) }
 
-pub merging-end : (o : Options) (w : Work) {z : Shape} {r : Ended} {ws xs : List ℕ} {p : Program}
+pub merging-end : (o : Options) (w : Work) {z : Shape} {r : Step} {ws xs : List ℕ} {p : Program}
     → EndedAs z (510 + 1) r ws xs p (closed z o (allRounds z o w))
     → EndedAs z 511 r ws xs p (mergeRounds (z .l) (rulesOf o) (o .rounds) w)
 unfolding mergeRounds

@@ -16,9 +16,9 @@ use Rattle.layout.specs.declared.Shape.{Shape}
 use Rattle.layout.specs.Rows.{itemsRow}
 use Rattle.items.specs.View.{itemsIn}
 use Rattle.item_lists.specs.Count.{RunPre}
-use Rattle.points.specs.declared.Run.{Run}
-use Rattle.points.specs.declared.Ended.{Ended}
-use Rattle.points.specs.declared.Ended.the-variants.{Done, ExpansionLimit}
+use Rattle.steps.specs.declared.State.{State}
+use Rattle.steps.specs.declared.Step.{Step}
+use Rattle.steps.specs.declared.Step.the-variants.{Next, ExpansionLimit}
 use Rattle.points.specs.Demands.{items-row}
 use Rattle.points.specs.Points.{RunAt, SomeRun, SameLong, EndedAs, later, ended-at, ended-limit}
 use Rattle.merge_rounds.specs.declared.Round.{Round}
@@ -33,17 +33,17 @@ roundOf z o w = mergeRound (z .l) (rulesOf o) w
 
 -- ---- a stream and exchanges
 
-module _ (o : Options) (i : ℕ) (w : Work) {z : Shape} {r : Ended} {ws xs : List ℕ} {p : Program}
+module _ (o : Options) (i : ℕ) (w : Work) {z : Shape} {r : Step} {ws xs : List ℕ} {p : Program}
     (h : EndedAs z (i + 1) r ws xs p (streamOf z o w)) where
   pub merged-limit : r ≡ ExpansionLimit → EndedAs z (i + 2) ExpansionLimit ws xs p (roundOf z o w)
   unfolding mergeRound
   merged-limit e = ended-limit (lt-of-lt-of-le (h .refused e) (exchangePass-rises (z .l) (rulesOf o) (streamOf z o w)))
 
-  pub merged-some : (s : Run) → r ≡ Done s → i ≤ 510 → SomeRun z 511 s ws xs
+  pub merged-some : (s : State) → r ≡ Next s → i ≤ 510 → SomeRun z 511 s ws xs
   merged-some s e k = record { p = p; w = streamOf z o w; at = later (omega arith) (h .done s e) }
 
-pub merged-done : (o : Options) (i : ℕ) (w : Work) {z : Shape} {q : Run} {ws xs : List ℕ} {p : Program}
-    → RunAt z (i + 1 + 1) q ws xs p (exchangePass (z .l) (rulesOf o) (streamOf z o w)) → EndedAs z (i + 2) (Done q) ws xs p (roundOf z o w)
+pub merged-done : (o : Options) (i : ℕ) (w : Work) {z : Shape} {q : State} {ws xs : List ℕ} {p : Program}
+    → RunAt z (i + 1 + 1) q ws xs p (exchangePass (z .l) (rulesOf o) (streamOf z o w)) → EndedAs z (i + 2) (Next q) ws xs p (roundOf z o w)
 unfolding mergeRound
 merged-done o i w h = ended-at {i = i + 1 + 1} (omega arith) h
 
@@ -55,31 +55,31 @@ isLast t w v = eqb (v .swaps) (w .swaps) && leb t (tCount (v .items))
 
 -- what a round's answer means: w before it, v after it
 pub record RoundAs (z : Shape) (i t : ℕ) (r : Round) (ws xs : List ℕ) (p : Program) (w v : Work) : Type 0 where
-  pub again : (s : Run) (left : ℕ) → r ≡ round.Again s left
+  pub again : (s : State) (left : ℕ) → r ≡ round.Again s left
       → RunAt z i s ws xs p v × (left ≡ tCount (v .items)) × (isLast t w v ≡ false)
-  pub stop : (s : Run) → r ≡ round.Stop s → RunAt z i s ws xs p v × (isLast t w v ≡ true)
+  pub stop : (s : State) → r ≡ round.Stop s → RunAt z i s ws xs p v × (isLast t w v ≡ true)
   pub refused : r ≡ round.ExpansionLimit → z .limit < v .store .peak
 
 -- what a round promises
-abbrev pub RoundCall : Shape → Options → Run → ℕ → List ℕ → List ℕ → Round → List ℕ → List ℕ → Type 0
+abbrev pub RoundCall : Shape → Options → State → ℕ → List ℕ → List ℕ → Round → List ℕ → List ℕ → Type 0
 RoundCall z o st t ws xs r ws′ xs′ =
     SameLong ws xs ws′ xs′
     × ((i : ℕ) (p : Program) (w : Work) → RunAt z i st ws xs p w → RoundAs z (i + 2) t r ws′ xs′ p w (roundOf z o w))
 
-module _ {z : Shape} {i : ℕ} {s : Run} {ws xs : List ℕ} {p : Program} {v : Work} (h : RunAt z i s ws xs p v) where
+module _ {z : Shape} {i : ℕ} {s : State} {ws xs : List ℕ} {p : Program} {v : Work} (h : RunAt z i s ws xs p v) where
   -- its items may be counted
-  pub count-pre : RunPre xs (z .u) itemsRow 0 (s .items)
+  pub count-pre : RunPre xs (z .u) itemsRow 0 (s .out)
   count-pre = record {
     long = h .granted .numbers-long;
     rows = omega arith;
     fits = let a = items-row (h .granted) (h .work) (h .well) in omega arith;
   }
 
-  pub items-are : itemsIn xs (z .u) itemsRow 0 (s .items - 0) ≡ v .items
-  items-are = ap (itemsIn xs (z .u) itemsRow 0) (let k : s .items - 0 ≡ s .items = omega arith in k) ∙ h .work .items
+  pub items-are : itemsIn xs (z .u) itemsRow 0 (s .out - 0) ≡ v .items
+  items-are = ap (itemsIn xs (z .u) itemsRow 0) (let k : s .out - 0 ≡ s .out = omega arith in k) ∙ h .work .items
 
-  module _ {j : ℕ} {st : Run} {ws₀ xs₀ : List ℕ} {w : Work} (b : RunAt z j st ws₀ xs₀ p w) (t left : ℕ)
-      (count : left ≡ tCount (itemsIn xs (z .u) itemsRow 0 (s .items - 0))) where
+  module _ {j : ℕ} {st : State} {ws₀ xs₀ : List ℕ} {w : Work} (b : RunAt z j st ws₀ xs₀ p w) (t left : ℕ)
+      (count : left ≡ tCount (itemsIn xs (z .u) itemsRow 0 (s .out - 0))) where
     left-is : left ≡ tCount (v .items)
     left-is = count ∙ ap tCount items-are
 
@@ -90,7 +90,7 @@ module _ {z : Shape} {i : ℕ} {s : Run} {ws xs : List ℕ} {p : Program} {v : W
     pub round-stop : eqb (s .swaps) (st .swaps) && leb t left ≡ true → RoundAs z i t (round.Stop s) ws xs p w v
     round-stop k = record {
       again = λ x m f. let c : _≡_ {A = ℕ} 0 1 = cc in absurd (omega arith);
-      stop = λ x f. let c : s ≡ x = cc in (subst (λ (y : Run). RunAt z i y ws xs p v) c h, sym test-is ∙ k);
+      stop = λ x f. let c : s ≡ x = cc in (subst (λ (y : State). RunAt z i y ws xs p v) c h, sym test-is ∙ k);
       refused = λ f. let c : _≡_ {A = ℕ} 0 1 = cc in absurd (omega arith);
     }
 
@@ -99,7 +99,7 @@ module _ {z : Shape} {i : ℕ} {s : Run} {ws xs : List ℕ} {p : Program} {v : W
       again = λ x m f.
           let c : s ≡ x = cc in
           let d : left ≡ m = cc in
-          (subst (λ (y : Run). RunAt z i y ws xs p v) c h, sym d ∙ left-is, sym test-is ∙ k);
+          (subst (λ (y : State). RunAt z i y ws xs p v) c h, sym d ∙ left-is, sym test-is ∙ k);
       stop = λ x f. let c : _≡_ {A = ℕ} 0 1 = cc in absurd (omega arith);
       refused = λ f. let c : _≡_ {A = ℕ} 0 1 = cc in absurd (omega arith);
     }

@@ -9,13 +9,13 @@ ghost use Rattle.merge_rounds.specs.OneRound.{RoundAs};
 use layout::ITEMS;
 use layout::Shape;
 use model::Options;
-use points::Ended;
-use points::Run;
+use steps::Step;
+use steps::State;
 
 // How a round ends: with the T-count that it left; as the last; refused by the limit.
 pub enum Round {
-    Again(Run, usize),
-    Stop(Run),
+    Again(State, usize),
+    Stop(State),
     ExpansionLimit,
 }
 
@@ -25,18 +25,18 @@ fn merge_round(
     numbers: &mut [u32],
     shape: Shape,
     options: Options,
-    run: Run,
-) -> Ended
+    run: State,
+) -> Step
     requires { ⌜ SomeRun shape 510 run (now words) (now numbers) × OptionsIn options ⌝ }
     ensures { λ r. ⌜ SameLong (now (words .entry)) (now (numbers .entry)) (now (words .exit)) (now (numbers .exit))
         × ((i : ℕ) (p : Program) (w : Work) → RunAt shape i run (now (words .entry)) (now (numbers .entry)) p w
         → EndedAs shape (i + 2) r (now (words .exit)) (now (numbers .exit)) p (mergeRound (shape .l) (rulesOf options) w)) ⌝ }
 {
     let e = points::stream_pass(words, numbers, shape, options, true, run);
-    let Ended::Done(s) = e else {
-        return Ended::ExpansionLimit;
+    let Step::Next(s) = e else {
+        return Step::ExpansionLimit;
     };
-    Ended::Done(points::exchange_pass(&words[..], numbers, shape, options, s))
+    Step::Next(points::exchange_pass(&words[..], numbers, shape, options, s))
 }
 
 // A round, the one before having left T-count t: the last if it has no exchange and no lower T-count.
@@ -45,7 +45,7 @@ fn one_round(
     numbers: &mut [u32],
     shape: Shape,
     options: Options,
-    run: Run,
+    run: State,
     t: usize,
 ) -> Round
     requires { ⌜ SomeRun shape 510 run (now words) (now numbers) × OptionsIn options ⌝ }
@@ -54,10 +54,10 @@ fn one_round(
         → RoundAs shape (i + 2) t r (now (words .exit)) (now (numbers .exit)) p w (mergeRound (shape .l) (rulesOf options) w)) ⌝ }
 {
     let e = merge_round(words, numbers, shape, options, run);
-    let Ended::Done(s) = e else {
+    let Step::Next(s) = e else {
         return Round::ExpansionLimit;
     };
-    let left = item_lists::t_count(&numbers[..], shape.u, ITEMS, 0, s.items);
+    let left = item_lists::t_count(&numbers[..], shape.u, ITEMS, 0, s.out);
     if (s.swaps == run.swaps) & (t <= left) {
         return Round::Stop(s);
     }
@@ -70,8 +70,8 @@ fn rounds_from(
     numbers: &mut [u32],
     shape: Shape,
     options: Options,
-    first: Run,
-) -> Ended
+    first: State,
+) -> Step
     requires { ⌜ SomeRun shape 0 first (now words) (now numbers) × OptionsIn options ⌝ }
     ensures { λ r. ⌜ SameLong (now (words .entry)) (now (numbers .entry)) (now (words .exit)) (now (numbers .exit))
         × ((p : Program) (w : Work) → RunAt shape 0 first (now (words .entry)) (now (numbers .entry)) p w
@@ -88,11 +88,11 @@ fn rounds_from(
                 run = s;
                 t = left;
             }
-            Round::Stop(s) => return Ended::Done(s),
-            Round::ExpansionLimit => return Ended::ExpansionLimit,
+            Round::Stop(s) => return Step::Next(s),
+            Round::ExpansionLimit => return Step::ExpansionLimit,
         }
     }
-    Ended::Done(run)
+    Step::Next(run)
 }
 
 // One more stream, if even rotations are to be absorbed and one is left.
@@ -101,8 +101,8 @@ fn closing_stream(
     numbers: &mut [u32],
     shape: Shape,
     options: Options,
-    run: Run,
-) -> Ended
+    run: State,
+) -> Step
     requires { ⌜ SomeRun shape 511 run (now words) (now numbers) × OptionsIn options ⌝ }
     ensures { λ r. ⌜ SameLong (now (words .entry)) (now (numbers .entry)) (now (words .exit)) (now (numbers .exit))
         × ((i : ℕ) (p : Program) (w : Work) → RunAt shape i run (now (words .entry)) (now (numbers .entry)) p w
@@ -110,15 +110,15 @@ fn closing_stream(
         (closingStream (shape .l) (rulesOf options) (options .rounds) w)) ⌝ }
 {
     if options.rounds == 0 {
-        return Ended::Done(run);
+        return Step::Next(run);
     }
     if !options.clifford_to_frame {
-        return Ended::Done(run);
+        return Step::Next(run);
     }
-    if item_lists::any_even(&numbers[..], shape.u, ITEMS, 0, run.items) {
+    if item_lists::any_even(&numbers[..], shape.u, ITEMS, 0, run.out) {
         return points::stream_pass(words, numbers, shape, options, true, run);
     }
-    Ended::Done(run)
+    Step::Next(run)
 }
 
 // The merge strategy.
@@ -127,8 +127,8 @@ pub fn merge_rounds(
     numbers: &mut [u32],
     shape: Shape,
     options: Options,
-    first: Run,
-) -> Ended
+    first: State,
+) -> Step
     requires { ⌜ SomeRun shape 0 first (now words) (now numbers) × OptionsIn options ⌝ }
     ensures { λ r. ⌜ SameLong (now (words .entry)) (now (numbers .entry)) (now (words .exit)) (now (numbers .exit))
         × ((p : Program) (w : Work) → RunAt shape 0 first (now (words .entry)) (now (numbers .entry)) p w
@@ -136,8 +136,8 @@ pub fn merge_rounds(
         (mergeRounds (shape .l) (rulesOf options) (options .rounds) w)) ⌝ }
 {
     let e = rounds_from(words, numbers, shape, options, first);
-    let Ended::Done(run) = e else {
-        return Ended::ExpansionLimit;
+    let Step::Next(run) = e else {
+        return Step::ExpansionLimit;
     };
     closing_stream(words, numbers, shape, options, run)
 }

@@ -11,17 +11,15 @@ use Rattle.model.specs.Stream.{Pass, axisImage, imageId, carryAxis, takeRotatio
 use Rattle.theory.specs.Peak.{takeRotation-rises}
 use Rattle.layout.specs.declared.Shape.{Shape}
 use Rattle.run_wellformed.specs.CliffordAngles.{withSign-turns}
-use Rattle.carrying.specs.declared.CarriedAxis.{CarriedAxis}
-use Rattle.carrying.specs.declared.Carried.{Carried}
-use Rattle.carrying.specs.declared.Carried.the-variants.{To}
 use Rattle.clifford.specs.Holds.{SomeTouched}
 use Rattle.carrying.specs.Carrying.{CarryPre}
-use Rattle.stream_states.specs.declared.State.{State}
-use Rattle.stream_states.specs.declared.Stepped.{Stepped}
-use Rattle.stream_states.specs.declared.Stepped.the-variants.{ExpansionLimit}
+use Rattle.steps.specs.declared.State.{State}
+use Rattle.steps.specs.declared.Step.{Step}
+use Rattle.steps.specs.declared.Step.the-variants.{Next, ExpansionLimit}
 use Rattle.stream_states.specs.declared.StreamRules.{StreamRules}
-use Rattle.stream_states.specs.States.{withAxes, heldOf, SomePass, absorptionSaid, SteppedAs, as-limit, stepped-from}
+use Rattle.stream_states.specs.States.{heldOf, SomePass, absorptionSaid, SteppedAs, as-limit, stepped-from}
 use Rattle.stream_states.specs.Carrying.{CarryPass, CarryLeft, carry-pre, carry-refused, carried-at, carried-in, carried-id, carried-turns}
+use Rattle.stream_states.specs.Carrying.{carried-same}
 use Rattle.merging.specs.Taking.{TakingAt}
 
 pub record CarryingAt (z : Shape) (c : StreamRules) (st : State) (a k : ℕ) (ws xs : List ℕ) (m : Absorption) (n : ℕ)
@@ -34,42 +32,44 @@ pub record CarryingAt (z : Shape) (c : StreamRules) (st : State) (a k : ℕ) (ws
   pub few : st .absorbed < 9223372036854775808
 
 pub carrying-some : {z : Shape} {c : StreamRules} {st : State} {a k : ℕ} {ws xs : List ℕ}
-    → SomePass (λ m n p. CarryingAt z c st a k ws xs m n p) → SomeTouched (λ (t : Touched). CarryPre z (st .axes) (st .slots) a ws xs t)
+    → SomePass (λ m n p. CarryingAt z c st a k ws xs m n p) → SomeTouched (λ (t : Touched). CarryPre z st a ws xs t)
 carrying-some s = record { state = heldOf (s .p); it = carry-pre (s .it .carry) }
 
-module _ {z : Shape} {c : StreamRules} {st : State} {a k : ℕ} {ws xs : List ℕ} {r : Carried} {ws′ xs′ : List ℕ}
+module _ {z : Shape} {c : StreamRules} {st : State} {a k : ℕ} {ws xs : List ℕ} {r : Step} {ws′ xs′ : List ℕ}
     (call : CarryLeft z st a ws xs r ws′ xs′) {m : Absorption} {n : ℕ} {p : Pass} (h : CarryingAt z c st a k ws xs m n p) where
-  module _ {to : CarriedAxis} (e : r ≡ To to) {s : State} (with-axes : s ≡ withAxes (to .axes) st) {k′ : ℕ}
-      (sign : k′ ≡ withSign (to .turns) k) where
-    pub taking-there : TakingAt z c s (to .id) k′ ws′ xs′ m n (carryAxis (z .l) p a)
+  module _ {s : State} (e : r ≡ Next s) {k′ : ℕ} (sign : k′ ≡ withSign (s .turns) k) where
+    merges-same : s .merges ≡ st .merges
+    merges-same = ap (λ (x : State). x .merges) (carried-same (h .carry) call e)
+
+    absorbed-same : s .absorbed ≡ st .absorbed
+    absorbed-same = ap (λ (x : State). x .absorbed) (carried-same (h .carry) call e)
+
+    pub taking-there : TakingAt z c s (s .id) k′ ws′ xs′ m n (carryAxis (z .l) p a)
     taking-there =
-        let w = withSign-turns (to .turns) k (h .some) (h .small) in
-        rw with-axes (record {
+        let w = withSign-turns (s .turns) k (h .some) (h .small) in
+        record {
           at = carried-at (h .carry) call e;
           id-in = carried-in (h .carry) call e;
           some = omega (arith, w .0);
           small = omega (arith, w .1);
           mode = h .mode;
-          few-merges = h .few-merges;
-          few = h .few;
-        })
+          few-merges = omega (arith, merges-same, h .few-merges);
+          few = omega (arith, absorbed-same, h .few);
+        }
 
     -- the model's arguments
-    pub taken-as : {q : Stepped} {ws″ xs″ : List ℕ} (g : Rules) (merging : Bool)
-        → SteppedAs z m 1 1 s q ws″ xs″ (takeRotation (z .l) g merging (carryAxis (z .l) p a) (to .id) k′)
+    pub taken-as : {q : Step} {ws″ xs″ : List ℕ} (g : Rules) (merging : Bool)
+        → SteppedAs z m 1 1 s q ws″ xs″ (takeRotation (z .l) g merging (carryAxis (z .l) p a) (s .id) k′)
         → SteppedAs z m 1 1 st q ws″ xs″ (takeRotation (z .l) g merging (carryAxis (z .l) p a) (imageId (z .l) (carryAxis (z .l) p a) a)
         (withSign (axisImage (z .l) (carryAxis (z .l) p a) a .turns) k))
     taken-as {q} {ws″} {xs″} g merging t =
-        let f = ap (λ (x : State). x .merges) with-axes in
-        let i = ap (λ (x : State). x .absorbed) with-axes in
         subst (SteppedAs z m 1 1 st q ws″ xs″)
         (ap₂ (takeRotation (z .l) g merging (carryAxis (z .l) p a)) (carried-id (h .carry) call e)
         (sign ∙ ap (λ (x : ℕ). withSign x k) (carried-turns (h .carry) call e)))
-        (stepped-from 1 1 t (omega arith) (omega arith))
+        (stepped-from 1 1 t (omega (arith, merges-same)) (omega (arith, absorbed-same)))
 
   -- the limit refuses the image
-  pub carried-limit : r ≡ Rattle.carrying.specs.declared.Carried.the-variants.ExpansionLimit
-      → (g : Rules) (merging : Bool) {ws″ xs″ : List ℕ} (b k′ : ℕ)
+  pub carried-limit : r ≡ ExpansionLimit → (g : Rules) (merging : Bool) {ws″ xs″ : List ℕ} (b k′ : ℕ)
       → SteppedAs z m 1 1 st ExpansionLimit ws″ xs″ (takeRotation (z .l) g merging (carryAxis (z .l) p a) b k′)
   carried-limit e g merging b k′ =
       as-limit (omega (arith, carry-refused (h .carry) call e, takeRotation-rises (z .l) g merging (carryAxis (z .l) p a) b k′))

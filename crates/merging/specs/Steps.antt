@@ -26,15 +26,14 @@ use Rattle.items.specs.Put.{ItemPut, taggedRotation}
 use Rattle.waiting.specs.Places.{placeIn, Named}
 use Rattle.waiting.specs.Inserting.{InsertPre, Inserted}
 use Rattle.words_wellformed.specs.HeldImages.{IsQuarters}
-use Rattle.clifford.specs.declared.Touching.{Touching}
-use Rattle.clifford.specs.declared.Touching.the-variants.{Slots}
-use Rattle.clifford.specs.Holds.{SomeTouched, LeftF, TouchedAs, maskPlace}
+use Rattle.clifford.specs.Holds.{Holds, SomeTouched, LeftF, TouchedAs, maskPlace}
 use Rattle.absorbing.specs.Absorbing.{AbsorbAt}
-use Rattle.stream_states.specs.declared.State.{State}
-use Rattle.stream_states.specs.declared.Stepped.{Stepped}
-use Rattle.stream_states.specs.declared.Stepped.the-variants.{Next, ExpansionLimit}
+use Rattle.steps.specs.declared.State.{State}
+use Rattle.steps.specs.declared.Step.{Step}
+use Rattle.steps.specs.declared.Step.the-variants.{Next, ExpansionLimit}
 use Rattle.stream_states.specs.declared.StreamRules.{StreamRules}
-use Rattle.stream_states.specs.States.{withWaiting, heldOf, isWaiting, HoldsPass, PassAt, SomePass, absorptionSaid, streamRows}
+use Rattle.steps.specs.State.{withSlots, withWaiting}
+use Rattle.stream_states.specs.States.{heldOf, isWaiting, HoldsPass, PassAt, SomePass, absorptionSaid, streamRows}
 use Rattle.stream_states.specs.States.{LeftS, SteppedAs, as-next, as-limit}
 use Rattle.stream_states.specs.Output.{WaitsBut, but-quiet, pass-other, with-list, angle-set, last-cleared, withOut, put-waits}
 use Rattle.stream_states.specs.Output.{rotation-put}
@@ -178,12 +177,12 @@ module _ {z : Shape} {c : StreamRules} {st : State} {id k : ℕ} {xs xs₁ xs₂
 abbrev pub absorbRows : List ℕ
 absorbRows = outRow ∷ (outRow + 1) ∷ (outRow + 2) ∷ lastRow ∷ fSlot ∷ fPhase ∷ []
 
-pub record LeftAbsorbed (z : Shape) (st : State) (ws xs : List ℕ) (r : Stepped) (ws′ xs′ : List ℕ) : Type 0 where
+pub record LeftAbsorbed (z : Shape) (st : State) (ws xs : List ℕ) (r : Step) (ws′ xs′ : List ℕ) : Type 0 where
   pub words : KeptFrom (maskPlace z + z .l) ws ws′
   pub numbers : Only absorbRows (z .u) xs xs′
   pub list : (s : State) → r ≡ Next s → s .waiting ≡ st .waiting
 
-pub absorbed-left : {z : Shape} {st : State} {ws xs : List ℕ} {r : Stepped} {ws′ xs′ : List ℕ} → LeftAbsorbed z st ws xs r ws′ xs′
+pub absorbed-left : {z : Shape} {st : State} {ws xs : List ℕ} {r : Step} {ws′ xs′ : List ℕ} → LeftAbsorbed z st ws xs r ws′ xs′
     → LeftS z ws xs ws′ xs′
 unfolding allOf member anyOf
 absorbed-left h = record { words = h .words; numbers = only-of streamRows refl (h .numbers) }
@@ -214,16 +213,19 @@ zero-left {z} {j} {id} {xs} pre wrote put = record {
 
 -- ---- F changes, the output stays
 
--- the state with other slots, and one rotation more absorbed
-abbrev pub withSlots : ℕ → State → State
-withSlots s st = record {
+-- so many rotations absorbed
+abbrev pub withAbsorbed : ℕ → State → State
+withAbsorbed n st = record {
   axes = st .axes;
-  slots = s;
+  id = st .id;
+  turns = st .turns;
+  slots = st .slots;
   out = st .out;
   start = st .start;
   waiting = st .waiting;
   merges = st .merges;
-  absorbed = st .absorbed + 1;
+  swaps = st .swaps;
+  absorbed = n;
 }
 
 pub record AbsorbingAt (z : Shape) (st : State) (id k : ℕ) (ws xs : List ℕ) (m : Absorption) (n : ℕ) (p : Pass) : Type 0 where
@@ -249,36 +251,43 @@ pub absorb-some : {z : Shape} {st : State} {id k : ℕ} {ws xs : List ℕ} → S
 absorb-some s = record { state = heldOf (s .p); it = absorb-there (s .it) }
 
 -- what the call leaves
-abbrev pub AbsorbLeft : Shape → State → ℕ → ℕ → List ℕ → List ℕ → Touching → List ℕ → List ℕ → Type 0
+abbrev pub AbsorbLeft : Shape → State → ℕ → ℕ → List ℕ → List ℕ → Step → List ℕ → List ℕ → Type 0
 AbsorbLeft z st id k ws xs r ws′ xs′ =
     LeftF z ws xs ws′ xs′
     × ((t : Touched) → AbsorbAt z (st .axes) (st .slots) id k ws xs t
-    → TouchedAs z (st .axes) r ws′ xs′ (absorbWord (z .l) t (wordOf (t .store .axes) id) k))
+    → TouchedAs z st r ws′ xs′ (absorbWord (z .l) t (wordOf (t .store .axes) id) k))
 
-module _ {z : Shape} {st : State} {id k : ℕ} {ws xs ws′ xs′ : List ℕ} {r : Touching} (call : AbsorbLeft z st id k ws xs r ws′ xs′)
+module _ {z : Shape} {st : State} {id k : ℕ} {ws xs ws′ xs′ : List ℕ} {r : Step} (call : AbsorbLeft z st id k ws xs r ws′ xs′)
     {m : Absorption} {n : ℕ} {p : Pass} (h : AbsorbingAt z st id k ws xs m n p) where
-  pub absorbed-limit : r ≡ Rattle.clifford.specs.declared.Touching.the-variants.ExpansionLimit
-      → SteppedAs z m 0 1 st ExpansionLimit ws′ xs′ (absorb (z .l) p id k)
+  pub absorbed-limit : r ≡ ExpansionLimit → SteppedAs z m 0 1 st ExpansionLimit ws′ xs′ (absorb (z .l) p id k)
   unfolding absorb
   absorbed-limit e = as-limit (call .1 (heldOf p) (absorb-there h) .refused e)
 
-  pub absorbed-next : (s : ℕ) → r ≡ Slots s → SteppedAs z m 0 1 st (Next (withSlots s st)) ws′ xs′ (absorb (z .l) p id k)
-  unfolding absorb member anyOf
-  absorbed-next s e =
-      as-next (pass-other (call .0 .numbers) refl refl refl (h .at .holds) (absorb (z .l) p id k)
-      (call .1 (heldOf p) (absorb-there h) .held s e) refl refl (h .at .holds .merges-are)
-      (ap suc (h .at .holds .absorbed-are) ∙ (let f : suc (st .absorbed) ≡ st .absorbed + 1 = omega arith in f)))
-      (omega arith) (omega arith)
+  module _ {s : State} (e : r ≡ Next s) where
+    same : s ≡ withSlots (s .slots) st
+    same = call .1 (heldOf p) (absorb-there h) .kept s e
+
+    pub absorbed-next : SteppedAs z m 0 1 st (Next (withAbsorbed (st .absorbed + 1) s)) ws′ xs′ (absorb (z .l) p id k)
+    unfolding absorb member anyOf
+    absorbed-next =
+        subst (λ (x : State). SteppedAs z m 0 1 st (Next (withAbsorbed (st .absorbed + 1) x)) ws′ xs′ (absorb (z .l) p id k)) (sym same)
+        (as-next (pass-other (call .0 .numbers) refl refl refl (h .at .holds) (absorb (z .l) p id k)
+        (subst (λ (x : State). Holds z (x .axes) (x .slots) ws′ xs′ (heldOf (absorb (z .l) p id k))) same
+        (call .1 (heldOf p) (absorb-there h) .held s e)) refl refl (h .at .holds .merges-are)
+        (ap suc (h .at .holds .absorbed-are) ∙ (let f : suc (st .absorbed) ≡ st .absorbed + 1 = omega arith in f)))
+        (omega arith) (omega arith))
+
+    pub f-next : LeftAbsorbed z st ws xs (Next (withAbsorbed (st .absorbed + 1) s)) ws′ xs′
+    unfolding allOf member anyOf
+    f-next = record {
+      words = call .0 .words;
+      numbers = only-of absorbRows refl (call .0 .numbers);
+      list = λ t f.
+          let g : withAbsorbed (st .absorbed + 1) s ≡ t = cc in
+          sym (ap (λ (x : State). x .waiting) g) ∙ ap (λ (x : State). x .waiting) same;
+    }
 
 module _ {z : Shape} {st : State} {ws xs ws′ xs′ : List ℕ} (h : LeftF z ws xs ws′ xs′) where
-  pub f-next : (s : ℕ) → LeftAbsorbed z st ws xs (Next (withSlots s st)) ws′ xs′
-  unfolding allOf member anyOf
-  f-next s = record {
-    words = h .words;
-    numbers = only-of absorbRows refl (h .numbers);
-    list = λ t e. let f : withSlots s st ≡ t = cc in sym (ap (λ (x : State). x .waiting) f);
-  }
-
   pub f-limit : LeftAbsorbed z st ws xs ExpansionLimit ws′ xs′
   unfolding allOf member anyOf
   f-limit = record {

@@ -24,9 +24,9 @@ use Rattle.axes.specs.Held.{sizesOf}
 use Rattle.items.specs.View.{taggedAt, said-rotation}
 use Rattle.items.specs.Put.{EntryPre, ItemPut, taggedRotation}
 use Rattle.words_wellformed.specs.HeldImages.{IsQuarters}
-use Rattle.stream_states.specs.declared.State.{State}
-use Rattle.stream_states.specs.declared.Stepped.{Stepped}
-use Rattle.stream_states.specs.declared.Stepped.the-variants.{Next, ExpansionLimit}
+use Rattle.steps.specs.declared.State.{State}
+use Rattle.steps.specs.declared.Step.{Step}
+use Rattle.steps.specs.declared.Step.the-variants.{Next, ExpansionLimit}
 use Rattle.stream_states.specs.declared.StreamRules.{StreamRules}
 use Rattle.stream_states.specs.States.{lastIn, HoldsPass, FinePass, PassAt, SomePass, absorptionSaid, RulesAs, streamRows}
 use Rattle.stream_states.specs.States.{LeftS, SteppedAs, as-next, as-limit, stepped-from}
@@ -42,16 +42,16 @@ pub record MergedAt (z : Shape) (st : State) (j id k : ℕ) (ws xs : List ℕ) (
   pub place : j < st .out
 
 -- what the call that absorbs leaves
-abbrev pub AbsorbedLeft : Shape → State → ℕ → ℕ → List ℕ → List ℕ → Stepped → List ℕ → List ℕ → Type 0
+abbrev pub AbsorbedLeft : Shape → State → ℕ → ℕ → List ℕ → List ℕ → Step → List ℕ → List ℕ → Type 0
 AbsorbedLeft z st id k ws xs r ws′ xs′ =
     LeftAbsorbed z st ws xs r ws′ xs′
     × ((m : Absorption) (n : ℕ) (p : Pass) → AbsorbingAt z st id k ws xs m n p → SteppedAs z m 0 1 st r ws′ xs′ (absorb (z .l) p id k))
 
-pub merged-limit-left : {z : Shape} {st : State} {id k : ℕ} {ws xs ws₁ xs₁ : List ℕ} {r : Stepped} → AbsorbedLeft z st id k ws xs r ws₁ xs₁
+pub merged-limit-left : {z : Shape} {st : State} {id k : ℕ} {ws xs ws₁ xs₁ : List ℕ} {r : Step} → AbsorbedLeft z st id k ws xs r ws₁ xs₁
     → r ≡ ExpansionLimit → LeftAbsorbed z st ws xs ExpansionLimit ws₁ xs₁
 merged-limit-left call e = record { words = call .0 .words; numbers = call .0 .numbers; list = λ s f. call .0 .list s (e ∙ f) }
 
-module _ {z : Shape} {st : State} {j id k : ℕ} {ws xs ws₁ xs₁ : List ℕ} {r : Stepped} (call : AbsorbedLeft z st id k ws xs r ws₁ xs₁) where
+module _ {z : Shape} {st : State} {j id k : ℕ} {ws xs ws₁ xs₁ : List ℕ} {r : Step} (call : AbsorbedLeft z st id k ws xs r ws₁ xs₁) where
   pub merged-limit : r ≡ ExpansionLimit → (m : Absorption) (n : ℕ) (p : Pass) → MergedAt z st j id k ws xs m n p
       → SteppedAs z m 0 1 st ExpansionLimit ws₁ xs₁ (leaveZero j id (absorb (z .l) p id k))
   unfolding leaveZero setAngle withLast
@@ -151,11 +151,14 @@ module _ (l : ℕ) (m : Absorption) (q : Pass) (j a s : ℕ) where
 abbrev pub withMerge : State → State
 withMerge st = record {
   axes = st .axes;
+  id = st .id;
+  turns = st .turns;
   slots = st .slots;
   out = st .out;
   start = st .start;
   waiting = st .waiting;
   merges = st .merges + 1;
+  swaps = st .swaps;
   absorbed = st .absorbed;
 }
 
@@ -220,7 +223,7 @@ module _ {z : Shape} {c : StreamRules} {st : State} {j id k : ℕ} {ws xs : List
     counted = counted-holds (h .at .holds)
 
     -- the result, by the sum that was worked out
-    result : {r : Stepped} {ws′ xs′ : List ℕ} → SteppedAs z m 1 1 st r ws′ xs′ (mergeAt (z .l) m (countMerge p) j id ((old % 8 + k) % 8))
+    result : {r : Step} {ws′ xs′ : List ℕ} → SteppedAs z m 1 1 st r ws′ xs′ (mergeAt (z .l) m (countMerge p) j id ((old % 8 + k) % 8))
         → SteppedAs z m 1 1 st r ws′ xs′ (mergeAt (z .l) m (countMerge p) j id ((angleAt (p .out) j + k) % 8))
     result {r} {ws′} {xs′} s = subst (λ (x : ℕ). SteppedAs z m 1 1 st r ws′ xs′ (mergeAt (z .l) m (countMerge p) j id x)) sum-is s
 
@@ -245,7 +248,7 @@ module _ {z : Shape} {c : StreamRules} {st : State} {j id k : ℕ} {ws xs : List
         place = h .place;
       }
 
-      pub merge-at-once : {r : Stepped} {ws′ xs′ : List ℕ} → t ≡ true
+      pub merge-at-once : {r : Step} {ws′ xs′ : List ℕ} → t ≡ true
           → SteppedAs z m 0 1 (withMerge st) r ws′ xs′ (leaveZero j id (absorb (z .l) (countMerge p) id ((old % 8 + k) % 8)))
           → SteppedAs z m 1 1 st r ws′ xs′ (mergeAt (z .l) m (countMerge p) j id ((angleAt (p .out) j + k) % 8))
       merge-at-once {r} {ws′} {xs′} e s =
@@ -475,7 +478,7 @@ pub out-left : {z : Shape} {c : StreamRules} {st r : State} {id k : ℕ} {ws xs 
     → LeftS z ws xs ws xs′
 out-left {ws = ws} o = record { words = kept-none _ ws; numbers = o .left }
 
-pub answer-is : {z : Shape} {m : Absorption} (c d : ℕ) {st : State} {r : Stepped} {ws xs : List ℕ} {p q : Pass} → c ≤ 1 → d ≤ 1
+pub answer-is : {z : Shape} {m : Absorption} (c d : ℕ) {st : State} {r : Step} {ws xs : List ℕ} {p q : Pass} → c ≤ 1 → d ≤ 1
     → SteppedAs z m c d st r ws xs p → q ≡ p → SteppedAs z m 1 1 st r ws xs q
 answer-is {z} {m} c d {st} {r} {ws} {xs} a b s e =
     subst (SteppedAs z m 1 1 st r ws xs) (sym e) (stepped-from 1 1 s (omega arith) (omega arith))

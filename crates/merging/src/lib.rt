@@ -12,13 +12,11 @@ ghost use Rattle.merging.specs.Steps.{isLater, NamePre, PlaceNamed, PutP
 ghost use Rattle.merging.specs.Taking.{MergedAt, MergingAt, lastSaid, LastPre, TakingAt};
 ghost use Rattle.merging.specs.Carried.{CarryingAt};
 use axes::Sizes;
-use carrying::Carried;
-use clifford::Touching;
 use layout::LAST;
 use layout::OUT;
 use layout::Shape;
-use stream_states::State;
-use stream_states::Stepped;
+use steps::State;
+use steps::Step;
 use stream_states::StreamRules;
 
 // Whether output i, a rotation, stops axis id: it is not by nothing, and anticommutes with it.
@@ -88,7 +86,7 @@ fn name_place(
         return st;
     }
     let n = waiting::insert(numbers, shape.u, st.waiting, j);
-    stream_states::with_waiting(st, n)
+    steps::with_waiting(st, n)
 }
 
 // Puts out a rotation by angle k about axis id, and lets `last` name it.
@@ -106,15 +104,8 @@ fn put_out(
     let out = st.out;
     store::write(numbers, shape.u, LAST, id, (out + 1) as u32);
     items::put_rotation(numbers, shape.u, OUT, out, id as u32, k);
-    let s = State {
-        axes: st.axes,
-        slots: st.slots,
-        out: out + 1,
-        start: st.start,
-        waiting: st.waiting,
-        merges: st.merges,
-        absorbed: st.absorbed,
-    };
+    let mut s = st;
+    s.out = out + 1;
     name_place(numbers, shape, rules, s, out, k)
 }
 
@@ -135,25 +126,19 @@ fn absorb(
     st: State,
     id: usize,
     k: u32,
-) -> Stepped
+) -> Step
     requires { ⌜ SomePass (λ m n p. AbsorbingAt shape st id k (now words) (now numbers) m n p) ⌝ }
     ensures { λ r. ⌜ LeftAbsorbed shape st (now (words .entry)) (now (numbers .entry)) r (now (words .exit)) (now (numbers .exit))
         × ((m : Absorption) (n : ℕ) (p : Pass) → AbsorbingAt shape st id k (now (words .entry)) (now (numbers .entry)) m n p
         → SteppedAs shape m 0 1 st r (now (words .exit)) (now (numbers .exit)) (absorb (shape .l) p id k)) ⌝ }
 {
-    let t = absorbing::absorb(words, numbers, shape, st.axes, st.slots, id, k);
-    let Touching::Slots(slots) = t else {
-        return Stepped::ExpansionLimit;
+    let t = absorbing::absorb(words, numbers, shape, st, id, k);
+    let Step::Next(after) = t else {
+        return Step::ExpansionLimit;
     };
-    Stepped::Next(State {
-        axes: st.axes,
-        slots,
-        out: st.out,
-        start: st.start,
-        waiting: st.waiting,
-        merges: st.merges,
-        absorbed: st.absorbed + 1,
-    })
+    let mut s = after;
+    s.absorbed = st.absorbed + 1;
+    Step::Next(s)
 }
 
 // Whether angle k is absorbed at its turn.
@@ -178,18 +163,18 @@ pub fn absorb_merged(
     j: usize,
     id: usize,
     k: u32,
-) -> Stepped
+) -> Step
     requires { ⌜ SomePass (λ m n p. MergedAt shape st j id k (now words) (now numbers) m n p) ⌝ }
     ensures { λ r. ⌜ LeftAbsorbed shape st (now (words .entry)) (now (numbers .entry)) r (now (words .exit)) (now (numbers .exit))
         × ((m : Absorption) (n : ℕ) (p : Pass) → MergedAt shape st j id k (now (words .entry)) (now (numbers .entry)) m n p
         → SteppedAs shape m 0 1 st r (now (words .exit)) (now (numbers .exit)) (leaveZero j id (absorb (shape .l) p id k))) ⌝ }
 {
     let t = absorb(words, numbers, shape, st, id, k);
-    let Stepped::Next(after) = t else {
-        return Stepped::ExpansionLimit;
+    let Step::Next(after) = t else {
+        return Step::ExpansionLimit;
     };
     leave_zero(numbers, shape, j, id);
-    Stepped::Next(after)
+    Step::Next(after)
 }
 
 // Merges angle k about axis id into place j of the output, a rotation about it.
@@ -202,7 +187,7 @@ fn merge(
     j: usize,
     id: usize,
     k: u32,
-) -> Stepped
+) -> Step
     requires { ⌜ SomePass (λ m n p. MergingAt shape rules st j id k (now words) (now numbers) m n p) ⌝ }
     ensures { λ r. ⌜ LeftS shape (now (words .entry)) (now (numbers .entry)) (now (words .exit)) (now (numbers .exit))
         × ((m : Absorption) (n : ℕ) (p : Pass) → MergingAt shape rules st j id k (now (words .entry)) (now (numbers .entry)) m n p
@@ -211,24 +196,17 @@ fn merge(
 {
     let old = items::angle_at(&numbers[..], shape.u, OUT, j);
     let sum = (old % 8 + k) % 8;
-    let s = State {
-        axes: st.axes,
-        slots: st.slots,
-        out: st.out,
-        start: st.start,
-        waiting: st.waiting,
-        merges: st.merges + 1,
-        absorbed: st.absorbed,
-    };
+    let mut s = st;
+    s.merges = st.merges + 1;
     if sum == 0 {
         leave_zero(numbers, shape, j, id);
-        return Stepped::Next(s);
+        return Step::Next(s);
     }
     if at_once(rules, sum) {
         return absorb_merged(words, numbers, shape, s, j, id, sum);
     }
     items::put_rotation(numbers, shape.u, OUT, j, id as u32, sum);
-    Stepped::Next(name_place(numbers, shape, rules, s, j, sum))
+    Step::Next(name_place(numbers, shape, rules, s, j, sum))
 }
 
 // The place that `last` names for axis id, plus 1; 0 where there is none, or nothing is merged.
@@ -252,7 +230,7 @@ fn take(
     st: State,
     id: usize,
     k: u32,
-) -> Stepped
+) -> Step
     requires { ⌜ SomePass (λ m n p. TakingAt shape rules st id k (now words) (now numbers) m n p) ⌝ }
     ensures { λ r. ⌜ LeftS shape (now (words .entry)) (now (numbers .entry)) (now (words .exit)) (now (numbers .exit))
         × ((g : Rules) (n : ℕ) (p : Pass) → RulesAs rules g
@@ -265,12 +243,12 @@ fn take(
     }
     let last = last_of(&numbers[..], shape, rules, st, id);
     if last == 0 {
-        return Stepped::Next(put_out(numbers, shape, rules, st, id, k));
+        return Step::Next(put_out(numbers, shape, rules, st, id, k));
     }
     let z = axes::sizes_of(shape, st.axes);
     let lookback = rules.lookback;
     if !can_reach(&words[..], &numbers[..], z, lookback, st.out, last - 1, id) {
-        return Stepped::Next(put_out(numbers, shape, rules, st, id, k));
+        return Step::Next(put_out(numbers, shape, rules, st, id, k));
     }
     merge(words, numbers, shape, rules, st, last - 1, id, k)
 }
@@ -284,7 +262,7 @@ pub fn carry_and_take(
     st: State,
     a: usize,
     angle: u32,
-) -> Stepped
+) -> Step
     requires { ⌜ SomePass (λ m n p. CarryingAt shape rules st a angle (now words) (now numbers) m n p) ⌝ }
     ensures { λ r. ⌜ LeftS shape (now (words .entry)) (now (numbers .entry)) (now (words .exit)) (now (numbers .exit))
         × ((g : Rules) (n : ℕ) (p : Pass) → RulesAs rules g
@@ -293,18 +271,10 @@ pub fn carry_and_take(
         (takeRotation (shape .l) g (rules .merge) (carryAxis (shape .l) p a) (imageId (shape .l) (carryAxis (shape .l) p a) a)
         (withSign (axisImage (shape .l) (carryAxis (shape .l) p a) a .turns) angle))) ⌝ }
 {
-    let c = carrying::carry(words, numbers, shape, st.axes, st.slots, a);
-    let Carried::To(to) = c else {
-        return Stepped::ExpansionLimit;
+    let c = carrying::carry(words, numbers, shape, st, a);
+    let Step::Next(s) = c else {
+        return Step::ExpansionLimit;
     };
-    let k = items::with_sign(to.turns, angle);
-    take(
-        words,
-        numbers,
-        shape,
-        rules,
-        stream_states::with_axes(st, to.axes),
-        to.id,
-        k,
-    )
+    let k = items::with_sign(s.turns, angle);
+    take(words, numbers, shape, rules, s, s.id, k)
 }

@@ -22,7 +22,7 @@ use Rattle.exchange.specs.declared.Progress.{Progress}
 use Rattle.exchange.specs.Segments.{ExchangePre, Exchanged}
 use Rattle.exchange.specs.Pass.{exchange-is}
 use Rattle.points.specs.Demands.{exchange-pre}
-use Rattle.points.specs.declared.Run.{Run}
+use Rattle.steps.specs.declared.State.{State}
 use Rattle.points.specs.Points.{RunAt, SomeRun, OptionsIn, items-few}
 
 abbrev exchangeRules : Options → exchange.Rules
@@ -41,18 +41,23 @@ same-absorbed : (l : ℕ) (g : Rules) (w : Work) → exchangePass l g w .absorbe
 unfolding exchangePass
 same-absorbed l g w = by-if (λ (v : Work). v .absorbed ≡ w .absorbed) _ _ _ refl refl
 
-module _ {z : Shape} (o : Options) {st : Run} {s : Sizes} (same : s ≡ sizesOf z (st .axes)) {ws xs : List ℕ} where
-  pub swap-pre : {i : ℕ} → SomeRun z i st ws xs → OptionsIn o → ExchangePre s (exchangeRules o) ws xs (st .items)
+module _ {z : Shape} (o : Options) {st : State} {s : Sizes} (same : s ≡ sizesOf z (st .axes)) {ws xs : List ℕ} where
+  pub swap-pre : {i : ℕ} → SomeRun z i st ws xs → OptionsIn o → ExchangePre s (exchangeRules o) ws xs (st .out)
   swap-pre a k =
       let r = a .at in
-      subst (λ (n : Sizes). ExchangePre n (exchangeRules o) ws xs (st .items)) (sym same)
+      subst (λ (n : Sizes). ExchangePre n (exchangeRules o) ws xs (st .out)) (sym same)
       (exchange-pre (r .granted) (r .work) (r .well) (exchangeRules o) (k .candidates))
 
-  module _ {d : Progress} {ys : List ℕ} (x : Exchanged s (exchangeRules o) ws xs (st .items) d ys) where
+  module _ {d : Progress} {ys : List ℕ} (x : Exchanged s (exchangeRules o) ws xs (st .out) d ys) where
     pub swapped-at : (i : ℕ) (p : Program) (w : Work) → RunAt z i st ws xs p w
         → RunAt z (i + 1) (record {
-          items = d .out;
           axes = st .axes;
+          id = st .id;
+          turns = st .turns;
+          slots = st .slots;
+          out = d .out;
+          start = st .start;
+          waiting = st .waiting;
           merges = st .merges;
           swaps = st .swaps + d .swaps;
           absorbed = st .absorbed;
@@ -60,7 +65,7 @@ module _ {z : Shape} (o : Options) {st : Run} {s : Sizes} (same : s ≡ sizesOf 
     unfolding rulesOf member anyOf
     swapped-at i p w r =
         let g = rulesOf o in
-        let b = subst (λ (n : Sizes). Exchanged n (exchangeRules o) ws xs (st .items) d ys) same x in
+        let b = subst (λ (n : Sizes). Exchanged n (exchangeRules o) ws xs (st .out) d ys) same x in
         let e = exchange-is (sizesOf z (st .axes)) g ws w (r .work .axes .are) (r .work .items) b in
         record {
           granted = granted-same (r .granted) refl (x .only .long);

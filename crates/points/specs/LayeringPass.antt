@@ -17,7 +17,7 @@ use Rattle.run_wellformed.specs.WorkWell.{layering-work}
 use Rattle.layering.specs.declared.Layering.{Layering}
 use Rattle.layering.specs.Contracts.{LayeringPre, LayeredAs}
 use Rattle.layering.specs.LayeringPass.{layered-pass}
-use Rattle.points.specs.declared.Run.{Run}
+use Rattle.steps.specs.declared.State.{State}
 use Rattle.points.specs.Demands.{layering-pre}
 use Rattle.points.specs.Points.{RunAt, SomeRun, items-few}
 
@@ -25,24 +25,29 @@ use Rattle.points.specs.Points.{RunAt, SomeRun, items-few}
 anyRules : Rules
 anyRules = rulesOf (defaultsAt 0)
 
-module _ {z : Shape} {st : Run} {s : Sizes} (same : s ≡ sizesOf z (st .axes)) {ws xs : List ℕ} where
-  pub layer-pre : {i : ℕ} → SomeRun z i st ws xs → LayeringPre s ws xs (st .items)
+module _ {z : Shape} {st : State} {s : Sizes} (same : s ≡ sizesOf z (st .axes)) {ws xs : List ℕ} where
+  pub layer-pre : {i : ℕ} → SomeRun z i st ws xs → LayeringPre s ws xs (st .out)
   layer-pre a =
       let r = a .at in
-      subst (λ (n : Sizes). LayeringPre n ws xs (st .items)) (sym same) (layering-pre (r .granted) (r .work) (r .well))
+      subst (λ (n : Sizes). LayeringPre n ws xs (st .out)) (sym same) (layering-pre (r .granted) (r .work) (r .well))
 
-  module _ {d : Layering} {ys : List ℕ} (x : LayeredAs s ws xs (st .items) d ys) where
+  module _ {d : Layering} {ys : List ℕ} (x : LayeredAs s ws xs (st .out) d ys) where
     pub layered-at : (i : ℕ) (p : Program) (w : Work) → RunAt z i st ws xs p w
         → RunAt z (i + 1) (record {
-          items = d .out;
           axes = st .axes;
+          id = st .id;
+          turns = st .turns;
+          slots = st .slots;
+          out = d .out;
+          start = st .start;
+          waiting = st .waiting;
           merges = st .merges + d .merged;
           swaps = st .swaps;
           absorbed = st .absorbed;
         }) ws ys p (layeringPass (z .l) w)
     unfolding member anyOf
     layered-at i p w r =
-        let b = subst (λ (n : Sizes). LayeredAs n ws xs (st .items) d ys) same x in
+        let b = subst (λ (n : Sizes). LayeredAs n ws xs (st .out) d ys) same x in
         let e = layered-pass b w (r .work .axes) (sym (r .work .items)) in
         record {
           granted = granted-same (r .granted) refl (x .only .long);

@@ -10,15 +10,13 @@ use Rattle.model.specs.Rules.{Rules, rulesOf, absorptionOf}
 use Rattle.model.specs.Rounds.{Work, streamPass}
 use Rattle.layout.specs.declared.Shape.{Shape}
 use Rattle.layout.specs.Shape.{granted-same}
-use Rattle.stream_states.specs.declared.State.{State}
-use Rattle.stream_states.specs.declared.Stepped.{Stepped}
-use Rattle.stream_states.specs.declared.Stepped.the-variants as stepped
+use Rattle.steps.specs.declared.State.{State}
+use Rattle.steps.specs.declared.Step.{Step}
 use Rattle.stream_states.specs.declared.StreamRules.{StreamRules}
 use Rattle.stream_states.specs.States.{RulesAs, absorptionSaid}
 use Rattle.stream.specs.Passing.{PassAtWork, PassedAs, SomeWork, LeftP}
 use Rattle.points.specs.Demands as demands
-use Rattle.points.specs.declared.Run.{Run}
-use Rattle.points.specs.declared.Ended.the-variants.{Done, ExpansionLimit}
+use Rattle.steps.specs.declared.Step.the-variants.{Next, ExpansionLimit}
 use Rattle.points.specs.Points.{RunAt, SomeRun, SameLong, EndedAs, ended-at, ended-limit, most}
 
 -- the rules of a stream: the options', and whether rotations merge
@@ -37,30 +35,35 @@ rules-as o merging = record { lookback = refl; absorption = refl }
 pub stream-long : {z : Shape} {ws xs ws′ xs′ : List ℕ} → LeftP z ws xs ws′ xs′ → SameLong ws xs ws′ xs′
 stream-long left = record { words = left .words .long; numbers = left .numbers .long }
 
-module _ (o : Options) (merging : Bool) (st : Run) {z : Shape} {ws xs : List ℕ} where
+module _ (o : Options) (merging : Bool) (st : State) {z : Shape} {ws xs : List ℕ} where
   stream-at : {i : ℕ} {p : Program} {w : Work} → RunAt z i st ws xs p w
-      → PassAtWork z (streamRules o merging) p w (st .axes) (st .items) ws xs (rulesOf o)
+      → PassAtWork z (streamRules o merging) p w (st .axes) (st .out) ws xs (rulesOf o)
   stream-at r = demands.stream-pre (r .granted) (r .work) (r .well) (streamRules o merging) (rulesOf o) (rules-as o merging)
 
   pub stream-pre : {i : ℕ} → SomeRun z i st ws xs
-      → SomeWork (λ prog w g. PassAtWork z (streamRules o merging) prog w (st .axes) (st .items) ws xs g)
+      → SomeWork (λ prog w g. PassAtWork z (streamRules o merging) prog w (st .axes) (st .out) ws xs g)
   stream-pre s = record { prog = s .p; w = s .w; g = rulesOf o; it = stream-at (s .at) }
 
-  module _ {r : Stepped} {ws′ xs′ : List ℕ} (left : LeftP z ws xs ws′ xs′)
-      (call : (prog : Program) (w : Work) (g : Rules) → PassAtWork z (streamRules o merging) prog w (st .axes) (st .items) ws xs g
+  module _ {r : Step} {ws′ xs′ : List ℕ} (left : LeftP z ws xs ws′ xs′)
+      (call : (prog : Program) (w : Work) (g : Rules) → PassAtWork z (streamRules o merging) prog w (st .axes) (st .out) ws xs g
       → PassedAs z (streamRules o merging) prog w g r ws′ xs′) where
-    pub stream-limit : r ≡ stepped.ExpansionLimit → (i : ℕ) (p : Program) (w : Work) → RunAt z i st ws xs p w
+    pub stream-limit : r ≡ ExpansionLimit → (i : ℕ) (p : Program) (w : Work) → RunAt z i st ws xs p w
         → EndedAs z (i + 1) ExpansionLimit ws′ xs′ p (streamPass (z .l) (rulesOf o) merging w)
     stream-limit e i p w h = ended-limit (call p w (rulesOf o) (stream-at h) .refused e)
 
-    module _ {d : State} (e : r ≡ stepped.Next d) where
+    module _ {d : State} (e : r ≡ Next d) where
       pub stream-few : {i : ℕ} → SomeRun z i st ws xs → d .merges + d .absorbed ≤ most
       stream-few s = call (s .p) (s .w) (rulesOf o) (stream-at (s .at)) .few d e
 
       pub stream-done : (i : ℕ) (p : Program) (w : Work) → RunAt z i st ws xs p w
-          → EndedAs z (i + 1) (Done (record {
-            items = d .out;
+          → EndedAs z (i + 1) (Next (record {
             axes = d .axes;
+            id = d .id;
+            turns = d .turns;
+            slots = d .slots;
+            out = d .out;
+            start = d .start;
+            waiting = d .waiting;
             merges = st .merges + d .merges;
             swaps = st .swaps;
             absorbed = st .absorbed + d .absorbed;

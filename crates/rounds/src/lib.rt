@@ -6,8 +6,8 @@ ghost use Rattle.points.specs.Points.{SomeRun, OptionsIn, SameLong, RunAt, Ende
 use layout::Shape;
 use model::Options;
 use model::Strategy;
-use points::Ended;
-use points::Run;
+use steps::Step;
+use steps::State;
 
 // The passes, by the strategy.
 pub fn passes(
@@ -15,8 +15,8 @@ pub fn passes(
     numbers: &mut [u32],
     shape: Shape,
     options: Options,
-    first: Run,
-) -> Ended
+    first: State,
+) -> Step
     requires { ⌜ SomeRun shape 0 first (now words) (now numbers) × OptionsIn options ⌝ }
     ensures { λ r. ⌜ SameLong (now (words .entry)) (now (numbers .entry)) (now (words .exit)) (now (numbers .exit))
         × ((p : Program) (w : Work) → RunAt shape 0 first (now (words .entry)) (now (numbers .entry)) p w

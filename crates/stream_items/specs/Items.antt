@@ -32,18 +32,15 @@ use Rattle.items.specs.Put.{EntryPre, ItemPut, put-end-0}
 use Rattle.words_wellformed.specs.PassWords.{absorbBlocking-well}
 use Rattle.run_wellformed.specs.StreamSteps.{absorbBlocking-by}
 use Rattle.run_wellformed.specs.PassInside.{PassInside, inside-kept}
-use Rattle.carrying.specs.declared.CarriedAxis.{CarriedAxis}
-use Rattle.carrying.specs.declared.Carried.{Carried}
-use Rattle.carrying.specs.declared.Carried.the-variants.{To}
-use Rattle.stream_states.specs.declared.State.{State}
-use Rattle.stream_states.specs.declared.Stepped.{Stepped}
-use Rattle.stream_states.specs.declared.Stepped.the-variants.{Next, ExpansionLimit}
+use Rattle.steps.specs.declared.State.{State}
+use Rattle.steps.specs.declared.Step.{Step}
+use Rattle.steps.specs.declared.Step.the-variants.{Next, ExpansionLimit}
 use Rattle.stream_states.specs.declared.StreamRules.{StreamRules}
-use Rattle.stream_states.specs.States.{withAxes, lastIn, isWaiting, Waits, HoldsPass, FinePass, PassAt, absorptionSaid, RulesAs, LeftS}
+use Rattle.stream_states.specs.States.{lastIn, isWaiting, Waits, HoldsPass, FinePass, PassAt, absorptionSaid, RulesAs, LeftS}
 use Rattle.stream_states.specs.States.{left-then, granted-left, streamRows, SteppedAs, as-next, as-limit, stepped-from}
 use Rattle.stream_states.specs.Output.{holds-other, place-none}
 use Rattle.stream_states.specs.Known.{axes-count, out-few}
-use Rattle.stream_states.specs.Carrying.{CarryPass, CarryLeft, carry-left, carry-refused, carried-at, carried-id, carried-in}
+use Rattle.stream_states.specs.Carrying.{carried-same, CarryPass, CarryLeft, carry-left, carry-refused, carried-at, carried-id, carried-in}
 use Rattle.stream_states.specs.Carrying.{carried-turns}
 use Rattle.merging.specs.Carried.{CarryingAt}
 use Rattle.stream_items.specs.Waiting.{pickedBy}
@@ -74,30 +71,34 @@ blocking-is l p a id h e =
     (carryAxis l p a .out))
     (sym (ap (wordOf (carryAxis l p a .store .axes)) (e ∙ id-as l p a h) ∙ its-word l p a))
 
-module _ {z : Shape} {st : State} {a : ℕ} {ws xs : List ℕ} {r : Carried} {ws′ xs′ : List ℕ}
+module _ {z : Shape} {st : State} {a : ℕ} {ws xs : List ℕ} {r : Step} {ws′ xs′ : List ℕ}
     (call : CarryLeft z st a ws xs r ws′ xs′) {n : ℕ} {p : Pass} (h : BlockingAt z st a ws xs n p) where
   a-stored : a < length (p .store .axes)
   a-stored = omega (arith, axes-count (h .carry .at .holds), h .carry .a-in)
 
-  module _ {to : CarriedAxis} (e : r ≡ To to) {s : State} (with-axes : s ≡ withAxes (to .axes) st) where
-    pub wait-there : WaitAt z s false (to .id) ws′ xs′ n (carryAxis (z .l) p a)
-    wait-there = rw with-axes (record {
+  module _ {s : State} (e : r ≡ Next s) where
+    absorbed-same : s .absorbed ≡ st .absorbed
+    absorbed-same = ap (λ (x : State). x .absorbed) (carried-same (h .carry) call e)
+
+    out-same : s .out ≡ st .out
+    out-same = ap (λ (x : State). x .out) (carried-same (h .carry) call e)
+
+    pub wait-there : WaitAt z s false (s .id) ws′ xs′ n (carryAxis (z .l) p a)
+    wait-there = record {
       at = carried-at (h .carry) call e;
       id-in = λ f. carried-in (h .carry) call e;
-      few = h .few;
-    })
+      few = omega (arith, absorbed-same, out-same, h .few);
+    }
 
-    pub blocked-as : {q : Stepped} {ws″ xs″ : List ℕ}
-        → SteppedAs z lazy 0 (s .out) s q ws″ xs″ (waitedAll z false (to .id) (carryAxis (z .l) p a))
+    pub blocked-as : {q : Step} {ws″ xs″ : List ℕ}
+        → SteppedAs z lazy 0 (s .out) s q ws″ xs″ (waitedAll z false (s .id) (carryAxis (z .l) p a))
         → SteppedAs z lazy 0 (st .out) st q ws″ xs″ (absorbBlocking (z .l) p a)
     blocked-as {q} {ws″} {xs″} t =
-        let f = ap (λ (x : State). x .merges) with-axes in
-        let i = ap (λ (x : State). x .absorbed) with-axes in
-        let w = ap (λ (x : State). x .out) with-axes in
-        subst (SteppedAs z lazy 0 (st .out) st q ws″ xs″) (sym (blocking-is (z .l) p a (to .id) a-stored (carried-id (h .carry) call e)))
-        (stepped-from 0 (st .out) t (omega arith) (omega arith))
+        let f = ap (λ (x : State). x .merges) (carried-same (h .carry) call e) in
+        subst (SteppedAs z lazy 0 (st .out) st q ws″ xs″) (sym (blocking-is (z .l) p a (s .id) a-stored (carried-id (h .carry) call e)))
+        (stepped-from 0 (st .out) t (omega arith) (omega (arith, absorbed-same, out-same)))
 
-  pub blocked-limit : r ≡ Rattle.carrying.specs.declared.Carried.the-variants.ExpansionLimit → {ws″ xs″ : List ℕ}
+  pub blocked-limit : r ≡ ExpansionLimit → {ws″ xs″ : List ℕ}
       → SteppedAs z lazy 0 (st .out) st ExpansionLimit ws″ xs″ (absorbBlocking (z .l) p a)
   unfolding absorbBlocking
   blocked-limit e =
@@ -146,14 +147,14 @@ unfolding absorptionSaid
 said-lazy c e f = if-true _ _ e ∙ if-true _ _ f
 
 -- more may be absorbed
-more-absorbed : {z : Shape} {m : Absorption} {st : State} {r : Stepped} {ws xs : List ℕ} {p : Pass} → SteppedAs z m 1 1 st r ws xs p
+more-absorbed : {z : Shape} {m : Absorption} {st : State} {r : Step} {ws xs : List ℕ} {p : Pass} → SteppedAs z m 1 1 st r ws xs p
     → SteppedAs z m 1 (st .out + 1) st r ws xs p
 more-absorbed s = stepped-from 1 _ s (omega arith) (omega arith)
 
 module _ {z : Shape} {c : StreamRules} {g : Rules} (rules : RulesAs c g) {st : State} {a k : ℕ} {ws xs : List ℕ} {n : ℕ} {p : Pass}
     (h : RotationAt z c st a k ws xs (g .absorption) n p) where
   -- taken as it is
-  pub rotation-off : {r : Stepped} {ws′ xs′ : List ℕ} → c .«to_frame» ≡ false
+  pub rotation-off : {r : Step} {ws′ xs′ : List ℕ} → c .«to_frame» ≡ false
       → SteppedAs z (g .absorption) 1 1 st r ws′ xs′
       (takeRotation (z .l) g (c .merge) (carryAxis (z .l) p a) (imageId (z .l) (carryAxis (z .l) p a) a)
       (withSign (axisImage (z .l) (carryAxis (z .l) p a) a .turns) k))
@@ -162,7 +163,7 @@ module _ {z : Shape} {c : StreamRules} {g : Rules} (rules : RulesAs c g) {st : S
       subst (SteppedAs z (g .absorption) 1 (st .out + 1) st r ws′ xs′)
       (sym (plain-is (z .l) g (c .merge) p a k (inl (sym (rules .absorption) ∙ said-off c e)))) (more-absorbed s)
 
-  pub rotation-once : {r : Stepped} {ws′ xs′ : List ℕ} → c .«to_frame» ≡ true → c .lazy ≡ false
+  pub rotation-once : {r : Step} {ws′ xs′ : List ℕ} → c .«to_frame» ≡ true → c .lazy ≡ false
       → SteppedAs z (g .absorption) 1 1 st r ws′ xs′
       (takeRotation (z .l) g (c .merge) (carryAxis (z .l) p a) (imageId (z .l) (carryAxis (z .l) p a) a)
       (withSign (axisImage (z .l) (carryAxis (z .l) p a) a .turns) k))
@@ -180,7 +181,7 @@ module _ {z : Shape} {c : StreamRules} {st : State} {a k : ℕ} {ws xs : List �
     few = h .few-all;
   }
 
-  module _ {r : Stepped} {ws₁ xs₁ : List ℕ} (left : LeftS z ws xs ws₁ xs₁)
+  module _ {r : Step} {ws₁ xs₁ : List ℕ} (left : LeftS z ws xs ws₁ xs₁)
       (call : SteppedAs z lazy 0 (st .out) st r ws₁ xs₁ (absorbBlocking (z .l) p a)) {s : State} (e : r ≡ Next s) where
     blocked-fine : FinePass z n (absorbBlocking (z .l) p a)
     blocked-fine = record {
@@ -219,7 +220,7 @@ module _ {z : Shape} {c : StreamRules} {st : State} {a k : ℕ} {ws xs : List �
     }
 
 module _ (z : Shape) (c : StreamRules) (g : Rules) (st : State) (a k : ℕ) (p : Pass) (is-lazy : g .absorption ≡ lazy) where
-  pub rotation-lazy : {r q : Stepped} {ws₁ xs₁ ws₂ xs₂ : List ℕ} {s : State}
+  pub rotation-lazy : {r q : Step} {ws₁ xs₁ ws₂ xs₂ : List ℕ} {s : State}
       → SteppedAs z lazy 0 (st .out) st r ws₁ xs₁ (absorbBlocking (z .l) p a) → r ≡ Next s
       → SteppedAs z (g .absorption) 1 1 s q ws₂ xs₂ (takeRotation (z .l) g (c .merge) (carryAxis (z .l) (absorbBlocking (z .l) p a) a)
       (imageId (z .l) (carryAxis (z .l) (absorbBlocking (z .l) p a) a) a)
@@ -229,7 +230,7 @@ module _ (z : Shape) (c : StreamRules) (g : Rules) (st : State) (a k : ℕ) (p :
       subst (SteppedAs z (g .absorption) 1 (st .out + 1) st q ws₂ xs₂) (sym (lazy-is (z .l) g (c .merge) p a k is-lazy))
       (stepped-from 1 _ second (omega (arith, first .merges s e)) (omega (arith, first .absorbed s e)))
 
-  pub rotation-limit : {r : Stepped} {ws₁ xs₁ : List ℕ} → SteppedAs z lazy 0 (st .out) st r ws₁ xs₁ (absorbBlocking (z .l) p a)
+  pub rotation-limit : {r : Step} {ws₁ xs₁ : List ℕ} → SteppedAs z lazy 0 (st .out) st r ws₁ xs₁ (absorbBlocking (z .l) p a)
       → r ≡ ExpansionLimit
       → SteppedAs z (g .absorption) 1 (st .out + 1) st ExpansionLimit ws₁ xs₁ (streamItem (z .l) g (c .merge) p (rotation (rot a k)))
   rotation-limit {ws₁ = ws₁} {xs₁} first e =
@@ -280,7 +281,7 @@ module _ {z : Shape} {c : StreamRules} {st : State} {ws xs : List ℕ} {m : Abso
       few = h .few;
     }
 
-    pub all-as : {r : Stepped} {ws′ xs′ : List ℕ} → SteppedAs z lazy 0 (st .out) st r ws′ xs′ (waitedAll z true 0 p)
+    pub all-as : {r : Step} {ws′ xs′ : List ℕ} → SteppedAs z lazy 0 (st .out) st r ws′ xs′ (waitedAll z true 0 p)
         → SteppedAs z m 0 (st .out) st r ws′ xs′ (absorbAllWaiting (z .l) m p)
     unfolding absorbAllWaiting pickedBy
     all-as {r} {ws′} {xs′} s =
@@ -289,14 +290,17 @@ module _ {z : Shape} {c : StreamRules} {st : State} {ws xs : List ℕ} {m : Abso
 -- ---- a barrier, once none waits
 
 -- behind it a segment begins
-abbrev pub withBarrier : ℕ → State → State
-withBarrier n st = record {
-  axes = n;
+abbrev pub withBarrier : State → State
+withBarrier st = record {
+  axes = st .axes;
+  id = st .id;
+  turns = st .turns;
   slots = st .slots;
   out = st .out + 1;
   start = st .out + 1;
   waiting = st .waiting;
   merges = st .merges;
+  swaps = st .swaps;
   absorbed = st .absorbed;
 }
 
@@ -315,32 +319,31 @@ pub record BarrierAt (z : Shape) (st : State) (x : Tagged) (ws xs : List ℕ) (m
   pub tag : x .tag ≡ 0 → ⊥
   pub sign : x .angle < 4
 
-module _ {z : Shape} {st : State} {x : Tagged} {ws xs : List ℕ} {r : Carried} {ws′ xs′ : List ℕ}
+module _ {z : Shape} {st : State} {x : Tagged} {ws xs : List ℕ} {r : Step} {ws′ xs′ : List ℕ}
     (call : CarryLeft z st (x .axis) ws xs r ws′ xs′) {m : Absorption} {n : ℕ} {p : Pass} (h : BarrierAt z st x ws xs m n p) where
-  pub barrier-limit : r ≡ Rattle.carrying.specs.declared.Carried.the-variants.ExpansionLimit → {ws″ xs″ : List ℕ}
+  pub barrier-limit : r ≡ ExpansionLimit → {ws″ xs″ : List ℕ}
       → SteppedAs z m 0 0 st ExpansionLimit ws″ xs″ (barrierPut (z .l) p (x .tag - 1) (x .axis) (x .angle))
   unfolding barrierPut putOut withLast
   barrier-limit e = as-limit (carry-refused (h .carry) call e)
 
-  module _ {to : CarriedAxis} (e : r ≡ To to) where
-    pub barrier-entry : EntryPre xs′ (z .u) outRow (st .out)
+  module _ {to : State} (e : r ≡ Next to) where
+    pub barrier-entry : EntryPre xs′ (z .u) outRow (to .out)
     barrier-entry =
         record {
           long = omega (arith, h .carry .at .granted .numbers-long, call .0 .numbers .long);
           rows = omega arith;
-          here = out-few
-              (h .carry .at);
+          here = out-few (carried-at (h .carry) call e);
         }
 
-    pub barrier-small : (to .id < longestRow) × (st .out < longestRow)
+    pub barrier-small : (to .id < longestRow) × (to .out < longestRow)
     barrier-small =
         let g = h .carry .at .granted .sized in
         let k = carried-at (h .carry) call e in (
           omega (arith, carried-in (h .carry) call e, g .words-row (to .axes) (omega (arith, k .holds .f .room)), g .u-small),
-          omega (arith, out-few (h .carry .at), g .u-small),
+          omega (arith, out-few (carried-at (h .carry) call e), g .u-small),
         )
 
-    module _ {xs″ : List ℕ} (put : ItemPut xs′ (z .u) outRow (st .out) (movedBarrier x (to .id) (to .turns)) xs″) where
+    module _ {xs″ : List ℕ} (put : ItemPut xs′ (z .u) outRow (to .out) (movedBarrier x (to .id) (to .turns)) xs″) where
       pub barrier-left : LeftS z ws xs ws′ xs″
       unfolding allOf member anyOf
       barrier-left =
@@ -353,31 +356,33 @@ module _ {z : Shape} {st : State} {x : Tagged} {ws xs : List ℕ} {r : Carried} 
           said-other (movedBarrier x (to .id) (to .turns)) (h .tag)
           ∙ ap₂ (λ (i t : ℕ). barrier (x .tag - 1) i ((t + x .angle) % 4)) (carried-id (h .carry) call e) (carried-turns (h .carry) call e)
 
-      pub barrier-next : SteppedAs z m 0 0 st (Next (withBarrier (to .axes) st)) ws′ xs″
+      pub barrier-next : SteppedAs z m 0 0 st (Next (withBarrier to)) ws′ xs″
           (barrierPut (z .l) p (x .tag - 1) (x .axis) (x .angle))
       unfolding barrierPut putOut withLast member anyOf
       barrier-next =
           let k = carried-at (h .carry) call e .holds in
+          let merges = ap (λ (x : State). x .merges) (carried-same (h .carry) call e) in
+          let absorbed = ap (λ (x : State). x .absorbed) (carried-same (h .carry) call e) in
           as-next (record {
             f = holds-other (put .only) refl refl refl (k .f);
             out-is =
                 ap (λ (is : List Item). is ++ (barrier (x .tag - 1) (imageId (z .l) (carryAxis (z .l) p (x .axis)) (x .axis))
                 ((axisImage (z .l) (carryAxis (z .l) p (x .axis)) (x .axis) .turns + x .angle) % 4) ∷ [])) (k .out-is)
-                ∙ sym (put-end-0 put itemSaid ∙ ap (λ (i : Item). itemsIn xs′ (z .u) outRow 0 (st .out) ++ (i ∷ [])) its-item);
+                ∙ sym (put-end-0 put itemSaid ∙ ap (λ (i : Item). itemsIn xs′ (z .u) outRow 0 (to .out) ++ (i ∷ [])) its-item);
             begun = omega arith;
             segment = λ i a b. absurd (omega arith);
-            last-is = λ i b. sym (place-none (st .out + 1) (lastIn z xs″ i) (omega (arith, low i b)));
+            last-is = λ i b. sym (place-none (to .out + 1) (lastIn z xs″ i) (omega (arith, low i b)));
             named = λ i b. omega (arith, low i b);
             merges-are = k .merges-are;
             absorbed-are = k .absorbed-are;
             waits = λ e. listed (k .waits e);
           }) (omega arith) (omega arith)
         where
-          low : (i : ℕ) → i < z .u → lastIn z xs″ i ≤ st .out
+          low : (i : ℕ) → i < z .u → lastIn z xs″ i ≤ to .out
           low i b = rw (put .only .rows lastRow (omega arith) refl) (carried-at (h .carry) call e .holds .named i b)
 
           -- the barrier does not wait
-          listed : Waits z xs′ (st .waiting) (st .out) → Waits z xs″ (st .waiting) (st .out + 1)
+          listed : Waits z xs′ (to .waiting) (to .out) → Waits z xs″ (to .waiting) (to .out + 1)
           listed w =
               let list : row xs″ (z .u) waitingRow ≡ row xs′ (z .u) waitingRow = put .only .rows waitingRow (omega arith) refl in
               let same : (i : ℕ) → placeIn (z .u) xs″ i ≡ placeIn (z .u) xs′ i = λ i. ap (λ (r : List ℕ). getD r i 0) list in
@@ -386,11 +391,11 @@ module _ {z : Shape} {st : State} {x : Tagged} {ws xs : List ℕ} {r : Carried} 
                   below = λ i a b. omega (arith, same i, w .rising .below i a b);
                   rises = λ i j a b d. omega (arith, same i, same j, w .rising .rises i j a b d);
                 };
-                all = λ j b f. go w same j b f (ℕ-discrete j (st .out));
+                all = λ j b f. go w same j b f (ℕ-discrete j (to .out));
               }
             where
-              go : Waits z xs′ (st .waiting) (st .out) → ((i : ℕ) → placeIn (z .u) xs″ i ≡ placeIn (z .u) xs′ i) → (j : ℕ) → j < st .out + 1
-                  → isWaiting (itemAt xs″ (z .u) outRow j) ≡ true → Dec (j ≡ st .out) → Named (placeIn (z .u) xs″) 0 (st .waiting) j
+              go : Waits z xs′ (to .waiting) (to .out) → ((i : ℕ) → placeIn (z .u) xs″ i ≡ placeIn (z .u) xs′ i) → (j : ℕ) → j < to .out + 1
+                  → isWaiting (itemAt xs″ (z .u) outRow j) ≡ true → Dec (j ≡ to .out) → Named (placeIn (z .u) xs″) 0 (to .waiting) j
               go w same j b f (yes d) =
                   absurd (true≢false (sym f ∙ ap (λ (i : ℕ). isWaiting (itemAt xs″ (z .u) outRow i)) d
                   ∙ ap (λ (y : Tagged). isWaiting (itemSaid y)) (put .own) ∙ ap isWaiting its-item))

@@ -23,9 +23,9 @@ use Rattle.words_wellformed.specs.PassWords.{WellItem, afterItems, absorbAllWai
 use Rattle.run_wellformed.specs.CliffordAngles.{TurnsItem}
 use Rattle.run_wellformed.specs.StreamSteps.{absorbAllWaiting-by, streamItem-by}
 use Rattle.run_wellformed.specs.PassInside.{PassInside, inside-kept}
-use Rattle.stream_states.specs.declared.State.{State}
-use Rattle.stream_states.specs.declared.Stepped.{Stepped}
-use Rattle.stream_states.specs.declared.Stepped.the-variants.{Next, ExpansionLimit}
+use Rattle.steps.specs.declared.State.{State}
+use Rattle.steps.specs.declared.Step.{Step}
+use Rattle.steps.specs.declared.Step.the-variants.{Next, ExpansionLimit}
 use Rattle.stream_states.specs.declared.StreamRules.{StreamRules}
 use Rattle.stream_states.specs.States.{HoldsPass, PassAt, SomePass, absorptionSaid, RulesAs, LeftS, left-none, left-then, granted-left}
 use Rattle.stream_states.specs.States.{SteppedAs, as-limit, stepped-from}
@@ -77,7 +77,7 @@ module _ {z : Shape} {c : StreamRules} {st : State} {x : Tagged} {ws xs : List �
   all-long atOnce = refl
   all-long lazy = waiting-long (z .l) _ p 0 (p .out)
 
-  module _ {r : Stepped} {ws₁ xs₁ : List ℕ} (left : LeftS z ws xs ws₁ xs₁)
+  module _ {r : Step} {ws₁ xs₁ : List ℕ} (left : LeftS z ws xs ws₁ xs₁)
       (call : SteppedAs z m 0 (st .out) st r ws₁ xs₁ (absorbAllWaiting (z .l) m p)) {s : State} (e : r ≡ Next s) where
     pub same-out : s .out ≡ st .out
     same-out =
@@ -119,14 +119,14 @@ unfolding streamItem barrierPut
 barrier-item l g merging p x n = ap (streamItem l g merging p) (said-other x n)
 
 module _ (z : Shape) (c : StreamRules) (g : Rules) (st : State) (x : Tagged) (p : Pass) where
-  pub item-as-rotation : {r : Stepped} {ws xs : List ℕ} → x .tag ≡ 0
+  pub item-as-rotation : {r : Step} {ws xs : List ℕ} → x .tag ≡ 0
       → SteppedAs z (g .absorption) 1 (st .out + 1) st r ws xs (streamItem (z .l) g (c .merge) p (rotation (rot (x .axis) (x .angle))))
       → SteppedAs z (g .absorption) 1 (st .out + 1) st r ws xs (streamItem (z .l) g (c .merge) p (itemSaid x))
   item-as-rotation {r} {ws} {xs} e s =
       subst (λ (i : Item). SteppedAs z (g .absorption) 1 (st .out + 1) st r ws xs (streamItem (z .l) g (c .merge) p i))
       (sym (said-rotation x e)) s
 
-  module _ (t : x .tag ≡ 0 → ⊥) {r : Stepped} {ws₁ xs₁ : List ℕ}
+  module _ (t : x .tag ≡ 0 → ⊥) {r : Step} {ws₁ xs₁ : List ℕ}
       (first : SteppedAs z (g .absorption) 0 (st .out) st r ws₁ xs₁ (absorbAllWaiting (z .l) (g .absorption) p)) where
     pub item-limit : r ≡ ExpansionLimit
         → SteppedAs z (g .absorption) 1 (st .out + 1) st ExpansionLimit ws₁ xs₁ (streamItem (z .l) g (c .merge) p (itemSaid x))
@@ -139,7 +139,7 @@ module _ (z : Shape) (c : StreamRules) (g : Rules) (st : State) (x : Tagged) (p 
         rises = unfold barrierPut Rattle.model.specs.Stream.putOut Rattle.model.specs.Stream.withLast in
             (Rattle.theory.specs.Peak.carryAxis-rises (z .l) (absorbAllWaiting (z .l) (g .absorption) p) (x .axis))
 
-    pub item-as-barrier : {q : Stepped} {ws₂ xs₂ : List ℕ} {s : State} → r ≡ Next s → s .out ≡ st .out
+    pub item-as-barrier : {q : Step} {ws₂ xs₂ : List ℕ} {s : State} → r ≡ Next s → s .out ≡ st .out
         → SteppedAs z (g .absorption) 0 0 s q ws₂ xs₂
         (barrierPut (z .l) (absorbAllWaiting (z .l) (g .absorption) p) (x .tag - 1) (x .axis) (x .angle))
         → SteppedAs z (g .absorption) 1 (st .out + 1) st q ws₂ xs₂ (streamItem (z .l) g (c .merge) p (itemSaid x))
@@ -194,7 +194,7 @@ reading-first {z} {c} {k} {st} {ws} {xs} s = record {
 }
 
 -- what an item's call leaves
-abbrev pub ItemLeft : Shape → StreamRules → State → Tagged → List ℕ → List ℕ → Stepped → List ℕ → List ℕ → Type 0
+abbrev pub ItemLeft : Shape → StreamRules → State → Tagged → List ℕ → List ℕ → Step → List ℕ → List ℕ → Type 0
 ItemLeft z c st x ws xs r ws′ xs′ =
     LeftS z ws xs ws′ xs′
     × ((g : Rules) (n : ℕ) (p : Pass) → RulesAs c g → ItemAt z c st x ws xs (g .absorption) n p
@@ -255,7 +255,7 @@ after-rises l g merging p [] = omega arith
 after-rises l g merging p (i ∷ is) = le-trans (streamItem-rises l g merging p i) (after-rises l g merging (streamItem l g merging p i) is)
 
 -- what an answer means, where q is the model's state after k items
-pub record StreamedAs (z : Shape) (m : Absorption) (k : ℕ) (r : Stepped) (ws xs : List ℕ) (q : Pass) : Type 0 where
+pub record StreamedAs (z : Shape) (m : Absorption) (k : ℕ) (r : Step) (ws xs : List ℕ) (q : Pass) : Type 0 where
   pub next : (s : State) → r ≡ Next s → HoldsPass z m s ws xs q
   pub merges : (s : State) → r ≡ Next s → s .merges ≤ k
   pub absorbed : (s : State) → r ≡ Next s → s .absorbed ≤ k * 65536
@@ -278,7 +278,7 @@ module _ {z : Shape} {c : StreamRules} {k : ℕ} {st₀ : State} {ws₀ xs₀ ws
       ∙ ap (λ (y : Item). afterItems (z .l) g (c .merge) (streamItem (z .l) g (c .merge) (here b more read h .now) y)
       (itemsIn xs₀ (z .u) itemsRow (i + 1) (k - (i + 1)))) (sym (same-item b more read))
 
-  module _ {r : Stepped} {ws′ xs′ : List ℕ} (call : ItemLeft z c st x ws xs r ws′ xs′) where
+  module _ {r : Step} {ws′ xs′ : List ℕ} (call : ItemLeft z c st x ws xs r ws′ xs′) where
     pub reading-left : LeftS z ws₀ xs₀ ws′ xs′
     reading-left = left-then (b .left) (call .0)
 

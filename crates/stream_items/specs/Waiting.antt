@@ -28,10 +28,11 @@ use Rattle.items.specs.declared.Tagged.{Tagged}
 use Rattle.items.specs.View.{taggedAt, itemSaid, itemAt, said-rotation, said-other}
 use Rattle.items.specs.Put.{EntryPre}
 use Rattle.waiting.specs.Places.{placeIn, place-own, place-other}
-use Rattle.stream_states.specs.declared.State.{State}
-use Rattle.stream_states.specs.declared.Stepped.{Stepped}
-use Rattle.stream_states.specs.declared.Stepped.the-variants.{Next}
-use Rattle.stream_states.specs.States.{withWaiting, isWaiting, PassAt, streamRows, LeftS}
+use Rattle.steps.specs.declared.State.{State}
+use Rattle.steps.specs.declared.Step.{Step}
+use Rattle.steps.specs.declared.Step.the-variants.{Next}
+use Rattle.steps.specs.State.{withWaiting}
+use Rattle.stream_states.specs.States.{isWaiting, PassAt, streamRows, LeftS}
 use Rattle.stream_states.specs.States.{SteppedAs, as-next}
 use Rattle.stream_states.specs.Output.{never, with-list}
 use Rattle.stream_states.specs.Known.{out-long, out-few, out-item, out-rotation, axes-stored}
@@ -117,7 +118,7 @@ abbrev pub TurnOf : Shape → State → State → List ℕ → ℕ → List ℕ 
 TurnOf z st s xs i xs′ q = GoneFrom z st s xs i q ⊎ KeptIn z st s xs i xs′
 
 -- of the list: places behind i and those that are kept are as they were; place i does not wait any more, or is kept
-pub record TurnedAs (z : Shape) (st : State) (all : Bool) (id i : ℕ) (xs : List ℕ) (p : Pass) (r : Stepped)
+pub record TurnedAs (z : Shape) (st : State) (all : Bool) (id i : ℕ) (xs : List ℕ) (p : Pass) (r : Step)
     (ws′ xs′ : List ℕ) : Type 0 where
   pub stepped : SteppedAs z off 0 1 st r ws′ xs′ (waitedAt z all id (placeIn (z .u) xs i) xs p)
   pub same : (k : ℕ) → (k < st .waiting) ⊎ (i < k) → placeIn (z .u) xs′ k ≡ placeIn (z .u) xs k
@@ -156,7 +157,7 @@ module _ {z : Shape} {st : State} {all : Bool} {id i : ℕ} {ws xs : List ℕ} {
     turn-small = omega (arith, j-in, out-few (h .at), h .at .granted .sized .u-small)
 
     -- the answer, at the place that was read
-    at-place : {r : Stepped} {ws′ xs′ : List ℕ} → SteppedAs z off 0 1 st r ws′ xs′ (waitedAt z all id j xs p)
+    at-place : {r : Step} {ws′ xs′ : List ℕ} → SteppedAs z off 0 1 st r ws′ xs′ (waitedAt z all id j xs p)
         → ((k : ℕ) → (k < st .waiting) ⊎ (i < k) → placeIn (z .u) xs′ k ≡ placeIn (z .u) xs k)
         → ((s : State) → r ≡ Next s → TurnOf z st s xs i xs′ (waitedAt z all id j xs p)) → TurnedAs z st all id i xs p r ws′ xs′
     at-place {r} {ws′} {xs′} a b c = record {
@@ -234,7 +235,7 @@ module _ {z : Shape} {st : State} {all : Bool} {id i : ℕ} {ws xs : List ℕ} {
               (let b : st .waiting < z .u = omega (arith, h .kept, h .index) in b) wrote);
         }
 
-        pub turned-absorbed : {s : Bool} {r : Stepped} {ws′ xs′ : List ℕ} → s ≡ pickedBy all (y .l) (storedAxes y ws) id (x .axis)
+        pub turned-absorbed : {s : Bool} {r : Step} {ws′ xs′ : List ℕ} → s ≡ pickedBy all (y .l) (storedAxes y ws) id (x .axis)
             → s ≡ true
             → LeftAbsorbed z st ws xs r ws′ xs′
             → SteppedAs z off 0 1 st r ws′ xs′ (leaveZero j (x .axis) (absorb (z .l) p (x .axis) (x .angle)))

@@ -24,10 +24,11 @@ use Rattle.words_wellformed.specs.PassWords.{WellPut, absorbWaitingAt-well}
 use Rattle.run_wellformed.specs.CliffordAngles.{SmallItem}
 use Rattle.run_wellformed.specs.StreamSteps.{absorbWaitingAt-by}
 use Rattle.run_wellformed.specs.PassInside.{PassInside, inside-kept}
-use Rattle.stream_states.specs.declared.State.{State}
-use Rattle.stream_states.specs.declared.Stepped.{Stepped}
-use Rattle.stream_states.specs.declared.Stepped.the-variants.{Next, ExpansionLimit}
-use Rattle.stream_states.specs.States.{withWaiting, isWaiting, Waits, HoldsPass, FinePass, PassAt, SomePass, LeftS, left-none}
+use Rattle.steps.specs.declared.State.{State}
+use Rattle.steps.specs.declared.Step.{Step}
+use Rattle.steps.specs.declared.Step.the-variants.{Next, ExpansionLimit}
+use Rattle.steps.specs.State.{withWaiting}
+use Rattle.stream_states.specs.States.{isWaiting, Waits, HoldsPass, FinePass, PassAt, SomePass, LeftS, left-none}
 use Rattle.stream_states.specs.States.{left-then}
 use Rattle.stream_states.specs.States.{granted-left, SteppedAs, as-next, as-limit, stepped-from}
 use Rattle.stream_states.specs.Output.{without-list, with-list}
@@ -182,7 +183,7 @@ module _ {z : Shape} {st₀ : State} {n : ℕ} {all : Bool} {id : ℕ} {ws xs : 
       drop-long = lib.ListN.length-drop (h .place) (p .out)
 
 -- what a turn's call leaves
-abbrev pub TurnLeft : Shape → State → Bool → ℕ → ℕ → List ℕ → List ℕ → Stepped → List ℕ → List ℕ → Type 0
+abbrev pub TurnLeft : Shape → State → Bool → ℕ → ℕ → List ℕ → List ℕ → Step → List ℕ → List ℕ → Type 0
 TurnLeft z st all id i ws xs r ws′ xs′ =
     LeftS z ws xs ws′ xs′ × ((k : ℕ) (p : Pass) → TurnAt z st all id i ws xs k p → TurnedAs z st all id i xs p r ws′ xs′)
 
@@ -248,7 +249,7 @@ module _ {z : Shape} {st₀ : State} {n : ℕ} {all : Bool} {id : ℕ} {ws₀ xs
   pub scan-turn : SomePass (λ m k p. ListedAt z st₀ n all id ws₀ xs₀ k p) → SomePass (λ m k p. TurnAt z st all id i ws xs k p)
   scan-turn s = record { m = off; n = s .n; p = here (s .it) .now; it = turn-at (s .it) }
 
-  module _ {r : Stepped} {ws′ xs′ : List ℕ} (call : TurnLeft z st all id i ws xs r ws′ xs′) where
+  module _ {r : Step} {ws′ xs′ : List ℕ} (call : TurnLeft z st all id i ws xs r ws′ xs′) where
     pub scan-left : LeftS z ws₀ xs₀ ws′ xs′
     scan-left = left-then (b .left) (call .0)
 
@@ -502,7 +503,7 @@ module _ {z : Shape} {st first : State} {all : Bool} {id : ℕ} {ws xs : List �
     few = h .few;
   })
 
-  pub listed-as : {r : Stepped} {ws′ xs′ : List ℕ} {q : Pass} → SteppedAs z lazy 0 (st .waiting) first r ws′ xs′ q
+  pub listed-as : {r : Step} {ws′ xs′ : List ℕ} {q : Pass} → SteppedAs z lazy 0 (st .waiting) first r ws′ xs′ q
       → SteppedAs z lazy 0 (st .out) st r ws′ xs′ q
   listed-as s =
       let a = ap (λ (x : State). x .merges) e in

@@ -14,14 +14,13 @@ ghost use Rattle.stream_items.specs.WaitingList.{ListedAt, WaitAt, waite
 ghost use Rattle.stream_items.specs.Items.{BlockingAt, RotationAt, AllAt, BarrierAt, barrierPut};
 ghost use Rattle.stream_items.specs.Loop.{ItemAt, StreamAt, SomeStream, StreamedAs};
 use axes::Sizes;
-use carrying::Carried;
 use items::Tagged;
 use layout::ITEMS;
 use layout::OUT;
 use layout::Shape;
 use layout::WAITING;
-use stream_states::State;
-use stream_states::Stepped;
+use steps::State;
+use steps::Step;
 use stream_states::StreamRules;
 
 // Whether an output waits: an even rotation that is not by nothing.
@@ -58,7 +57,7 @@ fn waiting_turn(
     all: bool,
     id: usize,
     i: usize,
-) -> Stepped
+) -> Step
     requires { ⌜ SomePass (λ m n p. TurnAt shape st all id i (now words) (now numbers) n p) ⌝ }
     ensures { λ r. ⌜ LeftS shape (now (words .entry)) (now (numbers .entry)) (now (words .exit)) (now (numbers .exit))
         × ((n : ℕ) (p : Pass) → TurnAt shape st all id i (now (words .entry)) (now (numbers .entry)) n p
@@ -67,13 +66,13 @@ fn waiting_turn(
     let j = store::read(&numbers[..], shape.u, WAITING, i) as usize;
     let x = items::item_at(&numbers[..], shape.u, OUT, j);
     if !waits(x) {
-        return Stepped::Next(st);
+        return Step::Next(st);
     }
     let axis = x.axis as usize;
     let z = axes::sizes_of(shape, st.axes);
     if !picks(&words[..], &numbers[..], z, all, axis, id) {
         store::write(numbers, shape.u, WAITING, st.waiting, j as u32);
-        return Stepped::Next(stream_states::with_waiting(st, st.waiting + 1));
+        return Step::Next(steps::with_waiting(st, st.waiting + 1));
     }
     merging::absorb_merged(words, numbers, shape, st, j, axis, x.angle)
 }
@@ -87,7 +86,7 @@ fn absorb_listed(
     n: usize,
     all: bool,
     id: usize,
-) -> Stepped
+) -> Step
     requires { ⌜ SomePass (λ m k p. ListedAt shape first n all id (now words) (now numbers) k p) ⌝ }
     ensures { λ r. ⌜ LeftS shape (now (words .entry)) (now (numbers .entry)) (now (words .exit)) (now (numbers .exit))
         × ((k : ℕ) (p : Pass) → ListedAt shape first n all id (now (words .entry)) (now (numbers .entry)) k p
@@ -97,11 +96,11 @@ fn absorb_listed(
     for i in 0..n {
         let t = waiting_turn(words, numbers, shape, st, all, id, i);
         match t {
-            Stepped::Next(s) => st = s,
-            Stepped::ExpansionLimit => return Stepped::ExpansionLimit,
+            Step::Next(s) => st = s,
+            Step::ExpansionLimit => return Step::ExpansionLimit,
         }
     }
-    Stepped::Next(st)
+    Step::Next(st)
 }
 
 // Absorbs the rotations that wait, in order: all of them, or those that anticommute with axis id.
@@ -112,13 +111,13 @@ fn absorb_waiting(
     st: State,
     all: bool,
     id: usize,
-) -> Stepped
+) -> Step
     requires { ⌜ SomePass (λ m n p. WaitAt shape st all id (now words) (now numbers) n p) ⌝ }
     ensures { λ r. ⌜ LeftS shape (now (words .entry)) (now (numbers .entry)) (now (words .exit)) (now (numbers .exit))
         × ((n : ℕ) (p : Pass) → WaitAt shape st all id (now (words .entry)) (now (numbers .entry)) n p
         → SteppedAs shape lazy 0 (st .out) st r (now (words .exit)) (now (numbers .exit)) (waitedAll shape all id p)) ⌝ }
 {
-    let first = stream_states::with_waiting(st, 0);
+    let first = steps::with_waiting(st, 0);
     absorb_listed(words, numbers, shape, first, st.waiting, all, id)
 }
 
@@ -129,18 +128,17 @@ fn absorb_blocking(
     shape: Shape,
     st: State,
     a: usize,
-) -> Stepped
+) -> Step
     requires { ⌜ SomePass (λ m n p. BlockingAt shape st a (now words) (now numbers) n p) ⌝ }
     ensures { λ r. ⌜ LeftS shape (now (words .entry)) (now (numbers .entry)) (now (words .exit)) (now (numbers .exit))
         × ((n : ℕ) (p : Pass) → BlockingAt shape st a (now (words .entry)) (now (numbers .entry)) n p
         → SteppedAs shape lazy 0 (st .out) st r (now (words .exit)) (now (numbers .exit)) (absorbBlocking (shape .l) p a)) ⌝ }
 {
-    let c = carrying::carry(words, numbers, shape, st.axes, st.slots, a);
-    let Carried::To(to) = c else {
-        return Stepped::ExpansionLimit;
+    let c = carrying::carry(words, numbers, shape, st, a);
+    let Step::Next(s) = c else {
+        return Step::ExpansionLimit;
     };
-    let s = stream_states::with_axes(st, to.axes);
-    absorb_waiting(words, numbers, shape, s, false, to.id)
+    absorb_waiting(words, numbers, shape, s, false, s.id)
 }
 
 // A rotation by an angle about axis a: those that wait and block it are absorbed first.
@@ -152,7 +150,7 @@ fn rotation(
     st: State,
     a: usize,
     angle: u32,
-) -> Stepped
+) -> Step
     requires { ⌜ SomePass (λ m n p. RotationAt shape rules st a angle (now words) (now numbers) m n p) ⌝ }
     ensures { λ r. ⌜ LeftS shape (now (words .entry)) (now (numbers .entry)) (now (words .exit)) (now (numbers .exit))
         × ((g : Rules) (n : ℕ) (p : Pass) → RulesAs rules g
@@ -167,8 +165,8 @@ fn rotation(
         return merging::carry_and_take(words, numbers, shape, rules, st, a, angle);
     }
     let t = absorb_blocking(words, numbers, shape, st, a);
-    let Stepped::Next(s) = t else {
-        return Stepped::ExpansionLimit;
+    let Step::Next(s) = t else {
+        return Step::ExpansionLimit;
     };
     merging::carry_and_take(words, numbers, shape, rules, s, a, angle)
 }
@@ -180,17 +178,17 @@ pub fn absorb_all(
     shape: Shape,
     rules: StreamRules,
     st: State,
-) -> Stepped
+) -> Step
     requires { ⌜ SomePass (λ m n p. AllAt shape rules st (now words) (now numbers) m n p) ⌝ }
     ensures { λ r. ⌜ LeftS shape (now (words .entry)) (now (numbers .entry)) (now (words .exit)) (now (numbers .exit))
         × ((m : Absorption) (n : ℕ) (p : Pass) → AllAt shape rules st (now (words .entry)) (now (numbers .entry)) m n p
         → SteppedAs shape m 0 (st .out) st r (now (words .exit)) (now (numbers .exit)) (absorbAllWaiting (shape .l) m p)) ⌝ }
 {
     if !rules.to_frame {
-        return Stepped::Next(st);
+        return Step::Next(st);
     }
     if !rules.lazy {
-        return Stepped::Next(st);
+        return Step::Next(st);
     }
     absorb_waiting(words, numbers, shape, st, true, 0)
 }
@@ -202,7 +200,7 @@ fn put_barrier(
     shape: Shape,
     st: State,
     x: Tagged,
-) -> Stepped
+) -> Step
     requires { ⌜ SomePass (λ m n p. BarrierAt shape st x (now words) (now numbers) m n p) ⌝ }
     ensures { λ r. ⌜ LeftS shape (now (words .entry)) (now (numbers .entry)) (now (words .exit)) (now (numbers .exit))
         × ((m : Absorption) (n : ℕ) (p : Pass) → BarrierAt shape st x (now (words .entry)) (now (numbers .entry)) m n p
@@ -210,26 +208,21 @@ fn put_barrier(
         (barrierPut (shape .l) p (x .tag - 1) (x .axis) (x .angle))) ⌝ }
 {
     let a = x.axis as usize;
-    let c = carrying::carry(words, numbers, shape, st.axes, st.slots, a);
-    let Carried::To(to) = c else {
-        return Stepped::ExpansionLimit;
+    let c = carrying::carry(words, numbers, shape, st, a);
+    let Step::Next(to) = c else {
+        return Step::ExpansionLimit;
     };
-    let out = st.out;
+    let out = to.out;
     let moved = Tagged {
         tag: x.tag,
         axis: to.id as u32,
         angle: (to.turns + x.angle) % 4,
     };
     items::put_item(numbers, shape.u, OUT, out, moved);
-    Stepped::Next(State {
-        axes: to.axes,
-        slots: st.slots,
-        out: out + 1,
-        start: out + 1,
-        waiting: st.waiting,
-        merges: st.merges,
-        absorbed: st.absorbed,
-    })
+    let mut s = to;
+    s.out = out + 1;
+    s.start = out + 1;
+    Step::Next(s)
 }
 
 // One item of a stream.
@@ -240,7 +233,7 @@ fn stream_item(
     rules: StreamRules,
     st: State,
     x: Tagged,
-) -> Stepped
+) -> Step
     requires { ⌜ SomePass (λ m n p. ItemAt shape rules st x (now words) (now numbers) m n p) ⌝ }
     ensures { λ r. ⌜ LeftS shape (now (words .entry)) (now (numbers .entry)) (now (words .exit)) (now (numbers .exit))
         × ((g : Rules) (n : ℕ) (p : Pass) → RulesAs rules g
@@ -252,8 +245,8 @@ fn stream_item(
         return rotation(words, numbers, shape, rules, st, x.axis as usize, x.angle);
     }
     let t = absorb_all(words, numbers, shape, rules, st);
-    let Stepped::Next(s) = t else {
-        return Stepped::ExpansionLimit;
+    let Step::Next(s) = t else {
+        return Step::ExpansionLimit;
     };
     put_barrier(words, numbers, shape, s, x)
 }
@@ -266,7 +259,7 @@ pub fn stream_items(
     rules: StreamRules,
     first: State,
     items: usize,
-) -> Stepped
+) -> Step
     requires { ⌜ SomeStream (λ g p. StreamAt shape rules first items (now words) (now numbers) g p) ⌝ }
     ensures { λ r. ⌜ LeftS shape (now (words .entry)) (now (numbers .entry)) (now (words .exit)) (now (numbers .exit))
         × ((g : Rules) (p : Pass) → StreamAt shape rules first items (now (words .entry)) (now (numbers .entry)) g p
@@ -278,9 +271,9 @@ pub fn stream_items(
         let x = items::item_at(&numbers[..], shape.u, ITEMS, i);
         let t = stream_item(words, numbers, shape, rules, st, x);
         match t {
-            Stepped::Next(s) => st = s,
-            Stepped::ExpansionLimit => return Stepped::ExpansionLimit,
+            Step::Next(s) => st = s,
+            Step::ExpansionLimit => return Step::ExpansionLimit,
         }
     }
-    Stepped::Next(st)
+    Step::Next(st)
 }

@@ -14,7 +14,7 @@ use Rattle.axes.specs.Held.{sizesOf, Stored, held-stored, held-count}
 use Rattle.items.specs.View.{taggedAt, itemSaid, itemAt, said-rotation, view-at-0, view-length}
 use Rattle.words_wellformed.specs.PassWords.{WellPut}
 use Rattle.waiting.specs.Places.{rising-few}
-use Rattle.stream_states.specs.declared.State.{State}
+use Rattle.steps.specs.declared.State.{State}
 use Rattle.stream_states.specs.States.{HoldsPass, PassAt}
 
 module _ {z : Shape} {m : Absorption} {st : State} {ws xs : List ℕ} {p : Pass} (h : HoldsPass z m st ws xs p) where

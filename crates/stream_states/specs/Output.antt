@@ -25,8 +25,9 @@ use Rattle.items.specs.Put.{ItemPut, taggedRotation, put-set-0, put-end-0}
 use Rattle.words_wellformed.specs.Conjugation.{value-eq}
 use Rattle.waiting.specs.Places.{placeIn, Rising, Named, rising-as, named-as}
 use Rattle.clifford.specs.Holds.{imageIn, Holds}
-use Rattle.stream_states.specs.declared.State.{State}
-use Rattle.stream_states.specs.States.{withWaiting, heldOf, placeSaid, lastIn, isWaiting, Waits, HoldsPass}
+use Rattle.steps.specs.declared.State.{State}
+use Rattle.steps.specs.State.{withWaiting}
+use Rattle.stream_states.specs.States.{heldOf, placeSaid, lastIn, isWaiting, Waits, HoldsPass}
 
 -- ---- F stays where other rows change
 
@@ -121,16 +122,19 @@ module _ {z : Shape} {m : Absorption} {st : State} {ws xs xs′ rs : List ℕ} {
   same-last = o .rows lastRow (omega arith) b
 
   -- F, the axes and the counters may be others
-  pub pass-other : {ws′ : List ℕ} {n s i j : ℕ} (q : Pass) → Holds z n s ws′ xs′ (heldOf q) → q .out ≡ p .out → q .last ≡ p .last
+  pub pass-other : {ws′ : List ℕ} {n a e s i j : ℕ} (q : Pass) → Holds z n s ws′ xs′ (heldOf q) → q .out ≡ p .out → q .last ≡ p .last
       → q .merges ≡ i
       → q .absorbed ≡ j
       → HoldsPass z m (record {
         axes = n;
+        id = a;
+        turns = e;
         slots = s;
         out = st .out;
         start = st .start;
         waiting = st .waiting;
         merges = i;
+        swaps = st .swaps;
         absorbed = j;
       }) ws′ xs′ q
   pass-other q f same-out same-places merges absorbed = record {
@@ -258,11 +262,14 @@ module _ {z : Shape} {m : Absorption} {st : State} {ws xs xs′ : List ℕ} {p :
 abbrev pub withOut : State → State
 withOut st = record {
   axes = st .axes;
+  id = st .id;
+  turns = st .turns;
   slots = st .slots;
   out = st .out + 1;
   start = st .start;
   waiting = st .waiting;
   merges = st .merges;
+  swaps = st .swaps;
   absorbed = st .absorbed;
 }
 

@@ -22,34 +22,10 @@ use Rattle.waiting.specs.Places.{placeIn, Rising, Named}
 use Rattle.words_wellformed.specs.PassWords.{WellPass}
 use Rattle.clifford.specs.Holds.{Holds, maskPlace}
 use Rattle.run_wellformed.specs.PassInside.{PassInside}
-use Rattle.stream_states.specs.declared.State.{State}
-use Rattle.stream_states.specs.declared.Stepped.{Stepped}
-use Rattle.stream_states.specs.declared.Stepped.the-variants.{Next, ExpansionLimit}
+use Rattle.steps.specs.declared.State.{State}
+use Rattle.steps.specs.declared.Step.{Step}
+use Rattle.steps.specs.declared.Step.the-variants.{Next, ExpansionLimit}
 use Rattle.stream_states.specs.declared.StreamRules.{StreamRules}
-
--- so many axes
-abbrev pub withAxes : ℕ → State → State
-withAxes n st = record {
-  axes = n;
-  slots = st .slots;
-  out = st .out;
-  start = st .start;
-  waiting = st .waiting;
-  merges = st .merges;
-  absorbed = st .absorbed;
-}
-
--- so many places named
-abbrev pub withWaiting : ℕ → State → State
-withWaiting n st = record {
-  axes = st .axes;
-  slots = st .slots;
-  out = st .out;
-  start = st .start;
-  waiting = n;
-  merges = st .merges;
-  absorbed = st .absorbed;
-}
 
 -- F and its store
 abbrev pub heldOf : Pass → Touched
@@ -135,7 +111,7 @@ granted-left g h = granted-same g (h .words .long) (h .numbers .long)
 
 -- what an answer means, where p is the model's next state: it is held, with at most c merges and d absorbed rotations more,
 -- or its peak is above the limit
-pub record SteppedAs (z : Shape) (m : Absorption) (c d : ℕ) (st : State) (r : Stepped) (ws xs : List ℕ) (p : Pass) : Type 0 where
+pub record SteppedAs (z : Shape) (m : Absorption) (c d : ℕ) (st : State) (r : Step) (ws xs : List ℕ) (p : Pass) : Type 0 where
   pub next : (s : State) → r ≡ Next s → HoldsPass z m s ws xs p
   pub merges : (s : State) → r ≡ Next s → s .merges ≤ st .merges + c
   pub absorbed : (s : State) → r ≡ Next s → s .absorbed ≤ st .absorbed + d
@@ -160,7 +136,7 @@ as-limit h = record {
 }
 
 -- counted from an earlier state
-pub stepped-from : {z : Shape} {m : Absorption} {c d : ℕ} (e f : ℕ) {s st : State} {r : Stepped} {ws xs : List ℕ} {p : Pass}
+pub stepped-from : {z : Shape} {m : Absorption} {c d : ℕ} (e f : ℕ) {s st : State} {r : Step} {ws xs : List ℕ} {p : Pass}
     → SteppedAs z m c d s r ws xs p → s .merges + c ≤ st .merges + e → s .absorbed + d ≤ st .absorbed + f
     → SteppedAs z m e f st r ws xs p
 stepped-from e f k a b = record {

@@ -1,8 +1,8 @@
 -- The axis's qubits are touched, then all images change. Assumes nothing.
 use Rattle.absorbing.specs.AxisQubits.{axis-small}
 use Rattle.absorbing.specs.Absorbing.{absorb-limit, absorb-turns, absorb-small, absorb-left, absorb-holds}
-use borrow.Author.Needs.{needs}
 use native.Mathlib.Omega.{arith}
+use borrow.Author.Needs.{needs}
 use Rattle.absorbing.proofs.absorb.Statement.{statement}
 use Rattle.absorbing.proofs.absorb.Tie as tie
 
@@ -23,8 +23,8 @@ same-length-2 c = search needs
 
 returns : tie.Need-returns
 returns c =
-    let at-touch-all = c .before .before .before .before .before .before in
-    (at-touch-all .touch-all .ensures .0, absorb-limit (at-touch-all .touch-all .ensures) (c .enum-told .given .1))
+    let touch-all = c .before .before .before .before .before .before in
+    (touch-all .touch-all .ensures .0, absorb-limit (touch-all .touch-all .ensures) (c .enum-told .given .1))
 
 axis-at-requires : tie.Need-axis-at-requires
 axis-at-requires c κs =
@@ -33,19 +33,19 @@ axis-at-requires c κs =
 
 mul-turn-images : tie.Need-mul-turn-images
 mul-turn-images c =
-    let at-axis-at = c .before .before in
-    let at-t = at-axis-at .before .before in
-    let at-touch-all = at-t .before .before .before .before .before .before in
-    let start = at-touch-all .before .before .before .before .before in
-    omega (arith, absorb-small (at-touch-all .touch-all .ensures) (at-t .t .given .1) (at-axis-at .axis-at .ensures) (start .pre))
+    let axis-at = c .before .before .before in
+    let t = axis-at .before .before in
+    let touch-all = t .before .before .before .before .before .before in
+    let start = touch-all .before .before .before .before .before in
+    omega (arith, absorb-small (touch-all .touch-all .ensures) (t .t .given .1) (axis-at .axis-at .ensures) (start .pre))
 
 turn-images-requires : tie.Need-turn-images-requires
 turn-images-requires c κs =
-    let at-axis-at = c .before .before in
-    let at-t = at-axis-at .before .before in
-    let at-touch-all = at-t .before .before .before .before .before .before in
-    let start = at-touch-all .before .before .before .before .before in
-    absorb-turns (at-touch-all .touch-all .ensures) (at-t .t .given .1) (at-axis-at .axis-at .ensures) (start .pre)
+    let axis-at = c .before .before .before in
+    let t = axis-at .before .before in
+    let touch-all = t .before .before .before .before .before .before in
+    let start = touch-all .before .before .before .before .before in
+    absorb-turns (touch-all .touch-all .ensures) (t .t .given .1) (axis-at .axis-at .ensures) (start .pre)
 
 same-length-3 : tie.Need-same-length-3
 same-length-3 c = search needs
@@ -55,16 +55,14 @@ same-length-4 c = search needs
 
 returns-2 : tie.Need-returns-2
 returns-2 c =
-    let at-turn-images = c .before .before .before .before in
-    let at-axis-at = at-turn-images .before .before .before in
-    let at-t = at-axis-at .before .before in
-    let at-touch-all = at-t .before .before .before .before .before .before in
-    let start = at-touch-all .before .before .before .before .before in (
-      absorb-left (at-touch-all .touch-all .ensures) (at-t .t .given .1) (at-axis-at .axis-at .ensures) (start .pre)
-          (at-turn-images .turn-images .ensures),
-      λ t h. absorb-holds (at-touch-all .touch-all .ensures) (at-t .t .given .1) (at-axis-at .axis-at .ensures) h
-          (at-turn-images .turn-images .ensures),
-    )
+    let turn-images = c .before .before .before .before in
+    let axis-at = turn-images .before .before .before .before in
+    let t′ = axis-at .before .before in
+    let touch-all = t′ .before .before .before .before .before .before in
+    let start = touch-all .before .before .before .before .before in
+    (absorb-left (touch-all .touch-all .ensures) (t′ .t .given .1) (axis-at .axis-at .ensures) (start .pre)
+    (turn-images .turn-images .ensures), λ t h. absorb-holds (touch-all .touch-all .ensures) (t′ .t .given .1) (axis-at .axis-at .ensures) h
+    (turn-images .turn-images .ensures))
 
 pub absorb-spec : {M : Type 1} → statement M
 absorb-spec =

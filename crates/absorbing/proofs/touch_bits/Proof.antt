@@ -3,44 +3,35 @@ use Rattle.absorbing.specs.AxisQubits.{BitsLoop, bits-first, bits-turn, 
 use lib.Count.{trailing-le}
 use Rattle.bits.specs.LowestBit.{clear-lt}
 use mathlib.Core.Path.{refl}
-use borrow.Author.Needs.{needs}
 use native.Mathlib.Omega.{arith}
+use borrow.Author.Needs.{needs}
 use Rattle.absorbing.proofs.touch_bits.Statement.{statement}
 use Rattle.absorbing.proofs.touch_bits.Tie as tie
 
 abbrev Inv-loop : tie.InvT-loop
-Inv-loop ws₀ xs₀ z n m₀ j w m₁ w₁ ws xs m rest = BitsLoop z n m₀ j w ws₀ xs₀ ws xs m rest
+Inv-loop ws₀ xs₀ z j w first w₁ ws xs st rest = BitsLoop z first j w ws₀ xs₀ ws xs st rest
 
 abbrev μ-loop : tie.MeasureT-loop
-μ-loop ws₀ xs₀ z n m₀ j w m₁ w₁ ws xs m rest = rest
+μ-loop ws₀ xs₀ z j w first w₁ ws xs st rest = rest
 
 loop-holds : tie.Need-loop-holds Inv-loop μ-loop
-loop-holds c =
-    let start = c .before .before in
-    bits-first (start .fits .acted .fits)
+loop-holds c = bits-first (c .before .before .fits .acted .fits)
 
 mul-q : tie.Need-mul-q Inv-loop μ-loop
-mul-q c =
-    let start = c .before .before .before .before in
-    omega (arith, number-small (start .pre .it))
+mul-q c = omega (arith, number-small (c .before .before .before .before .pre .it))
 
 cast-q : tie.Need-cast-q Inv-loop μ-loop
-cast-q c =
-    let at-loop = c .before in
-    omega (arith, trailing-le 64 (at-loop .loop .rest))
+cast-q c = omega (arith, trailing-le 64 (c .before .loop .rest))
 
 add-q : tie.Need-add-q Inv-loop μ-loop
-add-q c =
-    let at-loop = c .before in
-    let start = at-loop .before .before .before in
-    omega (arith, number-small (start .pre .it), trailing-le 64 (at-loop .loop .rest))
+add-q c = omega (arith, number-small (c .before .before .before .before .pre .it), trailing-le 64 (c .before .loop .rest))
 
 touch-requires : tie.Need-touch-requires Inv-loop μ-loop
 touch-requires c κs =
-    let at-loop-test = c .before .before in
-    let at-loop = at-loop-test .before in
-    let start = at-loop .before .before .before in
-    bits-turn (at-loop .loop .inv) (at-loop-test .loop-test .taken) refl (start .pre)
+    let turn = c .before .before in
+    let head = turn .before in
+    let start = head .before .before .before in
+    bits-turn (head .loop .inv) (turn .loop-test .taken) refl (start .pre)
 
 enum-known-t : tie.Need-enum-known-t Inv-loop μ-loop
 enum-known-t c = search needs
@@ -50,26 +41,25 @@ enum-told c = search needs
 
 same-length : tie.Need-same-length Inv-loop μ-loop
 same-length c =
-    let at-touch = c .before .before .before .before .before .before in
-    let at-loop-test = at-touch .before .before .before in
-    let at-loop = at-loop-test .before in
-    bits-left (at-loop .loop .inv) (at-loop-test .loop-test .taken) refl (at-touch .touch .ensures) .words .long
+    let touch = c .before .before .before .before .before .before in
+    let turn = touch .before .before .before in
+    let head = turn .before in
+    bits-left (head .loop .inv) (turn .loop-test .taken) refl (touch .touch .ensures) .words .long
 
 same-length-2 : tie.Need-same-length-2 Inv-loop μ-loop
 same-length-2 c =
-    let at-touch = c .before .before .before .before .before .before in
-    let at-loop-test = at-touch .before .before .before in
-    let at-loop = at-loop-test .before in
-    bits-left (at-loop .loop .inv) (at-loop-test .loop-test .taken) refl (at-touch .touch .ensures) .numbers .long
+    let touch = c .before .before .before .before .before .before in
+    let turn = touch .before .before .before in
+    let head = turn .before in
+    bits-left (head .loop .inv) (turn .loop-test .taken) refl (touch .touch .ensures) .numbers .long
 
 returns : tie.Need-returns Inv-loop μ-loop
 returns c =
-    let at-touch = c .before .before .before .before .before .before in
-    let at-loop-test = at-touch .before .before .before in
-    let at-loop = at-loop-test .before in (
-      bits-left (at-loop .loop .inv) (at-loop-test .loop-test .taken) refl (at-touch .touch .ensures),
-      bits-limit (at-loop .loop .inv) (at-loop-test .loop-test .taken) refl (at-touch .touch .ensures) (c .enum-told .given .1),
-    )
+    let touch = c .before .before .before .before .before .before in
+    let turn = touch .before .before .before in
+    let head = turn .before in
+    (bits-left (head .loop .inv) (turn .loop-test .taken) refl (touch .touch .ensures), bits-limit (head .loop .inv)
+    (turn .loop-test .taken) refl (touch .touch .ensures) (c .enum-told .given .1))
 
 sub-rest : tie.Need-sub-rest Inv-loop μ-loop
 sub-rest c = omega arith
@@ -79,26 +69,21 @@ loop-less c = clear-lt _ (omega arith)
 
 loop-again : tie.Need-loop-again Inv-loop μ-loop
 loop-again c =
-    let at-t = c .before in
-    let at-touch = at-t .before .before .before .before .before .before in
-    let at-loop-test = at-touch .before .before .before in
-    let at-loop = at-loop-test .before in
-    bits-next (at-loop .loop .inv) (at-loop-test .loop-test .taken) refl (at-touch .touch .ensures) _ (at-t .t .given .1)
+    let t = c .before in
+    let touch = t .before .before .before .before .before .before in
+    let turn = touch .before .before .before in
+    let head = turn .before in
+    let start = head .before .before .before in
+    bits-next (head .loop .inv) (turn .loop-test .taken) refl (touch .touch .ensures) (start .pre) _ (t .t .given .1)
 
 same-length-3 : tie.Need-same-length-3 Inv-loop μ-loop
-same-length-3 c =
-    let at-loop = c .before in
-    at-loop .loop .inv .left .words .long
+same-length-3 c = c .before .loop .inv .left .words .long
 
 same-length-4 : tie.Need-same-length-4 Inv-loop μ-loop
-same-length-4 c =
-    let at-loop = c .before in
-    at-loop .loop .inv .left .numbers .long
+same-length-4 c = c .before .loop .inv .left .numbers .long
 
 returns-2 : tie.Need-returns-2 Inv-loop μ-loop
-returns-2 c =
-    let at-loop = c .before in
-    (at-loop .loop .inv .left, bits-end (at-loop .loop .inv) (c .loop-test .left))
+returns-2 c = (c .before .loop .inv .left, bits-end (c .before .loop .inv) (c .loop-test .left))
 
 pub touch-bits-spec : {M : Type 1} → statement M
 touch-bits-spec =

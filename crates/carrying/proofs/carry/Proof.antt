@@ -16,20 +16,24 @@ fixes-requires : tie.Need-fixes-requires
 fixes-requires c κs =
     let mask-at = c .before in
     let axis-at = mask-at .before in
-    let start = axis-at .before .before .before in (
-      omega (arith, axis-at .axis-at .ensures, carry-words (start .pre .it)),
-      omega (arith, mask-at .mask-at .ensures, carry-words (start .pre .it)),
-    )
+    let start = axis-at .before .before .before in
+    (omega (arith, axis-at .axis-at .ensures, carry-words (start .pre .it)), omega
+    (arith, mask-at .mask-at .ensures, carry-words (start .pre .it)))
+
+with-image-requires : tie.Need-with-image-requires
+with-image-requires c κs = search needs
 
 same-length : tie.Need-same-length
 same-length c = search needs
 
 returns : tie.Need-returns
 returns c =
-    let fixes = c .before in
+    let test = c .before in
+    let fixes = test .before in
     let mask-at = fixes .before .before in
     let axis-at = mask-at .before in
-    (left-fixed _ _ _, λ t h. fixed-to h (axis-at .axis-at .ensures) (mask-at .mask-at .ensures) (fixes .fixes .ensures (c .if1 .taken)))
+    (left-fixed _ _ _, λ t h. fixed-to h (axis-at .axis-at .ensures) (mask-at .mask-at .ensures) (fixes .fixes .ensures (test .if1 .taken))
+    (c .with-image .ensures))
 
 carry-word-requires : tie.Need-carry-word-requires
 carry-word-requires c κs =
@@ -52,7 +56,7 @@ intern-requires : tie.Need-intern-requires
 intern-requires c κs =
     let sizes-of = c .before .before in
     let scratch-at = sizes-of .before in
-    let carry-word = scratch-at .before .before .before .before in
+    let carry-word = scratch-at .before .before .before .before .before in
     let start = carry-word .before .before .before .before .before .before .before .before .before .before in
     intern-there (start .pre .it) (carry-word .carry-word .ensures _ (carry-at (start .pre .it))) (scratch-at .scratch-at .ensures)
     (sizes-of .sizes-of .ensures) (omega (arith, start .pre .it .axis .at .holds .room))
@@ -74,21 +78,20 @@ returns-2 c =
     let intern = c .before .before .before .before .before .before in
     let sizes-of = intern .before .before .before in
     let scratch-at = sizes-of .before in
-    let carry-word = scratch-at .before .before .before .before in
-    let start = carry-word .before .before .before .before .before .before .before .before .before .before in (
-      limit-left (start .pre .it) (carry-word .carry-word .ensures _ (carry-at (start .pre .it))) (scratch-at .scratch-at .ensures)
-          (sizes-of .sizes-of .ensures) (intern .intern .ensures) (c .enum-told .given .1),
-      λ t h. carry-limit h
-          (carry-word .carry-word .ensures t (carry-at h)) (scratch-at .scratch-at .ensures) (sizes-of .sizes-of .ensures)
-          (intern .intern .ensures) (c .enum-told .given .1),
-    )
+    let carry-word = scratch-at .before .before .before .before .before in
+    let start = carry-word .before .before .before .before .before .before .before .before .before .before in
+    (limit-left (start .pre .it) (carry-word .carry-word .ensures _ (carry-at (start .pre .it))) (scratch-at .scratch-at .ensures)
+    (sizes-of .sizes-of .ensures) (intern .intern .ensures) (c .enum-told .given .1), λ t h. carry-limit h
+    (carry-word .carry-word .ensures t (carry-at h)) (scratch-at .scratch-at .ensures) (sizes-of .sizes-of .ensures)
+    (intern .intern .ensures) (c .enum-told .given .1))
 
 count-with-requires : tie.Need-count-with-requires
 count-with-requires c κs =
-    let intern = c .before .before .before .before .before .before .before in
-    let carry-word = intern .before .before .before .before .before .before .before .before in
-    let start = carry-word .before .before .before .before .before .before .before .before .before .before in
+    let start = c .before .before .before .before .before .before .before .before .before .before .before .before .before .before .before .before .before .before .before .before .before .before .before .before .before .before in
     omega (arith, carry-numbers (start .pre .it))
+
+with-image-requires-2 : tie.Need-with-image-requires-2
+with-image-requires-2 c κs = search needs
 
 same-length-4 : tie.Need-same-length-4
 same-length-4 c = search needs
@@ -98,18 +101,17 @@ same-length-5 c = search needs
 
 returns-3 : tie.Need-returns-3
 returns-3 c =
-    let i = c .before .before in
+    let count-with = c .before in
+    let i = count-with .before .before in
     let intern = i .before .before .before .before .before .before in
     let sizes-of = intern .before .before .before in
     let scratch-at = sizes-of .before in
-    let carry-word = scratch-at .before .before .before .before in
-    let start = carry-word .before .before .before .before .before .before .before .before .before .before in (
-      carry-left (start .pre .it) (carry-word .carry-word .ensures _ (carry-at (start .pre .it))) (scratch-at .scratch-at .ensures)
-          (sizes-of .sizes-of .ensures) (intern .intern .ensures) (i .i .given .1),
-      λ t h. carry-to h
-          (carry-word .carry-word .ensures t (carry-at h)) (scratch-at .scratch-at .ensures) (sizes-of .sizes-of .ensures)
-          (intern .intern .ensures) (i .i .given .1) (c .count-with .ensures),
-    )
+    let carry-word = scratch-at .before .before .before .before .before in
+    let start = carry-word .before .before .before .before .before .before .before .before .before .before in
+    (carry-left (start .pre .it) (carry-word .carry-word .ensures _ (carry-at (start .pre .it))) (scratch-at .scratch-at .ensures)
+    (sizes-of .sizes-of .ensures) (intern .intern .ensures) (i .i .given .1), λ t h. carry-to h
+    (carry-word .carry-word .ensures t (carry-at h)) (scratch-at .scratch-at .ensures) (sizes-of .sizes-of .ensures)
+    (intern .intern .ensures) (i .i .given .1) (count-with .count-with .ensures) (c .with-image2 .ensures))
 
 pub carry-spec : {M : Type 1} → statement M
 carry-spec =
@@ -118,6 +120,7 @@ carry-spec =
     axis-at-requires
     mask-at-requires
     fixes-requires
+    with-image-requires
     same-length
     returns
     carry-word-requires
@@ -132,6 +135,7 @@ carry-spec =
     same-length-3
     returns-2
     count-with-requires
+    with-image-requires-2
     same-length-4
     same-length-5
     returns-3)

@@ -1,14 +1,50 @@
 -- Packing, then the passes. Assumes nothing.
-use Rattle.decision.specs.Decision.{decide-passes, decide-odd, decide-limit}
+use mathlib.Core.Path.{_≡_, ap}
+use mathlib.Core.List.{[], _∷_}
+use mathlib.Core.Logic.{inl, inr}
+use Prim.Native.Nat.{ℕ}
+use types.Run.{OneOf}
+use denote.Enum.Declared.{tagOf}
+use Rattle.model.specs.declared.Answer.the-variants.{Accepted}
+use Rattle.model.specs.Interface.{numberOf}
+use Rattle.packing_answer.specs.declared.Packed.{Packed}
+use Rattle.packing_answer.specs.declared.Packed.the-variants.{Axes, NonHermitianAxis, ExpansionLimit}
+use Rattle.packing_answer.specs.Answer.{packingAnswer}
+use Rattle.packing_answer.proofs.Packed.{the-type}
+use Rattle.decision.specs.Decision.{decide-passes, decide-refused}
+use native.Mathlib.Omega.{arith}
 use borrow.Author.Needs.{needs}
 use Rattle.decision.proofs.decide.Statement.{statement}
 use Rattle.decision.proofs.decide.Tie as tie
+
+-- without axes packing refuses
+refuses : (r : Packed) → OneOf (1 ∷ 2 ∷ []) (tagOf the-type r) → packingAnswer r ≡ Accepted → ⊥
+refuses (Axes n) (inl e) g = omega (arith, e)
+refuses (Axes n) (inr e) g = omega (arith, e)
+refuses NonHermitianAxis k g = let z : _≡_ {A = ℕ} 9 0 = ap numberOf g in omega arith
+refuses ExpansionLimit k g = let z : _≡_ {A = ℕ} 10 0 = ap numberOf g in omega arith
 
 pack-requires : tie.Need-pack-requires
 pack-requires c κs = c .before .before .before .before .before .before .before .pre .0
 
 enum-known-p : tie.Need-enum-known-p
 enum-known-p c = search needs
+
+answer-requires : tie.Need-answer-requires
+answer-requires c κs = search needs
+
+same-length : tie.Need-same-length
+same-length c = c .before .before .before .before .before .before .pack .ensures .words .long
+
+same-length-2 : tie.Need-same-length-2
+same-length-2 c = c .before .before .before .before .before .before .pack .ensures .numbers .long
+
+returns : tie.Need-returns
+returns c =
+    let match = c .before in
+    let pack = match .before .before .before .before .before in
+    let start = pack .before .before .before .before .before .before .before .before in
+    decide-refused (pack .pack .ensures) (start .args .options) (c .answer .ensures) (refuses (pack .pack .result) (match .match .keys2))
 
 passes-requires : tie.Need-passes-requires
 passes-requires c κs =
@@ -17,53 +53,23 @@ passes-requires c κs =
     let start = pack .before .before .before .before .before .before .before .before in
     (record { ws₀ = _; xs₀ = _; r = _; pre = start .pre .0; done = pack .pack .ensures; accepted = p .p .given .1 }, start .pre .1)
 
-enum-told : tie.Need-enum-told
-enum-told c = search needs
-
-enum-told-2 : tie.Need-enum-told-2
-enum-told-2 c = search needs
-
-same-length : tie.Need-same-length
-same-length c =
+same-length-3 : tie.Need-same-length-3
+same-length-3 c =
     let passes = c .before .before .before .before in
     let pack = passes .before .before .before .before .before .before .before .before .before .before in
     decide-passes (pack .pack .ensures) (passes .passes .ensures) .long .words
 
-same-length-2 : tie.Need-same-length-2
-same-length-2 c =
+same-length-4 : tie.Need-same-length-4
+same-length-4 c =
     let passes = c .before .before .before .before in
     let pack = passes .before .before .before .before .before .before .before .before .before .before in
     decide-passes (pack .pack .ensures) (passes .passes .ensures) .long .numbers
 
-returns : tie.Need-returns
-returns c =
+returns-2 : tie.Need-returns-2
+returns-2 c =
     let passes = c .before .before .before .before in
     let pack = passes .before .before .before .before .before .before .before .before .before .before in
     decide-passes (pack .pack .ensures) (passes .passes .ensures)
-
-same-length-3 : tie.Need-same-length-3
-same-length-3 c = c .before .before .before .before .before .before .pack .ensures .words .long
-
-same-length-4 : tie.Need-same-length-4
-same-length-4 c = c .before .before .before .before .before .before .pack .ensures .numbers .long
-
-returns-2 : tie.Need-returns-2
-returns-2 c =
-    let pack = c .before .before .before .before .before .before in
-    let start = pack .before .before .before .before .before .before .before .before in
-    decide-odd (pack .pack .ensures) (start .args .options) (c .enum-told .given .1)
-
-same-length-5 : tie.Need-same-length-5
-same-length-5 c = c .before .before .before .before .before .before .pack .ensures .words .long
-
-same-length-6 : tie.Need-same-length-6
-same-length-6 c = c .before .before .before .before .before .before .pack .ensures .numbers .long
-
-returns-3 : tie.Need-returns-3
-returns-3 c =
-    let pack = c .before .before .before .before .before .before in
-    let start = pack .before .before .before .before .before .before .before .before in
-    decide-limit (pack .pack .ensures) (start .args .options) (c .enum-told2 .given .1)
 
 pub decide-spec : {M : Type 1} → statement M
 decide-spec =
@@ -71,15 +77,11 @@ decide-spec =
     (tie.spec
     pack-requires
     enum-known-p
-    passes-requires
-    enum-told
-    enum-told-2
+    answer-requires
     same-length
     same-length-2
     returns
+    passes-requires
     same-length-3
     same-length-4
-    returns-2
-    same-length-5
-    same-length-6
-    returns-3)
+    returns-2)

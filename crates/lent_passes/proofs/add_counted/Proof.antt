@@ -45,8 +45,8 @@ use Rattle.lent_passes.specs.Counted.{raised}
 use Rattle.model.specs.declared.Counters.{Counters}
 use Rattle.model.proofs.Counters as T
 use Rattle.model.proofs.Counters.Laws as T′
-use Rattle.stream_states.proofs.Stepped as E
-use Rattle.stream_states.proofs.Stepped.Laws as E′
+use Rattle.steps.proofs.Step as E
+use Rattle.steps.proofs.Step.Laws as E′
 use denote.Enum.Laws as EL
 use Rattle.lent_passes.specs.declared.Counted.{Counted}
 use Rattle.lent_passes.proofs.Counted as P

@@ -52,9 +52,9 @@ use Rattle.layout.proofs.Shape.Laws as S′
 use Rattle.stream_states.specs.declared.StreamRules.{StreamRules}
 use Rattle.stream_states.proofs.StreamRules as L
 use Rattle.stream_states.proofs.StreamRules.Laws as L′
-use Rattle.stream_states.specs.declared.Stepped.{Stepped}
-use Rattle.stream_states.proofs.Stepped as E
-use Rattle.stream_states.proofs.Stepped.Laws as E′
+use Rattle.steps.specs.declared.Step.{Step}
+use Rattle.steps.proofs.Step as E
+use Rattle.steps.proofs.Step.Laws as E′
 use Rattle.stream.specs.Passing.{PassAtWork, SomeWork}
 use Rattle.lent_passes.specs.declared.Counted.{Counted}
 use Rattle.lent_passes.proofs.Counted as R
@@ -197,10 +197,10 @@ module _ {M : Type 1} (𝓤 : URA M) (H : Heap 𝓤) (A : Atoms 𝓤) (W : Given
   abbrev Called : Counted → Finals → Type 0
   Called r zs = CountedAs z l k n (now xw) (now xx) r (zs .0) (zs .1 .0)
 
-  abbrev Added : Counted → Stepped → Counters → Type 0
+  abbrev Added : Counted → Step → Counters → Type 0
   Added r a h = (h ≡ raised (now xs) (r .merges) (r .absorbed)) × (a ≡ r .outcome)
 
-  abbrev Streamed : Stepped → Finals → Counters → Type 0
+  abbrev Streamed : Step → Finals → Counters → Type 0
   Streamed a zs h = StreamedAs z l k n (now xw) (now xx) (now xs) a (zs .0) (zs .1 .0) h
 
   -- what comes in is what the core asks, and the counters with their token
@@ -223,12 +223,12 @@ module _ {M : Type 1} (𝓤 : URA M) (H : Heap 𝓤) (A : Atoms 𝓤) (W : Given
       move ! (2 ∷ 0 ∷ []) $ fjoin ! $ move ! (1 ∷ 0 ∷ []) $ done !
 
   -- what there is at exit
-  abbrev Exit : Stepped → Val → Finals → Counters → List (Item 𝓤)
+  abbrev Exit : Step → Val → Finals → Counters → List (Item 𝓤)
   Exit a u zs h =
       toks₂ ∷ tok-s ∷ ‵ (finally u64 (xw .name) (zs .0)) ∷ ‵ (finally u32 (xx .name) (zs .1 .0)) ∷ ‵ (fres (xs .name) (B .coded .code h)) ∷
       ‵ (EB .own a (u ∷ [])) ∷ []
 
-  exits : (a : Stepped) (u : Val) (zs : Finals) (h : Counters) → Streamed a zs h → length (zs .0) ≡ length (now xw)
+  exits : (a : Step) (u : Val) (zs : Finals) (h : Counters) → Streamed a zs h → length (zs .0) ≡ length (now xw)
       → length (zs .1 .0) ≡ length (now xx) → ent 𝓤 (⋆ 𝓤 H A (Exit a u zs h)) (Post u)
   exits a u zs h e ew ex =
       qed W (Exit a u zs h) ∵
@@ -286,7 +286,7 @@ module _ {M : Type 1} (𝓤 : URA M) (H : Heap 𝓤) (A : Atoms 𝓤) (W : Given
         -- [what the adder asks; the stores' tokens; last: x, w; _13; …]
         calls-at ! fm (Add 𝓤 H A mem run) known-add (to-add r u)
         (and-then ! (load ! (from ! (stop !)) (look ! 4 refl)) (and-then ! (load ! (from ! (stop !)) (look ! 14 refl)) (no-more !))) (λ u′.
-        use1 W (later (some (λ (a : Stepped). (tok-s ⊛ ‵ (EB .own a (u′ ∷ []))) ⊛
+        use1 W (later (some (λ (a : Step). (tok-s ⊛ ‵ (EB .own a (u′ ∷ []))) ⊛
         raw (ensured 𝓤 H A add.ended (add.clauses 𝓤 H A mem run) (κs, tt) (xs, (r, tt)) tt a)))) (id⊢ 𝓤 _) $
         await ! tt $ pick ! (λ a. split ! $ move ! (1 ∷ []) $
         use1 W (some

@@ -25,8 +25,8 @@ returns c =
     let absorb = c .before .before .before .before .before .before in
     (f-limit (absorb .absorb .ensures .0), λ m n p h. absorbed-limit (absorb .absorb .ensures) h (c .enum-told .given .1))
 
-add-t13 : tie.Need-add-t13
-add-t13 c =
+add-s : tie.Need-add-s
+add-s c =
     let start = c .before .before .before .before .before .before .before .before .before .before .before .before .before in
     omega (arith, start .pre .it .few)
 
@@ -40,7 +40,9 @@ returns-2 : tie.Need-returns-2
 returns-2 c =
     let t = c .before .before in
     let absorb = t .before .before .before .before .before .before in
-    (f-next (absorb .absorb .ensures .0) _, λ m n p h. absorbed-next (absorb .absorb .ensures) h _ (t .t .given .1))
+    let start = absorb .before .before .before .before .before in
+    (f-next (absorb .absorb .ensures) (start .pre .it) (t .t .given .1), λ m n p h. absorbed-next (absorb .absorb .ensures) h
+    (t .t .given .1))
 
 pub absorb-spec : {M : Type 1} → statement M
 absorb-spec =
@@ -52,7 +54,7 @@ absorb-spec =
     same-length
     same-length-2
     returns
-    add-t13
+    add-s
     same-length-3
     same-length-4
     returns-2)

@@ -19,8 +19,8 @@ cast-put-rotation c = search needs
 put-rotation-requires : tie.Need-put-rotation-requires
 put-rotation-requires c κs = search needs
 
-add-t12 : tie.Need-add-t12
-add-t12 c = search needs
+add-s : tie.Need-add-s
+add-s c = search needs
 
 name-place-requires : tie.Need-name-place-requires
 name-place-requires c κs =
@@ -54,7 +54,7 @@ put-out-spec =
     write-requires
     cast-put-rotation
     put-rotation-requires
-    add-t12
+    add-s
     name-place-requires
     same-length
     returns)

@@ -27,27 +27,15 @@ same-length-2 c = search needs
 returns : tie.Need-returns
 returns c =
     let carry = c .before .before .before .before .before .before in
-    let start = carry .before .before .before .before .before in (
-      carry-left (start .pre .it .carry) (carry .carry .ensures),
-      λ n p h. blocked-limit (carry .carry .ensures) h (c .enum-told .given .1),
-    )
-
-with-axes-requires : tie.Need-with-axes-requires
-with-axes-requires c κs = search needs
+    let start = carry .before .before .before .before .before in
+    (carry-left (start .pre .it .carry) (carry .carry .ensures), λ n p h. blocked-limit (carry .carry .ensures) h (c .enum-told .given .1))
 
 absorb-waiting-requires : tie.Need-absorb-waiting-requires
 absorb-waiting-requires c κs =
-    let with-axes = c .before .before in
-    let c′ = with-axes .before .before in
+    let c′ = c .before .before .before in
     let carry = c′ .before .before .before .before .before .before in
     let start = carry .before .before .before .before .before in
-    record {
-      m = lazy;
-      n = start .pre .n;
-      p = _;
-      it = wait-there (carry .carry .ensures) (start .pre .it) (c′ .c .given .1)
-          (with-axes .with-axes .ensures);
-    }
+    record { m = lazy; n = start .pre .n; p = _; it = wait-there (carry .carry .ensures) (start .pre .it) (c′ .c .given .1) }
 
 same-length-3 : tie.Need-same-length-3
 same-length-3 c = search needs
@@ -58,16 +46,12 @@ same-length-4 c = search needs
 returns-2 : tie.Need-returns-2
 returns-2 c =
     let absorb-waiting = c .before .before .before .before in
-    let with-axes = absorb-waiting .before .before .before in
-    let c′ = with-axes .before .before in
+    let c′ = absorb-waiting .before .before .before .before in
     let carry = c′ .before .before .before .before .before .before in
-    let start = carry .before .before .before .before .before in (
-      left-then (carry-left (start .pre .it .carry) (carry .carry .ensures)) (absorb-waiting .absorb-waiting .ensures .0),
-      λ n p h.
-          blocked-as (carry .carry .ensures) h (c′ .c .given .1) (with-axes .with-axes .ensures)
-          (absorb-waiting .absorb-waiting .ensures .1 n _
-          (wait-there (carry .carry .ensures) h (c′ .c .given .1) (with-axes .with-axes .ensures))),
-    )
+    let start = carry .before .before .before .before .before in
+    (left-then (carry-left (start .pre .it .carry) (carry .carry .ensures)) (absorb-waiting .absorb-waiting .ensures .0), λ n p h.
+    blocked-as (carry .carry .ensures) h (c′ .c .given .1)
+    (absorb-waiting .absorb-waiting .ensures .1 n _ (wait-there (carry .carry .ensures) h (c′ .c .given .1))))
 
 pub absorb-blocking-spec : {M : Type 1} → statement M
 absorb-blocking-spec =
@@ -79,7 +63,6 @@ absorb-blocking-spec =
     same-length
     same-length-2
     returns
-    with-axes-requires
     absorb-waiting-requires
     same-length-3
     same-length-4

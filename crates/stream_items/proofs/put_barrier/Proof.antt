@@ -30,21 +30,19 @@ same-length-2 c = search needs
 returns : tie.Need-returns
 returns c =
     let carry = c .before .before .before .before .before .before in
-    let start = carry .before .before .before .before .before .before in (
-      carry-left (start .pre .it .carry) (carry .carry .ensures),
-      λ m n p h. barrier-limit (carry .carry .ensures) h
-          (c .enum-told .given .1),
-    )
+    let start = carry .before .before .before .before .before .before in
+    (carry-left (start .pre .it .carry) (carry .carry .ensures), λ m n p h. barrier-limit (carry .carry .ensures) h
+    (c .enum-told .given .1))
 
-cast-t15 : tie.Need-cast-t15
-cast-t15 c =
+cast-t16 : tie.Need-cast-t16
+cast-t16 c =
     let c′ = c .before .before in
     let carry = c′ .before .before .before .before .before .before in
     let start = carry .before .before .before .before .before .before in
     omega (arith, barrier-small (carry .carry .ensures) (start .pre .it) (c′ .c .given .1))
 
-add-t16 : tie.Need-add-t16
-add-t16 c =
+add-t17 : tie.Need-add-t17
+add-t17 c =
     let c′ = c .before .before .before .before in
     let carry = c′ .before .before .before .before .before .before in
     let start = carry .before .before .before .before .before .before in
@@ -57,15 +55,15 @@ put-item-requires c κs =
     let start = carry .before .before .before .before .before .before in
     barrier-entry (carry .carry .ensures) (start .pre .it) (c′ .c .given .1)
 
-add-t21 : tie.Need-add-t21
-add-t21 c =
+add-s : tie.Need-add-s
+add-s c =
     let c′ = c .before .before .before .before .before .before .before .before in
     let carry = c′ .before .before .before .before .before .before in
     let start = carry .before .before .before .before .before .before in
     omega (arith, barrier-small (carry .carry .ensures) (start .pre .it) (c′ .c .given .1))
 
-add-t22 : tie.Need-add-t22
-add-t22 c =
+add-s-2 : tie.Need-add-s-2
+add-s-2 c =
     let c′ = c .before .before .before .before .before .before .before .before in
     let carry = c′ .before .before .before .before .before .before in
     let start = carry .before .before .before .before .before .before in
@@ -82,11 +80,9 @@ returns-2 c =
     let put-item = c .before .before in
     let c′ = put-item .before .before .before .before .before .before in
     let carry = c′ .before .before .before .before .before .before in
-    let start = carry .before .before .before .before .before .before in (
-      barrier-left (carry .carry .ensures) (start .pre .it) (c′ .c .given .1) (put-item .put-item .ensures),
-      λ m n p h. barrier-next
-          (carry .carry .ensures) h (c′ .c .given .1) (put-item .put-item .ensures),
-    )
+    let start = carry .before .before .before .before .before .before in
+    (barrier-left (carry .carry .ensures) (start .pre .it) (c′ .c .given .1) (put-item .put-item .ensures), λ m n p h. barrier-next
+    (carry .carry .ensures) h (c′ .c .given .1) (put-item .put-item .ensures))
 
 pub put-barrier-spec : {M : Type 1} → statement M
 put-barrier-spec =
@@ -99,11 +95,11 @@ put-barrier-spec =
     same-length
     same-length-2
     returns
-    cast-t15
-    add-t16
+    cast-t16
+    add-t17
     put-item-requires
-    add-t21
-    add-t22
+    add-s
+    add-s-2
     same-length-3
     same-length-4
     returns-2)

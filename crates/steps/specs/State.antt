@@ -1,0 +1,52 @@
+-- The first state, and a state with one part of it changed. Assumes nothing.
+use Prim.Native.Nat.{ℕ}
+use Rattle.steps.specs.declared.State.{State}
+
+-- the first: so many axes, so many items
+abbrev pub firstState : ℕ → ℕ → State
+firstState n k = record { axes = n; id = 0; turns = 0; slots = 0; out = k; start = 0; waiting = 0; merges = 0; swaps = 0; absorbed = 0 }
+
+-- an axis's image, among so many axes
+abbrev pub withImage : ℕ → ℕ → ℕ → State → State
+withImage n a e st = record {
+  axes = n;
+  id = a;
+  turns = e;
+  slots = st .slots;
+  out = st .out;
+  start = st .start;
+  waiting = st .waiting;
+  merges = st .merges;
+  swaps = st .swaps;
+  absorbed = st .absorbed;
+}
+
+-- so many qubits touched
+abbrev pub withSlots : ℕ → State → State
+withSlots n st = record {
+  axes = st .axes;
+  id = st .id;
+  turns = st .turns;
+  slots = n;
+  out = st .out;
+  start = st .start;
+  waiting = st .waiting;
+  merges = st .merges;
+  swaps = st .swaps;
+  absorbed = st .absorbed;
+}
+
+-- so many places named
+abbrev pub withWaiting : ℕ → State → State
+withWaiting n st = record {
+  axes = st .axes;
+  id = st .id;
+  turns = st .turns;
+  slots = st .slots;
+  out = st .out;
+  start = st .start;
+  waiting = n;
+  merges = st .merges;
+  swaps = st .swaps;
+  absorbed = st .absorbed;
+}

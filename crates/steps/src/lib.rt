@@ -1,0 +1,71 @@
+// Where a run stands beside what lies in the stores, and how a step of it ends.
+ghost use mathlib.Core.Path.{_≡_};
+ghost use Rattle.steps.specs.State.{firstState, withImage, withSlots, withWaiting};
+
+// Axes stored; the image of the axis carried last, its id and its quarter turns; qubits that F has touched; items put out, and where their
+// last segment begins; how many places row WAITING names; merges, exchanges and absorbed rotations.
+pub struct State {
+    pub axes: usize,
+    pub id: usize,
+    pub turns: u32,
+    pub slots: usize,
+    pub out: usize,
+    pub start: usize,
+    pub waiting: usize,
+    pub merges: usize,
+    pub swaps: usize,
+    pub absorbed: usize,
+}
+
+// How a step ends: the state then, or refusal 10.
+pub enum Step {
+    Next(State),
+    ExpansionLimit,
+}
+
+// Where a run or a stream begins: so many axes, so many items.
+pub fn first_state(axes: usize, out: usize) -> State
+    ensures { λ r. ⌜ r ≡ firstState axes out ⌝ }
+{
+    State {
+        axes,
+        id: 0,
+        turns: 0,
+        slots: 0,
+        out,
+        start: 0,
+        waiting: 0,
+        merges: 0,
+        swaps: 0,
+        absorbed: 0,
+    }
+}
+
+// The state with an axis's image, among so many axes.
+pub fn with_image(st: State, axes: usize, id: usize, turns: u32) -> State
+    ensures { λ r. ⌜ r ≡ withImage axes id turns st ⌝ }
+{
+    let mut s = st;
+    s.axes = axes;
+    s.id = id;
+    s.turns = turns;
+    s
+}
+
+// The state with so many qubits touched.
+pub fn with_slots(st: State, slots: usize) -> State
+    ensures { λ r. ⌜ r ≡ withSlots slots st ⌝ }
+{
+    let mut s = st;
+    s.slots = slots;
+    s
+}
+
+// The state with so many places in row WAITING.
+pub fn with_waiting(st: State, waiting: usize) -> State
+    ensures { λ r. ⌜ r ≡ withWaiting waiting st ⌝ }
+{
+    let mut s = st;
+    s.waiting = waiting;
+    s
+}
