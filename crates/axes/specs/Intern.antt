@@ -18,7 +18,7 @@ use Rattle.axes.specs.View.{axesOf, wordAt, axes-length}
 use Rattle.axes.specs.declared.Sizes.{Sizes}
 use Rattle.axes.specs.Held.{storedAxes, Stored}
 use Rattle.axes.specs.declared.Interned.{Interned}
-use Rattle.axes.specs.declared.Interned.the-variants.{Id, ExpansionLimit}
+use Rattle.axes.specs.declared.Interned.the-variants.{Id, Full}
 
 -- the words that are counted when one is stored behind n axes
 abbrev pub sumWith : ℕ → ℕ → ℕ → ℕ
@@ -37,12 +37,12 @@ untested axes = record { axes = axes; peak = 0 }
 
 -- refused where the sum that `intern` tests exceeds the limit
 unfoldable pub internAnswer : ℕ → ℕ → ℕ → List (List ℕ) → List ℕ → Interned
-internAnswer l others limit axes w = if ltb limit (intern l others (untested axes) w .peak) then ExpansionLimit else Id (idOf axes w)
+internAnswer l others limit axes w = if ltb limit (intern l others (untested axes) w .peak) then Full else Id (idOf axes w)
 
 -- the word store by the answer: a new word is laid behind the n axes
 unfoldable pub laidBy : Interned → ℕ → ℕ → List ℕ → List ℕ → List ℕ
 laidBy (Id id) l n s w = if ltb id n then s else put s (axisPlace l n) w
-laidBy ExpansionLimit l n s w = s
+laidBy Full l n s w = s
 
 -- answer and word store are the model's; of the number store only rows that are kept for axes may change
 pub record Stores (z : Sizes) (others : ℕ) (ws xs : List ℕ) (at : ℕ) (r : Interned) (ws′ xs′ : List ℕ) : Type 0 where
@@ -78,7 +78,7 @@ module _ (l others limit n : ℕ) (s w : List ℕ) where
   unfolding internAnswer
   answer-id h = sym (if-false _ _ (le-ltb limit (intern l others (untested (axesOf l n s)) w .peak) h))
 
-  answer-limit : limit < intern l others (untested (axesOf l n s)) w .peak → ExpansionLimit ≡ internAnswer l others limit (axesOf l n s) w
+  answer-limit : limit < intern l others (untested (axesOf l n s)) w .peak → Full ≡ internAnswer l others limit (axesOf l n s) w
   unfolding internAnswer
   answer-limit h = sym (if-true _ _ (lt-ltb limit (intern l others (untested (axesOf l n s)) w .peak) h))
 
@@ -109,7 +109,7 @@ module _ (z : Sizes) (others : ℕ) (ws xs : List ℕ) (at id : ℕ) {p : List �
 
   -- a new word, behind the axes, which end at b
   module _ {b : ℕ} (end : b ≡ axisPlace (z .l) (z .axes)) (new : z .axes ≤ id) where
-    pub stores-limit : z .limit < b + 2 * z .l + others → Stores z others ws xs at ExpansionLimit ws xs
+    pub stores-limit : z .limit < b + 2 * z .l + others → Stores z others ws xs at Full ws xs
     unfolding laidBy
     stores-limit k = record {
       answer =

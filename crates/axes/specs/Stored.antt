@@ -19,7 +19,7 @@ use Rattle.axes.specs.Held.{withAxes, storedAxes, HoldsAxes, held-count}
 use Rattle.axes.specs.Intern.{sumWith, InternPre, Stores, intern-old, intern-new, stores-old, stores-limit, stores-new, stores-one}
 use Rattle.axes.specs.Intern.{countWith, count-new, count-old}
 use Rattle.axes.specs.declared.Interned.{Interned}
-use Rattle.axes.specs.declared.Interned.the-variants.{Id, ExpansionLimit}
+use Rattle.axes.specs.declared.Interned.the-variants.{Id, Full}
 
 -- what a word's id means to the caller: the stores hold the model's axes, no tested sum exceeds the limit, axes and the other words
 -- still fit in it, and the other words that are counted, those behind the limit, and the rows that axes do not keep, are as they were
@@ -40,7 +40,7 @@ pub record NoRoom (z : Sizes) (others : ℕ) (ws xs : List ℕ) (st : Store) (w 
 -- what an answer of `intern` means
 abbrev pub InternedAs : Sizes → ℕ → List ℕ → List ℕ → Store → List ℕ → Interned → List ℕ → List ℕ → Type 0
 InternedAs z others ws xs st w (Id id) ws′ xs′ = HasId z others ws xs st w id ws′ xs′
-InternedAs z others ws xs st w ExpansionLimit ws′ xs′ = NoRoom z others ws xs st w ws′ xs′
+InternedAs z others ws xs st w Full ws′ xs′ = NoRoom z others ws xs st w ws′ xs′
 
 one-more : (l n : ℕ) → axisPlace l (n + 1) ≡ axisPlace l n + 2 * l
 one-more l n = rw (add-one n) (omega (arith, suc-mul n (2 * l)))

@@ -22,10 +22,10 @@ pub struct Sizes {
     pub axes: usize,
 }
 
-// Whether a word has an id: the limit may refuse a new one.
+// The id of a word, or the word store is full: the limit leaves no room for a new word.
 pub enum Interned {
     Id(usize),
-    ExpansionLimit,
+    Full,
 }
 
 // A run's sizes with so many axes.
@@ -121,7 +121,7 @@ pub fn intern(
     let n = 2 * z.l;
     let end = layout::axis_at(z.l, z.axes);
     if z.limit < end + n + others {
-        return Interned::ExpansionLimit;
+        return Interned::Full;
     }
     copy_within(words, at, end, n);
     Interned::Id(id)

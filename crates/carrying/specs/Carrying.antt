@@ -18,7 +18,7 @@ use Rattle.layout.specs.Shape.{longestRow}
 use Rattle.axes.specs.View.{wordAt}
 use Rattle.axes.specs.Held.{sizesOf, held-count, held-stored}
 use Rattle.axes.specs.declared.Interned.{Interned}
-use Rattle.axes.specs.declared.Interned.the-variants.{Id}
+use Rattle.axes.specs.declared.Interned.the-variants.{Id, Full}
 use Rattle.axes.specs.declared.Sizes.{Sizes}
 use Rattle.axes.specs.Intern.{InternPre, Stores, intern-old, countWith}
 use Rattle.axes.specs.Stored.{HasId, NoRoom, InternedAs, interned-is}
@@ -166,7 +166,7 @@ module _ {z : Shape} {st : State} {id : ℕ} {ws xs : List ℕ} {t : Touched} (h
           (rw (scratch, sizes) at said)
           (now-holds .peak-in)
 
-      module _ (f : r ≡ Rattle.axes.specs.declared.Interned.the-variants.ExpansionLimit) where
+      module _ (f : r ≡ Full) where
         no-room : NoRoom (sizesOf z (st .axes)) ((st .slots) * (6 * z .l)) ws₁ xs (t .store) (wordAt (z .l) ws₁ (z .limit)) ws₂ xs₂
         no-room =
             subst (λ (x : Interned). InternedAs (sizesOf z (st .axes)) ((st .slots) * (6 * z .l)) ws₁ xs (t .store)

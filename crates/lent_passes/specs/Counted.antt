@@ -8,7 +8,7 @@ use Rattle.model.specs.Rules.{Rules}
 use Rattle.model.specs.Program.{Program}
 use Rattle.model.specs.Rounds.{Work}
 use Rattle.layout.specs.declared.Shape.{Shape}
-use Rattle.stats.specs.Raised.{moreMerges, moreAbsorbed}
+use Rattle.lent_passes.specs.Raised.{moreMerges, moreAbsorbed}
 use Rattle.steps.specs.declared.State.{State}
 use Rattle.steps.specs.declared.Step.{Step}
 use Rattle.steps.specs.declared.Step.the-variants.{Next, ExpansionLimit}

@@ -5,7 +5,7 @@ use Prim.Native.Nat.{ℕ, _+_, _<_, _^_}
 use native.Mathlib.Omega.{arith}
 use Rattle.model.specs.declared.Counters.{Counters}
 use Rattle.axes.specs.declared.Sizes.{Sizes}
-use Rattle.stats.specs.Raised.{moreSwaps}
+use Rattle.lent_passes.specs.Raised.{moreSwaps}
 use Rattle.exchange.specs.declared.Rules.{Rules}
 use Rattle.exchange.specs.declared.Progress.{Progress}
 use Rattle.exchange.specs.Segments.{Exchanged}

@@ -5,7 +5,7 @@ use Prim.Native.Nat.{ℕ, _+_, _<_, _^_}
 use native.Mathlib.Omega.{arith}
 use Rattle.model.specs.declared.Counters.{Counters}
 use Rattle.axes.specs.declared.Sizes.{Sizes}
-use Rattle.stats.specs.Raised.{moreMerges}
+use Rattle.lent_passes.specs.Raised.{moreMerges}
 use Rattle.layering.specs.declared.Layering.{Layering}
 use Rattle.layering.specs.Contracts.{LayeredAs}
 

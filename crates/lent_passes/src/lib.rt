@@ -1,7 +1,7 @@
 // Each pass, lent the run's counters: the core by value, then one adder.
 ghost use mathlib.Core.Path.{_≡_};
 ghost use Prim.Native.Nat.{_+_, _<_, _^_};
-ghost use Rattle.stats.specs.Raised.{moreMerges, moreSwaps};
+ghost use Rattle.lent_passes.specs.Raised.{moreMerges, moreSwaps};
 ghost use Rattle.stream.specs.Passing.{PassAtWork, SomeWork};
 ghost use Rattle.exchange.specs.Segments.{ExchangePre, Exchanged};
 ghost use Rattle.layering.specs.Contracts.{LayeringPre, LayeredAs};

@@ -17,7 +17,7 @@ use Rattle.axes.specs.Intern.{InternPre, Stores}
 use Rattle.axes.specs.Stored.{HasId, NoRoom, InternedAs, interned-is}
 use Rattle.axes.specs.declared.Sizes.{Sizes}
 use Rattle.axes.specs.declared.Interned.{Interned}
-use Rattle.axes.specs.declared.Interned.the-variants.{Id, ExpansionLimit}
+use Rattle.axes.specs.declared.Interned.the-variants.{Id, Full}
 use Rattle.layout.specs.declared.Shape.{Shape}
 use Rattle.layout.specs.Words.{slotPlace, slot-in, slot-counted}
 use Rattle.packing_states.specs.References.{referenceAt}
@@ -134,5 +134,5 @@ module _ {p : Program} {z : Shape} {st : Slots} {n j phase : ℕ} {ws xs : List 
     pub root-has-id : {id : ℕ} → r ≡ Id id → RootHasId p z st n j ws xs id ws′ xs′
     root-has-id q = rw q at stored-as
 
-    pub root-no-room : r ≡ ExpansionLimit → RootNoRoom p z st n j ws xs ws′ xs′
+    pub root-no-room : r ≡ Full → RootNoRoom p z st n j ws xs ws′ xs′
     root-no-room q = rw q at stored-as

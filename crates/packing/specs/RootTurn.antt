@@ -13,7 +13,7 @@ use Rattle.axes.specs.declared.Sizes.{Sizes}
 use Rattle.axes.specs.Held.{sizesOf, held-count}
 use Rattle.axes.specs.Intern.{Stores, countWith}
 use Rattle.axes.specs.declared.Interned.{Interned}
-use Rattle.axes.specs.declared.Interned.the-variants.{Id, ExpansionLimit as InternLimit}
+use Rattle.axes.specs.declared.Interned.the-variants.{Id, Full}
 use Rattle.layout.specs.declared.Shape.{Shape}
 use Rattle.layout.specs.Rows.{rowCount, rootAxis, rootSign}
 use Rattle.layout.specs.Only.{only-of}
@@ -56,13 +56,13 @@ module _ {p : Program} {z : Shape} {st : Slots} {n j phase : ℕ} {ws xs : List 
         (s : Stores sizes (st .slots * (2 * z .l)) ws xs (v .at) r ws′ xs′) where
       -- ---- 10
 
-      pub rest-limit : r ≡ InternLimit → RestKept z ws xs ws′ xs′
+      pub rest-limit : r ≡ Full → RestKept z ws xs ws′ xs′
       unfolding member anyOf allOf
       rest-limit q =
           let full = root-no-room h e f s q in
           record { words = rw (full .kept) (kept-none _ ws); numbers = only-of turnRows refl (full .numbers) }
 
-      pub root-limit : (((v .phase + phase % 4) % 4) % 2 ≡ 1 → ⊥) → r ≡ InternLimit
+      pub root-limit : (((v .phase + phase % 4) % 4) % 2 ≡ 1 → ⊥) → r ≡ Full
           → Turned p z (suc n) n (suc j) (within p n (suc j)) ExpansionLimit ws′ xs′
       unfolding useNode
       root-limit o q = rw (stored-next h (even-root h e o)) (root-no-room h e f s q .exceeds)

@@ -39,8 +39,8 @@ use denote.Triple.Spec.{Meets, tripleOf}
 use denote.Triple.Table.{entered}
 use denote.Triple.Walked.{says, needs, Stays, stay-ref, stay-none, walkOf, goes-none, goes-ref, Walks, ends-at, walked, walk-meets}
 use denote.Exit.{yes}
-use Rattle.stats.specs.Raised.{moreMerges}
-use Rattle.stats.proofs.Fields.{fields}
+use Rattle.lent_passes.specs.Raised.{moreMerges}
+use Rattle.lent_passes.proofs.Fields.{fields}
 use Rattle.lent_passes.specs.Counted.{raised}
 use Rattle.model.specs.declared.Counters.{Counters}
 use Rattle.model.proofs.Counters as T

@@ -55,7 +55,7 @@ use Rattle.exchange.proofs.Rules.Laws as L′
 use Rattle.exchange.specs.declared.Progress.{Progress}
 use Rattle.exchange.proofs.Progress as R
 use Rattle.exchange.proofs.Progress.Laws as R′
-use Rattle.stats.specs.Raised.{moreSwaps}
+use Rattle.lent_passes.specs.Raised.{moreSwaps}
 use Rattle.exchange.specs.Segments.{ExchangePre, Exchanged}
 use Rattle.lent_passes.specs.Exchange.{room-for, exchanged}
 use Rattle.exchange.proofs.swap_segments as core

@@ -52,7 +52,7 @@ use Rattle.axes.proofs.Sizes.Laws as S′
 use Rattle.layering.specs.declared.Layering.{Layering}
 use Rattle.layering.proofs.Layering as R
 use Rattle.layering.proofs.Layering.Laws as R′
-use Rattle.stats.specs.Raised.{moreMerges}
+use Rattle.lent_passes.specs.Raised.{moreMerges}
 use Rattle.layering.specs.Contracts.{LayeringPre, LayeredAs}
 use Rattle.lent_passes.specs.Layering.{room-for, layered}
 use Rattle.layering.proofs.layer_segments as core
