@@ -64,7 +64,12 @@ pub fn intern(
     requires { ⌜ InternPre z others (now words) (now numbers) at ⌝ }
     ensures { λ r. ⌜ Stores z others (now (words .entry)) (now (numbers .entry)) at r (now (words .exit)) (now (numbers .exit)) ⌝ }
 {
-    let id = find(&words[..], &numbers[..], z, axes::word_at(&words[..], at, z.l));
+    let id = find(
+        &words[..],
+        &numbers[..],
+        z,
+        axes::word_at(&words[..], at, z.l),
+    );
     if id < z.axes {
         return Interned::Id(id);
     }
