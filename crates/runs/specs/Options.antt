@@ -15,7 +15,7 @@ use Rattle.model.specs.Program.{Job}
 use Rattle.model.specs.Checking.{Lent, wordsAsked, numbersAsked}
 use Rattle.model.specs.Rewriting.{Reply, rewriting}
 use Rattle.model.specs.Everything.{everything}
-use Rattle.runs.specs.Shown.{I, X, Y, Z, product, rotate, measure, row, job, rotated, measured+, conditioned, allCounters}
+use Rattle.runs.specs.Shown.{I, X, Y, Z, product, rotate, measure, conditional, row, job, rotated, measured+, conditioned, allCounters}
 
 -- ---- a call
 
@@ -144,6 +144,16 @@ plainRows (suc q) = plainRows q ++ (row q 0 0 0 ∷ row q 1 0 0 ∷ [])
 -- Z:2 on the last of q qubits
 abbrev lastOf : ℕ → Job
 lastOf q = job q (I ∷ Z (q - 1) ∷ []) (rotate 1 0 2 ∷ []) (plainRows q)
+
+-- Z:2 on the last two of 65 qubits
+abbrev lastTwo : Job
+lastTwo = job 65 (I ∷ Z 63 ∷ Z 64 ∷ product 1 0 2 0 ∷ []) (rotate 3 0 2 ∷ []) (plainRows 65)
+
+-- a measurement, Z:1, a conditional rotation by 0, Z:1, a conditional one about the identity
+abbrev conditionals : Job
+conditionals = job 1 (I ∷ X 0 ∷ Z 0 ∷ [])
+    (measure 2 0 0 65535 ∷ rotate 2 0 1 ∷ conditional 1 0 0 0 ∷ rotate 2 0 1 ∷ conditional 0 0 3 0 ∷ [])
+    (row 0 0 1 0 ∷ row 0 1 2 0 ∷ [])
 
 -- ---- calls
 
@@ -321,3 +331,21 @@ touch-130 : called (options 1048576 0 16 8 true true false Merge false 24) (last
     ≡ leaves (0 ∷ 0 ∷ 0 ∷ 0 ∷ 1 ∷ 1 ∷ 0 ∷ 0 ∷ 0 ∷ 1 ∷ 0 ∷ []) ([] room 1)
 unfolding everything
 touch-130 = refl
+
+-- a second touch: 1 stored × 4 + 12 of images + 12
+touch-twice : called (options 1048576 0 16 8 true true false Merge false 28) lastTwo
+    ≡ leaves (0 ∷ 0 ∷ 0 ∷ 0 ∷ 1 ∷ 1 ∷ 0 ∷ 0 ∷ 0 ∷ 2 ∷ 0 ∷ []) ([] room 1)
+unfolding everything
+touch-twice = refl
+
+-- one word less is refused
+touch-twice-refused : called (options 1048576 0 16 8 true true false Merge false 27) lastTwo ≡ refusedBy 10
+unfolding everything
+touch-twice-refused = refl
+
+-- conditional rotations do not drop out, by angle 0 or about the identity
+conditionals-stay : called (options 1048576 0 16 8 true true false Merge false 64) conditionals
+    ≡ leaves (3 ∷ 3 ∷ 0 ∷ 0 ∷ 0 ∷ 2 ∷ 2 ∷ 0 ∷ 0 ∷ 3 ∷ 3 ∷ [])
+    ((measured+ 2 0 65535 ∷ rotated 2 1 ∷ conditioned 1 0 0 ∷ rotated 2 1 ∷ conditioned 0 3 0 ∷ []) room 0)
+unfolding everything
+conditionals-stay = refl
