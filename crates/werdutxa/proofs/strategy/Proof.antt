@@ -1,8 +1,8 @@
 -- By cases. Assumes nothing.
 use borrow.Author.Needs.{needs}
-use Rattle.rewriting_exports.specs.Calls.{strategyOf}
-use Rattle.rewriting_exports.proofs.strategy.Statement.{statement}
-use Rattle.rewriting_exports.proofs.strategy.Tie as tie
+use Rattle.werdutxa.specs.Calls.{strategyOf}
+use Rattle.werdutxa.proofs.strategy.Statement.{statement}
+use Rattle.werdutxa.proofs.strategy.Tie as tie
 
 returns : tie.Need-returns
 unfolding strategyOf

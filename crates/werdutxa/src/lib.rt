@@ -1,14 +1,14 @@
-// Checking and Rewriting for oracle/ours, the runs against the Rust: no part of 01's interface.
+// Checking, Rewriting and Listing for C: include/werdutxa.h declares them, rust/ has a safe form.
 // In C a slice is a pointer and a length, and `&mut [usize; 13]` a pointer to that many numbers.
 ghost use mathlib.Core.Path.{_≡_};
 ghost use Rattle.model.specs.Interface.{numberOf};
 ghost use Rattle.model.specs.Checking.{checking};
 ghost use Rattle.checking.specs.Call.{jobOf, lentOf};
-ghost use Rattle.rewriting_exports.specs.Calls.{countsOf, strategyOf, optionsOf, countedOf, ExportedCall};
+ghost use Rattle.werdutxa.specs.Calls.{countsOf, strategyOf, optionsOf, countedBy, ifAccepted, ExportedCall, ExportedListing};
+use model::Counters;
 use model::Counts;
 use model::Options;
 use model::Strategy;
-use rewrite::Rewritten;
 
 // The number of Checking's answer.
 #[no_mangle]
@@ -118,9 +118,34 @@ pub extern "C" fn werdutxa_rewrite(
         result_operations,
         result_rows,
     );
-    count(rewritten, counted);
     let reply = rewritten.answer;
-    model::number_of(reply)
+    let answer = model::number_of(reply);
+    let operations_out = if_accepted(answer, rewritten.operations);
+    let axes = if_accepted(answer, rewritten.axes);
+    count(rewritten.counters, operations_out, axes, counted);
+    answer
+}
+
+// Listing: the number of its answer; the text is the first `size` bytes of the output.
+#[no_mangle]
+pub extern "C" fn werdutxa_list(
+    text: &[u8],
+    output: &mut [u8],
+    words: &mut [u64],
+    numbers: &mut [u32],
+    result_operations: &mut [u32],
+    result_rows: &mut [u32],
+    size: &mut usize,
+) -> u32
+    ensures { λ r. ⌜ ExportedListing (now (text .entry)) (now (output .entry))
+        (lentOf (now (words .entry)) (now (numbers .entry)) (now («result_operations» .entry)) (now («result_rows» .entry)))
+        r (now (size .exit)) (now (output .exit))
+        (lentOf (now (words .exit)) (now (numbers .exit)) (now («result_operations» .exit)) (now («result_rows» .exit))) ⌝ }
+{
+    let listed = listing::listing(text, output, words, numbers, result_operations, result_rows);
+    *size = listed.size;
+    let answer = listed.answer;
+    model::number_of(answer)
 }
 
 // The counts that a call hands in.
@@ -173,19 +198,28 @@ fn options(
     }
 }
 
-// The counters and how many operations and axes there are, in the order of a listing's first line and then those it has not.
-fn count(r: Rewritten, to: &mut [usize; 13])
-    ensures { λ _. ⌜ now (to .exit) ≡ countedOf r ⌝ }
+// What only an accepted run has: 0 after a refusal.
+fn if_accepted(answer: u32, n: usize) -> usize
+    ensures { λ r. ⌜ r ≡ ifAccepted answer n ⌝ }
 {
-    let c = r.counters;
+    if answer == 0 {
+        return n;
+    }
+    0
+}
+
+// The counters and how many operations and axes there are, in the order of a listing's first line and then those it has not.
+fn count(c: Counters, operations: usize, axes: usize, to: &mut [usize; 13])
+    ensures { λ _. ⌜ now (to .exit) ≡ countedBy c operations axes ⌝ }
+{
     *to = [
         c.t_before,
         c.t_after,
         c.merges,
         c.swaps,
         c.cliffords_to_frame,
-        r.operations,
-        r.axes,
+        operations,
+        axes,
         c.rotations_before,
         c.rotations_after,
         c.t_depth_before,

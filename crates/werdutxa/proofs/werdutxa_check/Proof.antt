@@ -1,8 +1,8 @@
 -- The model's answer to these counts and options. Assumes nothing.
 use borrow.Author.Needs.{needs}
-use Rattle.rewriting_exports.specs.Calls.{check-number}
-use Rattle.rewriting_exports.proofs.werdutxa_check.Statement.{statement}
-use Rattle.rewriting_exports.proofs.werdutxa_check.Tie as tie
+use Rattle.werdutxa.specs.Calls.{check-number}
+use Rattle.werdutxa.proofs.werdutxa_check.Statement.{statement}
+use Rattle.werdutxa.proofs.werdutxa_check.Tie as tie
 
 counts-requires : tie.Need-counts-requires
 counts-requires c κs = search needs

@@ -1,8 +1,8 @@
 -- The strategy is worked out first. Assumes nothing.
 use mathlib.Core.Path.{refl}
 use borrow.Author.Needs.{needs}
-use Rattle.rewriting_exports.proofs.options.Statement.{statement}
-use Rattle.rewriting_exports.proofs.options.Tie as tie
+use Rattle.werdutxa.proofs.options.Statement.{statement}
+use Rattle.werdutxa.proofs.options.Tie as tie
 
 strategy-requires : tie.Need-strategy-requires
 strategy-requires c κs = search needs
