@@ -182,9 +182,10 @@ impl Program {
     }
 }
 
-/// A listing's line; -1, which stands in outcomes and targets only, is the mark for none.
+/// A listing's line, columns of 8; -1, which stands in outcomes and targets only, is the mark for none.
 fn fields(line: &str) -> Vec<u32> {
-    line.split_whitespace().map(|field| field.parse().unwrap_or(NONE)).collect()
+    let columns = line.as_bytes().chunks(8).map(|field| String::from_utf8_lossy(field));
+    columns.map(|field| field.trim_start().parse().unwrap_or(NONE)).collect()
 }
 
 fn record<const N: usize>(fields: Vec<u32>) -> [u32; N] {

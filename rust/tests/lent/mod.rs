@@ -56,6 +56,11 @@ impl<T: Filled> Guarded<T> {
         (0..SENTINELS).chain(behind..self.all.len()).all(|place| self.all[place] == T::at(place))
     }
 
+    /// What a place of the slice held before the call.
+    pub fn before(place: usize) -> T {
+        T::at(SENTINELS + place)
+    }
+
     /// Whether all from a place of the slice on is as it was.
     pub fn unchanged_from(&self, from: usize) -> bool {
         (SENTINELS + from..self.all.len()).all(|place| self.all[place] == T::at(place))
