@@ -44,13 +44,7 @@ fn touch_bits(
 }
 
 // Touches the qubits of axis id.
-fn touch_all(
-    words: &mut [u64],
-    numbers: &mut [u32],
-    shape: Shape,
-    first: State,
-    id: usize,
-) -> Step
+fn touch_all(words: &mut [u64], numbers: &mut [u32], shape: Shape, first: State, id: usize) -> Step
     requires { ⌜ SomeTouched (λ (t : Touched). AxisAt shape (first .axes) (first .slots) id (now words) (now numbers) t) ⌝ }
     ensures { λ r. ⌜ LeftF shape (now (words .entry)) (now (numbers .entry)) (now (words .exit)) (now (numbers .exit))
         × ((t : Touched) → AxisAt shape (first .axes) (first .slots) id (now (words .entry)) (now (numbers .entry)) t

@@ -17,11 +17,11 @@ use Rattle.layout.specs.Words.{kept-part, slot-counted}
 use Rattle.layout.specs.Shape.{longestRow}
 use Rattle.axes.specs.View.{wordAt}
 use Rattle.axes.specs.Held.{sizesOf, held-count, held-stored}
-use Rattle.axes.specs.declared.Interned.{Interned}
-use Rattle.axes.specs.declared.Interned.the-variants.{Id, Full}
+use Rattle.interning.specs.declared.Interned.{Interned}
+use Rattle.interning.specs.declared.Interned.the-variants.{Id, Full}
 use Rattle.axes.specs.declared.Sizes.{Sizes}
-use Rattle.axes.specs.Intern.{InternPre, Stores, intern-old, countWith}
-use Rattle.axes.specs.Stored.{HasId, NoRoom, InternedAs, interned-is}
+use Rattle.interning.specs.Intern.{InternPre, Stores, intern-old, countWith}
+use Rattle.interning.specs.Stored.{HasId, NoRoom, InternedAs, interned-is}
 use Rattle.steps.specs.declared.State.{State}
 use Rattle.steps.specs.declared.Step.{Step}
 use Rattle.steps.specs.declared.Step.the-variants.{Next, ExpansionLimit}

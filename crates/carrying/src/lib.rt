@@ -12,7 +12,7 @@ ghost use Rattle.carrying.specs.Scratch.{TimesPre, ScratchTimes};
 ghost use Rattle.carrying.specs.Letters.{LetterAt, letterOfAxis, LettersAt, LettersTimes, CarryAt, axisWord, WordCarried};
 ghost use Rattle.carrying.specs.Fixed.{NoneMarked};
 ghost use Rattle.carrying.specs.Carrying.{CarryPre, LeftCarried, CarriedAs};
-use axes::Interned;
+use interning::Interned;
 use layout::F_PHASE;
 use layout::F_SLOT;
 use layout::Shape;
@@ -146,10 +146,10 @@ pub fn carry(words: &mut [u64], numbers: &mut [u32], shape: Shape, st: State, id
     let counted = st.slots * (6 * shape.l);
     let scratch = layout::scratch_at(shape.limit);
     let z = axes::sizes_of(shape, st.axes);
-    let i = axes::intern(words, numbers, z, counted, scratch);
+    let i = interning::intern(words, numbers, z, counted, scratch);
     let Interned::Id(new) = i else {
         return Step::ExpansionLimit;
     };
-    let count = axes::count_with(st.axes, new);
+    let count = interning::count_with(st.axes, new);
     Step::Next(steps::with_image(st, count, new, turns))
 }

@@ -22,7 +22,7 @@ use Rattle.axes.specs.Held.{sizesOf, HoldsAxes, held-count, held-axis}
 use Rattle.records.specs.Operations.{operationsIn, operationHere}
 use Rattle.records.specs.Given.{Given, programIn, operations-in, width-in}
 use Rattle.items.specs.declared.Tagged.{Tagged}
-use Rattle.items.specs.View.{taggedAt, itemSaid, itemOfTag, itemsIn, view-at-0, view-length}
+use Rattle.items.specs.View.{taggedAt, itemSaid, said-axis, itemsIn, view-at-0, view-length}
 use Rattle.work.specs.Rows.{rootAt}
 use Rattle.work.specs.Work.{WorkIn}
 use Rattle.results.specs.Barriers.{BarrierOf}
@@ -31,12 +31,6 @@ use Rattle.counters.specs.Total.{total}
 use Rattle.counters.specs.After.{TCountAfter}
 use Rattle.counters.specs.Weight.{WeightPre, WeightAfter, AxesTo, weightSaid, weights-are}
 use Rattle.counters.specs.SourceWeight.{SourcePre, RootsTo, WeightBefore, sourceSaid, source-weight}
-
--- an item's axis stands in its entry
-axis-of : (t : ℕ) (x : Tagged) → axisOf (itemOfTag t x) ≡ x .axis
-unfolding itemOfTag
-axis-of zero x = refl
-axis-of (suc o) x = refl
 
 sum-same : {A : Type 0} (f g : A → ℕ) (xs : List A) → ((x : A) → f x ≡ g x) → sumOf f xs ≡ sumOf g xs
 unfolding sumOf
@@ -108,7 +102,7 @@ module _ {z : Shape} {ns os rs : List ℕ} (given : Given z ns os rs) {w : Work}
         let a = every-at (λ (y : Item). axisOf y < length (w .store .axes)) (w .items) d i range l in
         let e : getD (w .items) i d ≡ itemSaid x =
         sym (ap (λ (is : List Item). getD is i d) (work .items)) ∙ view-at-0 itemSaid xs (z .u) itemsRow k i d h in
-        let f : axisOf (getD (w .items) i d) ≡ x .axis = ap axisOf e ∙ axis-of (x .tag) x in
+        let f : axisOf (getD (w .items) i d) ≡ x .axis = ap axisOf e ∙ said-axis x in
         omega (arith, a, f, held-count (work .axes))
 
     pub weight-pre : WeightPre os ws xs (z .u) (z .l) k

@@ -13,8 +13,8 @@ use model::Answer;
 use model::Counters;
 use model::Options;
 use packing_answer::Packed;
-use steps::Step;
 use steps::State;
+use steps::Step;
 
 // What the passes start from: items, the source's weight, its T-depth.
 pub struct Started {

@@ -9,7 +9,7 @@ use Rattle.bits.specs.Popcount.{popcount, popcountIn}
 use Rattle.store.specs.Equal.{sameList}
 use Rattle.groups.specs.Eighth.{e1, e2, e4, e6}
 use Rattle.pauli.specs.Word.{common, xorWords, phase}
-use Rattle.effect.specs.Phase.{q0, q2, plus, quarter}
+use Rattle.effect.specs.Phase.{q0, q2, plus, minus, quarter}
 use Rattle.effect.specs.Effect.{Op, plain, measured, conditional, rotate, measure, step, effect, word, product, effectFrom}
 use Rattle.effect.specs.Certificate.{row, products, weight}
 use Rattle.effect.specs.Conjugation.{conj}
@@ -86,6 +86,8 @@ pub record Worked : Type 0 where
   pub kept-z : at true (measured plus Z 0 ∷ []) Z Z ≡ (pos 1, pos 0)
   pub kept-i : at true (measured plus Z 0 ∷ []) Z I ≡ (negsuc 0, pos 0)
   pub lost-x : at true (measured plus Z 0 ∷ []) X X ≡ (pos 0, pos 0)
+  -- and outcome 0 of -Z the same
+  pub kept-by-minus : at false (measured minus Z 0 ∷ []) Z I ≡ (negsuc 0, pos 0)
   -- a conditional rotation whose outcome is 0 doubles, and turns where it is 1
   pub idle : at false (conditional e4 Z 0 ∷ []) X X ≡ (pos 2, pos 0)
   pub active : at true (conditional e4 Z 0 ∷ []) X X ≡ (negsuc 1, pos 0)
@@ -108,6 +110,8 @@ pub record Worked : Type 0 where
   -- the rows X and Z, with the phase of X Z = -i Y in front
   pub in-front-re : effectFrom (packed 1) (always false) [] ((q0, X) ∷ (q0, Z) ∷ []) .0 Y ≡ (pos 0, pos 0)
   pub in-front-im : effectFrom (packed 1) (always false) [] ((q0, X) ∷ (q0, Z) ∷ []) .1 Y ≡ (negsuc 0, pos 0)
+  -- the row -X, with its own -1 in front
+  pub minus-in-front : effectFrom (packed 1) (always false) [] ((q2, X) ∷ []) .0 X ≡ (negsuc 0, pos 0)
 
 pub worked : Worked
 unfolding conj phase4 quarter phase common popcount popcountIn xorWords samePacked sameList word rotate measure step effect product effectFrom
@@ -125,6 +129,7 @@ worked = record {
   kept-z = refl;
   kept-i = refl;
   lost-x = refl;
+  kept-by-minus = refl;
   idle = refl;
   active = refl;
   first-measured = refl;
@@ -140,4 +145,5 @@ worked = record {
   not-exchanged = refl;
   in-front-re = refl;
   in-front-im = refl;
+  minus-in-front = refl;
 }

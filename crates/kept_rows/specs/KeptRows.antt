@@ -28,7 +28,7 @@ use Rattle.theory.specs.PackedRoots.{In, Rooted, packed-rooted}
 use Rattle.theory.specs.Checked.{RowIn, Fine}
 use Rattle.theory.specs.Hermitian.{in-every, every-in, roots-in}
 use Rattle.words_wellformed.specs.StoredWords.{StoredWords}
-use Rattle.run_wellformed.specs.CliffordAngles.{TurnsItem}
+use Rattle.words_wellformed.specs.RunWords.{TurnsItem}
 use Rattle.run_wellformed.specs.Points.{Reached, start, streamed, exchanged, layered, reached-formed, start-formed}
 use Rattle.run_wellformed.specs.Signs.{point-well}
 use Rattle.kept_rows.specs.Mentions.{node-word, row-commutes}

@@ -25,7 +25,8 @@ use Rattle.words_wellformed.specs.StoredWords.{StoredWords, intern-stored}
 use Rattle.words_wellformed.specs.HeldImages.{IsQuarters, HeldImages, none-held, absorbImage-commuting, absorbWord-images, wordImage-signed}
 use Rattle.words_wellformed.specs.Carrying.{wordImage-absorbed, wordImage-none, wordImage-symplectic}
 use Rattle.words_wellformed.specs.PassWords.{afterItems, stream-after}
-use Rattle.run_wellformed.specs.CliffordAngles.{SmallItem, TurnsItem, CliffordAngle, two, four, six, even-angle, clifford-angle}
+use Rattle.words_wellformed.specs.RunWords.{TurnsItem}
+use Rattle.run_wellformed.specs.CliffordAngles.{SmallItem, CliffordAngle, two, four, six, even-angle, clifford-angle}
 use Rattle.run_wellformed.specs.CliffordAngles.{withSign-turns}
 
 -- an angle that F takes in

@@ -33,7 +33,8 @@ use Rattle.theory.specs.ListingCalls.{optionsOf, listingAnswer, listed-fine, li
 use Rattle.words_wellformed.specs.HeldImages.{acts-letter}
 use Rattle.words_wellformed.specs.SupportQubits.{support-all}
 use Rattle.words_wellformed.specs.Wellformed.{IdsInRange, end-ids}
-use Rattle.run_wellformed.specs.CliffordAngles.{TurnsItem, withSign-small}
+use Rattle.words_wellformed.specs.RunWords.{TurnsItem}
+use Rattle.run_wellformed.specs.CliffordAngles.{withSign-small}
 use Rattle.run_wellformed.specs.Points.{passes-reached}
 use Rattle.run_wellformed.specs.RunWellFormed.{end-formed, results-length}
 use Rattle.result_effect.specs.Records.{Stops, ItemStands, point-stands}

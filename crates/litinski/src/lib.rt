@@ -7,8 +7,8 @@ ghost use Rattle.points.specs.Points.{SomeRun, OptionsIn, SameLong, RunAt, Ende
 ghost use Rattle.litinski.specs.LayerRound.{RoundAs};
 use layout::Shape;
 use model::Options;
-use steps::Step;
 use steps::State;
+use steps::Step;
 
 // How a round ends: streamed; as the last; refused by the limit.
 pub enum Round {

@@ -9,8 +9,8 @@ ghost use Rattle.merge_rounds.specs.OneRound.{RoundAs};
 use layout::ITEMS;
 use layout::Shape;
 use model::Options;
-use steps::Step;
 use steps::State;
+use steps::Step;
 
 // How a round ends: with the T-count that it left; as the last; refused by the limit.
 pub enum Round {

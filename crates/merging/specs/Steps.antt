@@ -32,10 +32,10 @@ use Rattle.steps.specs.declared.State.{State}
 use Rattle.steps.specs.declared.Step.{Step}
 use Rattle.steps.specs.declared.Step.the-variants.{Next, ExpansionLimit}
 use Rattle.stream_states.specs.declared.StreamRules.{StreamRules}
-use Rattle.steps.specs.State.{withSlots, withWaiting}
+use Rattle.steps.specs.State.{withSlots, withOut, withWaiting, withAbsorbed}
 use Rattle.stream_states.specs.States.{heldOf, isWaiting, HoldsPass, PassAt, SomePass, absorptionSaid, streamRows}
 use Rattle.stream_states.specs.States.{LeftS, SteppedAs, as-next, as-limit}
-use Rattle.stream_states.specs.Output.{WaitsBut, but-quiet, pass-other, with-list, angle-set, last-cleared, withOut, put-waits}
+use Rattle.stream_states.specs.Output.{WaitsBut, but-quiet, pass-other, with-list, angle-set, last-cleared, put-waits}
 use Rattle.stream_states.specs.Output.{rotation-put}
 use Rattle.stream_states.specs.Known.{axes-count}
 
@@ -146,21 +146,21 @@ pub record PutPre (z : Shape) (c : StreamRules) (st : State) (id : ℕ) (xs : Li
   pub few : absorptionSaid c ≡ lazy → st .waiting < z .u
 
 pub record OutPut (z : Shape) (c : StreamRules) (st : State) (id k : ℕ) (xs xs′ : List ℕ) (r : State) : Type 0 where
-  pub state : r ≡ withWaiting (r .waiting) (withOut st)
+  pub state : r ≡ withWaiting (r .waiting) (withOut (st .out + 1) st)
   pub left : Only streamRows (z .u) xs xs′
   pub holds : (m : Absorption) (ws : List ℕ) (p : Pass) → m ≡ absorptionSaid c → HoldsPass z m st ws xs p
       → HoldsPass z m r ws xs′ (putOutRotation p id k)
 
 module _ {z : Shape} {c : StreamRules} {st : State} {id k : ℕ} {xs xs₁ xs₂ : List ℕ} (pre : PutPre z c st id xs)
     (wrote : Written xs (z .u) lastRow id (st .out + 1) xs₁) (put : ItemPut xs₁ (z .u) outRow (st .out) (taggedRotation id k) xs₂) where
-  pub put-name : NamePre z c (withOut st) (st .out) xs₂
+  pub put-name : NamePre z c (withOut (st .out + 1) st) (st .out) xs₂
   put-name = record {
     numbers-long = omega (arith, pre .numbers-long, wrote .long, put .only .long);
     place = omega (arith, pre .space, pre .small);
     few = pre .few;
   }
 
-  pub out-put : {xs₃ : List ℕ} {r : State} → PlaceNamed z c (withOut st) (st .out) k xs₂ xs₃ r → OutPut z c st id k xs xs₃ r
+  pub out-put : {xs₃ : List ℕ} {r : State} → PlaceNamed z c (withOut (st .out + 1) st) (st .out) k xs₂ xs₃ r → OutPut z c st id k xs xs₃ r
   unfolding allOf member anyOf
   out-put n = record {
     state = n .state;
@@ -212,21 +212,6 @@ zero-left {z} {j} {id} {xs} pre wrote put = record {
 }
 
 -- ---- F changes, the output stays
-
--- so many rotations absorbed
-abbrev pub withAbsorbed : ℕ → State → State
-withAbsorbed n st = record {
-  axes = st .axes;
-  id = st .id;
-  turns = st .turns;
-  slots = st .slots;
-  out = st .out;
-  start = st .start;
-  waiting = st .waiting;
-  merges = st .merges;
-  swaps = st .swaps;
-  absorbed = n;
-}
 
 pub record AbsorbingAt (z : Shape) (st : State) (id k : ℕ) (ws xs : List ℕ) (m : Absorption) (n : ℕ) (p : Pass) : Type 0 where
   pub at : PassAt z m n st ws xs p

@@ -25,6 +25,7 @@ use Rattle.items.specs.View.{taggedAt, said-rotation}
 use Rattle.items.specs.Put.{EntryPre, ItemPut, taggedRotation}
 use Rattle.words_wellformed.specs.HeldImages.{IsQuarters}
 use Rattle.steps.specs.declared.State.{State}
+use Rattle.steps.specs.State.{withMerges}
 use Rattle.steps.specs.declared.Step.{Step}
 use Rattle.steps.specs.declared.Step.the-variants.{Next, ExpansionLimit}
 use Rattle.stream_states.specs.declared.StreamRules.{StreamRules}
@@ -147,23 +148,8 @@ module _ (l : ℕ) (m : Absorption) (q : Pass) (j a s : ℕ) where
   unfolding mergeAt
   merge-stays e n = if-false _ _ (ap (λ (t : Bool). isAtOnce m && t) (is-clifford s n) ∙ e) ∙ if-false _ _ (ne-eqb s 0 n)
 
--- one merge more
-abbrev pub withMerge : State → State
-withMerge st = record {
-  axes = st .axes;
-  id = st .id;
-  turns = st .turns;
-  slots = st .slots;
-  out = st .out;
-  start = st .start;
-  waiting = st .waiting;
-  merges = st .merges + 1;
-  swaps = st .swaps;
-  absorbed = st .absorbed;
-}
-
 counted-holds : {z : Shape} {m : Absorption} {st : State} {ws xs : List ℕ} {p : Pass} → HoldsPass z m st ws xs p
-    → HoldsPass z m (withMerge st) ws xs (countMerge p)
+    → HoldsPass z m (withMerges (st .merges + 1) st) ws xs (countMerge p)
 unfolding countMerge
 counted-holds {st = st} h = record {
   f = h .f;
@@ -219,7 +205,7 @@ module _ {z : Shape} {c : StreamRules} {st : State} {j id k : ℕ} {ws xs : List
     sum-is : (old % 8 + k) % 8 ≡ (angleAt (p .out) j + k) % 8
     sum-is = omega (arith, old-angle)
 
-    counted : HoldsPass z m (withMerge st) ws xs (countMerge p)
+    counted : HoldsPass z m (withMerges (st .merges + 1) st) ws xs (countMerge p)
     counted = counted-holds (h .at .holds)
 
     -- the result, by the sum that was worked out
@@ -228,16 +214,16 @@ module _ {z : Shape} {c : StreamRules} {st : State} {j id k : ℕ} {ws xs : List
     result {r} {ws′} {xs′} s = subst (λ (x : ℕ). SteppedAs z m 1 1 st r ws′ xs′ (mergeAt (z .l) m (countMerge p) j id x)) sum-is s
 
     pub merge-to-zero : {xs′ : List ℕ} → (old % 8 + k) % 8 ≡ 0 → ZeroLeft z j id xs xs′
-        → SteppedAs z m 1 1 st (Next (withMerge st)) ws xs′ (mergeAt (z .l) m (countMerge p) j id ((angleAt (p .out) j + k) % 8))
+        → SteppedAs z m 1 1 st (Next (withMerges (st .merges + 1) st)) ws xs′ (mergeAt (z .l) m (countMerge p) j id ((angleAt (p .out) j + k) % 8))
     merge-to-zero {xs′} e left =
-        result (subst (SteppedAs z m 1 1 st (Next (withMerge st)) ws xs′) (sym (merge-zero (z .l) m (countMerge p) j id _ e))
-        (as-next (left .holds m (withMerge st) ws (countMerge p) counted (h .place)) (omega arith) (omega arith)))
+        result (subst (SteppedAs z m 1 1 st (Next (withMerges (st .merges + 1) st)) ws xs′) (sym (merge-zero (z .l) m (countMerge p) j id _ e))
+        (as-next (left .holds m (withMerges (st .merges + 1) st) ws (countMerge p) counted (h .place)) (omega arith) (omega arith)))
 
     module _ (n0 : (old % 8 + k) % 8 ≡ 0 → ⊥) {t : Bool} (said : t ≡ (isAtOnce (absorptionSaid c) && isEven ((old % 8 + k) % 8))) where
       once : t ≡ (isAtOnce m && isEven ((old % 8 + k) % 8))
       once = said ∙ ap (λ (x : Absorption). isAtOnce x && isEven ((old % 8 + k) % 8)) (sym (h .mode))
 
-      pub merged-there : t ≡ true → MergedAt z (withMerge st) j id ((old % 8 + k) % 8) ws xs m n (countMerge p)
+      pub merged-there : t ≡ true → MergedAt z (withMerges (st .merges + 1) st) j id ((old % 8 + k) % 8) ws xs m n (countMerge p)
       merged-there e = record {
         at = record {
           at = record { granted = h .at .granted; holds = counted; fine = counted-fine (h .at .fine); space = h .at .space };
@@ -249,21 +235,21 @@ module _ {z : Shape} {c : StreamRules} {st : State} {j id k : ℕ} {ws xs : List
       }
 
       pub merge-at-once : {r : Step} {ws′ xs′ : List ℕ} → t ≡ true
-          → SteppedAs z m 0 1 (withMerge st) r ws′ xs′ (leaveZero j id (absorb (z .l) (countMerge p) id ((old % 8 + k) % 8)))
+          → SteppedAs z m 0 1 (withMerges (st .merges + 1) st) r ws′ xs′ (leaveZero j id (absorb (z .l) (countMerge p) id ((old % 8 + k) % 8)))
           → SteppedAs z m 1 1 st r ws′ xs′ (mergeAt (z .l) m (countMerge p) j id ((angleAt (p .out) j + k) % 8))
       merge-at-once {r} {ws′} {xs′} e s =
           result (subst (SteppedAs z m 1 1 st r ws′ xs′) (sym (merge-once (z .l) m (countMerge p) j id _ (sym once ∙ e) n0))
           (stepped-from 1 1 s (omega arith) (omega arith)))
 
       module _ {xs₁ : List ℕ} (put : ItemPut xs (z .u) outRow j (taggedRotation id ((old % 8 + k) % 8)) xs₁) where
-        pub merge-name : NamePre z c (withMerge st) j xs₁
+        pub merge-name : NamePre z c (withMerges (st .merges + 1) st) j xs₁
         merge-name = record {
           numbers-long = omega (arith, h .at .granted .numbers-long, put .only .long);
           place = omega (arith, h .place, out-few (h .at), h .at .granted .sized .u-small);
           few = λ e. waiting-few (h .at) (h .mode ∙ e);
         }
 
-        pub merge-sets : {xs₂ : List ℕ} {s : State} → t ≡ false → PlaceNamed z c (withMerge st) j ((old % 8 + k) % 8) xs₁ xs₂ s
+        pub merge-sets : {xs₂ : List ℕ} {s : State} → t ≡ false → PlaceNamed z c (withMerges (st .merges + 1) st) j ((old % 8 + k) % 8) xs₁ xs₂ s
             → SteppedAs z m 1 1 st (Next s) ws xs₂ (mergeAt (z .l) m (countMerge p) j id ((angleAt (p .out) j + k) % 8))
         merge-sets {xs₂} {s} e name =
             let a = ap (λ (x : State). x .merges) (name .state) in

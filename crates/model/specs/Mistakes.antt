@@ -2,18 +2,22 @@
 -- edits of this crate put each mistake into a definition, and its case no longer holds. Assumes nothing.
 use mathlib.Core.Path.{_≡_, refl}
 use mathlib.Core.Bool.{true, false}
+use mathlib.Core.Option.{none}
 use mathlib.Core.List.{List, [], _∷_}
 use Prim.Native.Nat.{ℕ}
 use lib.IntN.{pos, negsuc}
 use Rattle.angle.specs.Angle.{eighthsOf, signedAngle}
 use Rattle.pauli.specs.Letter.{single}
-use Rattle.model.specs.declared.Strategy.the-variants.{Merge}
+use Rattle.model.specs.declared.Strategy.{Strategy}
+use Rattle.model.specs.declared.Strategy.the-variants.{Merge, Litinski}
+use Rattle.model.specs.declared.Options.{Options}
 use Rattle.model.specs.Program.{identity, letter, product, rotate, measure, Operation, Program}
-use Rattle.model.specs.Rules.{Absorption, off, atOnce, Rules}
+use Rattle.model.specs.Rules.{Absorption, off, atOnce, lazy, Rules, rulesOf}
 use Rattle.model.specs.Words.{asValue}
 use Rattle.model.specs.Clifford.{absorbImage}
 use Rattle.model.specs.Items.{tCount}
 use Rattle.model.specs.Run.{endOf, run}
+use Rattle.model.specs.Listing.{numeral}
 use Rattle.model.specs.Everything.{everything}
 
 -- angle k about a node; a measurement of a node
@@ -28,19 +32,38 @@ abbrev qubit : List Operation → Program
 qubit operations =
     record { qubits = 1; nodes = identity ∷ letter 0 1 ∷ letter 0 3 ∷ product 1 0 2 1 ∷ []; operations = operations; rows = [] }
 
--- nodes 1 and 2 are Y of the second qubit and of the first
+-- nodes 1, 2, 3 are Y of the second qubit, of the first, and of both
 abbrev qubits : List Operation → Program
-qubits operations = record { qubits = 2; nodes = identity ∷ letter 1 2 ∷ letter 0 2 ∷ []; operations = operations; rows = [] }
+qubits operations =
+    record { qubits = 2; nodes = identity ∷ letter 1 2 ∷ letter 0 2 ∷ product 1 0 2 0 ∷ []; operations = operations; rows = [] }
 
-abbrev rules : ℕ → ℕ → ℕ → Absorption → Rules
-rules lookback window candidates absorption = record {
+abbrev rulesFor : Strategy → ℕ → ℕ → ℕ → Absorption → Rules
+rulesFor strategy lookback window candidates absorption = record {
   lookback = lookback;
   window = window;
   candidates = candidates;
   absorption = absorption;
   eager = true;
-  strategy = Merge;
+  strategy = strategy;
   depth = false;
+}
+
+abbrev rules : ℕ → ℕ → ℕ → Absorption → Rules
+rules = rulesFor Merge
+
+-- no two numbers alike
+abbrev options : Options
+options = record {
+  lookback = 1;
+  window = 2;
+  candidates = 3;
+  rounds = 4;
+  «clifford_to_frame» = true;
+  «eager_swaps» = false;
+  «lazy_cliffords» = true;
+  strategy = Litinski;
+  «measure_depth» = true;
+  «max_packed_words» = 5;
 }
 
 -- the T-count after a number of rounds, with Rust's other defaults
@@ -62,6 +85,21 @@ pub record RuledOut : Type 0 where
   pub whole-sums : endOf (rules 1048576 3 2 off) 3 (qubit (turn 1 2 ∷ turn 2 2 ∷ turn 1 2 ∷ turn 1 2 ∷ [])) .swaps ≡ 0
   -- a stop rule that ignores exchanges: IY:7 YI:1 IY:2 YI:2 IY:1 would keep 3
   pub exchange-goes-on : tCount (endOf (rules 0 1 0 off) 8 (qubits (turn 1 7 ∷ turn 2 1 ∷ turn 1 2 ∷ turn 2 2 ∷ turn 1 1 ∷ [])) .items) ≡ 1
+  -- options taken for one another
+  pub options-to-rules : rulesOf options
+      ≡ record { lookback = 1; window = 2; candidates = 3; absorption = lazy; eager = false; strategy = Litinski; depth = true }
+  -- a stop rule with "higher" for "no lower": IY:1 YI:2 YY:2 YY:6 YI:6 IY:1 would keep none
+  pub no-lower-stops :
+      tCount (endOf (rules 0 0 16 off) 8 (qubits (turn 1 1 ∷ turn 2 2 ∷ turn 3 2 ∷ turn 3 6 ∷ turn 2 6 ∷ turn 1 1 ∷ [])) .items) ≡ 2
+  -- three rounds at most: X Z X Z X Z X by 1, then backwards by -1, but the last X by 1, would keep 2
+  pub four-rounds :
+      tLeft 4 (qubit (turn 1 1 ∷ turn 2 1 ∷ turn 1 1 ∷ turn 2 1 ∷ turn 1 1 ∷ turn 2 1 ∷ turn 1 1
+      ∷ turn 1 7 ∷ turn 2 7 ∷ turn 1 7 ∷ turn 2 7 ∷ turn 1 7 ∷ turn 2 7 ∷ turn 1 1 ∷ [])) ≡ 0
+  -- Litinski's later streams merging: Z:1 X:1 X:1 Y:7 Y:7 would merge three times
+  pub streams-apart :
+      endOf (rulesFor Litinski 1048576 0 16 lazy) 8 (qubit (turn 2 1 ∷ turn 1 1 ∷ turn 1 1 ∷ turn 3 7 ∷ turn 3 7 ∷ [])) .merges ≡ 2
+  -- `:`, the byte after 9, taken for a digit
+  pub colon : numeral (58 ∷ []) ≡ none
 
 pub ruled-out : RuledOut
 unfolding everything
@@ -73,4 +111,9 @@ ruled-out = record {
   children-first = refl;
   whole-sums = refl;
   exchange-goes-on = refl;
+  options-to-rules = refl;
+  no-lower-stops = refl;
+  four-rounds = refl;
+  streams-apart = refl;
+  colon = refl;
 }

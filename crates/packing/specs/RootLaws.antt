@@ -13,11 +13,11 @@ use Rattle.model.specs.Packing.{withStore, withRefusal, useNode, packRoot}
 use Rattle.theory.specs.Cases.{if-true, if-false}
 use Rattle.axes.specs.View.{wordAt}
 use Rattle.axes.specs.Held.{sizesOf, held-stored}
-use Rattle.axes.specs.Intern.{InternPre, Stores}
-use Rattle.axes.specs.Stored.{HasId, NoRoom, InternedAs, interned-is}
+use Rattle.interning.specs.Intern.{InternPre, Stores}
+use Rattle.interning.specs.Stored.{HasId, NoRoom, InternedAs, interned-is}
 use Rattle.axes.specs.declared.Sizes.{Sizes}
-use Rattle.axes.specs.declared.Interned.{Interned}
-use Rattle.axes.specs.declared.Interned.the-variants.{Id, Full}
+use Rattle.interning.specs.declared.Interned.{Interned}
+use Rattle.interning.specs.declared.Interned.the-variants.{Id, Full}
 use Rattle.layout.specs.declared.Shape.{Shape}
 use Rattle.layout.specs.Words.{slotPlace, slot-in, slot-counted}
 use Rattle.packing_states.specs.References.{referenceAt}

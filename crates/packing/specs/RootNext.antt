@@ -14,7 +14,7 @@ use Rattle.model.specs.Words.{idOf}
 use Rattle.model.specs.Packing.{withStore, useNode}
 use Rattle.theory.specs.Ids.{id-in, id-stored, intern-grows, stored-keeps, id-keeps}
 use Rattle.axes.specs.Held.{held-rows}
-use Rattle.axes.specs.Intern.{countWith}
+use Rattle.interning.specs.Intern.{countWith}
 use Rattle.layout.specs.declared.Shape.{Shape}
 use Rattle.layout.specs.Rows.{rowCount, usesRow, nodeSlot, nodePhase, freeRow, firstRoot, nextRoot, rootAxis, rootSign, axesRows, entries}
 use Rattle.layout.specs.Only.{Only, only-then, only-of}

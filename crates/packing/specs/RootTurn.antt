@@ -11,9 +11,9 @@ use Rattle.model.specs.Packing.{useNode}
 use Rattle.theory.specs.Ids.{id-le}
 use Rattle.axes.specs.declared.Sizes.{Sizes}
 use Rattle.axes.specs.Held.{sizesOf, held-count}
-use Rattle.axes.specs.Intern.{Stores, countWith}
-use Rattle.axes.specs.declared.Interned.{Interned}
-use Rattle.axes.specs.declared.Interned.the-variants.{Id, Full}
+use Rattle.interning.specs.Intern.{Stores, countWith}
+use Rattle.interning.specs.declared.Interned.{Interned}
+use Rattle.interning.specs.declared.Interned.the-variants.{Id, Full}
 use Rattle.layout.specs.declared.Shape.{Shape}
 use Rattle.layout.specs.Rows.{rowCount, rootAxis, rootSign}
 use Rattle.layout.specs.Only.{only-of}

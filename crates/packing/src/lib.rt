@@ -13,7 +13,7 @@ ghost use Rattle.records.specs.Given.{programIn};
 
 mod values;
 
-use axes::Interned;
+use interning::Interned;
 use layout::FIRST_ROOT;
 use layout::NEXT_ROOT;
 use layout::ROOT_AXIS;
@@ -110,7 +110,7 @@ fn pack_root(
     }
     let counted = st.slots * (2 * shape.l);
     let sizes = axes::sizes_of(shape, st.axes);
-    let i = axes::intern(words, numbers, sizes, counted, v.at);
+    let i = interning::intern(words, numbers, sizes, counted, v.at);
     let Interned::Id(id) = i else {
         return Step::ExpansionLimit;
     };
@@ -118,7 +118,7 @@ fn pack_root(
     store::write(numbers, shape.u, ROOT_SIGN, root, total);
     let free = values::release(numbers, shape.u, st.free, n);
     Step::Next(Slots {
-        axes: axes::count_with(st.axes, id),
+        axes: interning::count_with(st.axes, id),
         slots: st.slots,
         free,
         taken: st.taken,

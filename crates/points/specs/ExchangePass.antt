@@ -23,6 +23,7 @@ use Rattle.exchange.specs.Segments.{ExchangePre, Exchanged}
 use Rattle.exchange.specs.Pass.{exchange-is}
 use Rattle.points.specs.Demands.{exchange-pre}
 use Rattle.steps.specs.declared.State.{State}
+use Rattle.steps.specs.State.{withOut, withSwaps}
 use Rattle.points.specs.Points.{RunAt, SomeRun, OptionsIn, items-few}
 
 abbrev exchangeRules : Options → exchange.Rules
@@ -50,18 +51,7 @@ module _ {z : Shape} (o : Options) {st : State} {s : Sizes} (same : s ≡ sizesO
 
   module _ {d : Progress} {ys : List ℕ} (x : Exchanged s (exchangeRules o) ws xs (st .out) d ys) where
     pub swapped-at : (i : ℕ) (p : Program) (w : Work) → RunAt z i st ws xs p w
-        → RunAt z (i + 1) (record {
-          axes = st .axes;
-          id = st .id;
-          turns = st .turns;
-          slots = st .slots;
-          out = d .out;
-          start = st .start;
-          waiting = st .waiting;
-          merges = st .merges;
-          swaps = st .swaps + d .swaps;
-          absorbed = st .absorbed;
-        }) ws ys p (exchangePass (z .l) (rulesOf o) w)
+        → RunAt z (i + 1) (withSwaps (st .swaps + d .swaps) (withOut (d .out) st)) ws ys p (exchangePass (z .l) (rulesOf o) w)
     unfolding rulesOf member anyOf
     swapped-at i p w r =
         let g = rulesOf o in

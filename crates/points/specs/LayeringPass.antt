@@ -18,6 +18,7 @@ use Rattle.layering.specs.declared.Layering.{Layering}
 use Rattle.layering.specs.Contracts.{LayeringPre, LayeredAs}
 use Rattle.layering.specs.LayeringPass.{layered-pass}
 use Rattle.steps.specs.declared.State.{State}
+use Rattle.steps.specs.State.{withOut, withMerges}
 use Rattle.points.specs.Demands.{layering-pre}
 use Rattle.points.specs.Points.{RunAt, SomeRun, items-few}
 
@@ -33,18 +34,7 @@ module _ {z : Shape} {st : State} {s : Sizes} (same : s ≡ sizesOf z (st .axes)
 
   module _ {d : Layering} {ys : List ℕ} (x : LayeredAs s ws xs (st .out) d ys) where
     pub layered-at : (i : ℕ) (p : Program) (w : Work) → RunAt z i st ws xs p w
-        → RunAt z (i + 1) (record {
-          axes = st .axes;
-          id = st .id;
-          turns = st .turns;
-          slots = st .slots;
-          out = d .out;
-          start = st .start;
-          waiting = st .waiting;
-          merges = st .merges + d .merged;
-          swaps = st .swaps;
-          absorbed = st .absorbed;
-        }) ws ys p (layeringPass (z .l) w)
+        → RunAt z (i + 1) (withMerges (st .merges + d .merged) (withOut (d .out) st)) ws ys p (layeringPass (z .l) w)
     unfolding member anyOf
     layered-at i p w r =
         let b = subst (λ (n : Sizes). LayeredAs n ws xs (st .out) d ys) same x in

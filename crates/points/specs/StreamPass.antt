@@ -11,6 +11,7 @@ use Rattle.model.specs.Rounds.{Work, streamPass}
 use Rattle.layout.specs.declared.Shape.{Shape}
 use Rattle.layout.specs.Shape.{granted-same}
 use Rattle.steps.specs.declared.State.{State}
+use Rattle.steps.specs.State.{withMerges, withSwaps, withAbsorbed}
 use Rattle.steps.specs.declared.Step.{Step}
 use Rattle.stream_states.specs.declared.StreamRules.{StreamRules}
 use Rattle.stream_states.specs.States.{RulesAs, absorptionSaid}
@@ -56,18 +57,7 @@ module _ (o : Options) (merging : Bool) (st : State) {z : Shape} {ws xs : List �
       stream-few s = call (s .p) (s .w) (rulesOf o) (stream-at (s .at)) .few d e
 
       pub stream-done : (i : ℕ) (p : Program) (w : Work) → RunAt z i st ws xs p w
-          → EndedAs z (i + 1) (Next (record {
-            axes = d .axes;
-            id = d .id;
-            turns = d .turns;
-            slots = d .slots;
-            out = d .out;
-            start = d .start;
-            waiting = d .waiting;
-            merges = st .merges + d .merges;
-            swaps = st .swaps;
-            absorbed = st .absorbed + d .absorbed;
-          })) ws′ xs′ p (streamPass (z .l) (rulesOf o) merging w)
+          → EndedAs z (i + 1) (Next (withAbsorbed (st .absorbed + d .absorbed) (withSwaps (st .swaps) (withMerges (st .merges + d .merges) d)))) ws′ xs′ p (streamPass (z .l) (rulesOf o) merging w)
       stream-done i p w h =
           let a = call p w (rulesOf o) (stream-at h) in
           ended-at {i = i + 1} (omega arith) (record {

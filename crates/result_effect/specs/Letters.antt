@@ -18,15 +18,9 @@ use Rattle.model.specs.Words.{support, wordOf}
 use Rattle.model.specs.Listing.{letterLines}
 use Rattle.theory.specs.Cases.{if-true, if-false}
 use Rattle.theory.specs.Every.{Every}
-use Rattle.words_wellformed.specs.HeldImages.{idle}
+use Rattle.words_wellformed.specs.HeldImages.{idle, letter-small}
 use Rattle.words_wellformed.specs.SupportQubits.{support-each}
 use Rattle.result_effect.specs.Definitions.{letterRead, axesRead}
-
-letter-small : {x z : ℕ} → Digit x → Digit z → letterOf x z < 4
-letter-small off off = omega arith
-letter-small off on = omega arith
-letter-small on off = omega arith
-letter-small on on = omega arith
 
 module _ (l : ℕ) where
   -- a letter's line
@@ -121,7 +115,7 @@ module _ (l : ℕ) where
 
       letter : (q : ℕ) → q < 64 * l → letterAt l (fromLetters l f (64 * l)) q ≡ letterAt l w q
       letter q b =
-          let small : letterAt l w q < 4 = letter-small (bit-digit _ (q % 64)) (bit-digit _ (q % 64)) in
+          let small : letterAt l w q ≤ 3 = letter-small (bit-digit _ (q % 64)) (bit-digit _ (q % 64)) in
           fromLetters-letter l f (64 * l) q b (le-refl _) (omega (arith, first q b)) ∙ first q b
 
   -- the axes of a listing are read off its letters

@@ -6,8 +6,8 @@ ghost use Rattle.points.specs.Points.{SomeRun, OptionsIn, SameLong, RunAt, Ende
 use layout::Shape;
 use model::Options;
 use model::Strategy;
-use steps::Step;
 use steps::State;
+use steps::Step;
 
 // The passes, by the strategy.
 pub fn passes(

@@ -8,6 +8,7 @@ use Rattle.model.specs.Lists.{isEven}
 use Rattle.model.specs.Items.{Rot, Item, rotation, barrier, withSign, isClifford, angleOf}
 use Rattle.theory.specs.Cases.{by-if, and-left, and-right}
 use Rattle.theory.specs.Segments.{KeptByMerging}
+use Rattle.words_wellformed.specs.RunWords.{Turns}
 
 -- the second test failed
 pub and-false : (x y : Bool) → x && y ≡ false → x ≡ true → y ≡ false
@@ -19,15 +20,6 @@ and-false false y h e = absurd (false≢true e)
 -- "an angle counts eighths modulo 8"
 abbrev pub SmallItem : Item → Type 0
 SmallItem i = angleOf i ≤ 7
-
--- a rotation that is there to turn: its angle is 1 to 7
-abbrev pub Turns : Rot → Type 0
-Turns r = (0 < r .angle) × (r .angle ≤ 7)
-
--- so for the rotations among items
-abbrev pub TurnsItem : Item → Type 0
-TurnsItem (rotation r) = Turns r
-TurnsItem (barrier o a s) = Unit {0}
 
 -- merged angles are 0 to 7; those that stay are not 0
 pub turns-merging : KeptByMerging (λ (r : Rot). r .angle ≤ 7) Turns

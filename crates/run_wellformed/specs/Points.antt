@@ -34,7 +34,8 @@ use Rattle.theory.specs.Segments.{swaps-by, layerSegment-by, rewriteSegments-ev
 use Rattle.theory.specs.Steady.{Steady, streamPass-steady, exchangePass-steady, layeringPass-steady}
 use Rattle.theory.specs.Checked.{SmallAngle, Fine}
 use Rattle.words_wellformed.specs.PassWords.{afterItems}
-use Rattle.run_wellformed.specs.CliffordAngles.{SmallItem, Turns, TurnsItem, turns-merging, withSign-small}
+use Rattle.words_wellformed.specs.RunWords.{Turns, TurnsItem}
+use Rattle.run_wellformed.specs.CliffordAngles.{SmallItem, turns-merging, withSign-small}
 use Rattle.run_wellformed.specs.StreamSteps.{KeptBySteps, streamItem-by, afterItems-by, stream-by, small-kept, Absorbed, unmoved}
 use Rattle.run_wellformed.specs.StreamSteps.{absorbed-kept}
 use Rattle.run_wellformed.specs.Memory.{StoreFits, packed-store, PassFits, fits-kept, begin-fits, carryRows-fits, pass-store}

@@ -24,7 +24,7 @@ use Rattle.theory.specs.Steady.{Steady}
 use Rattle.theory.specs.PackedRoots.{start-range}
 use Rattle.theory.specs.Checked.{Fine, checked-fine}
 use Rattle.words_wellformed.specs.PassWords.{afterItems}
-use Rattle.run_wellformed.specs.CliffordAngles.{TurnsItem}
+use Rattle.words_wellformed.specs.RunWords.{TurnsItem}
 use Rattle.run_wellformed.specs.Memory.{width-positive, axes-within}
 use Rattle.run_wellformed.specs.Points.{Reached, passes-reached, StreamFormed, afterItems-formed, WellFormed, reached-formed, reached-steady}
 use Rattle.run_wellformed.specs.Points.{start-formed}

@@ -18,32 +18,22 @@ use Rattle.theory.specs.Every.{Every, every-weaken}
 use Rattle.theory.specs.Segments.{swaps-by, layerSegment-by, rewriteSegments-every}
 use Rattle.theory.specs.Checked.{Fine}
 use Rattle.words_wellformed.specs.PassWords.{WellPass, afterItems}
-use Rattle.words_wellformed.specs.RunWords.{HasAngle, AnglesStay, WellWork, pass-well, streamPass-well, exchangePass-well, layeringPass-well}
+use Rattle.words_wellformed.specs.RunWords.{AnglesStay, WellWork, pass-well, streamPass-well, exchangePass-well, layeringPass-well}
 use Rattle.words_wellformed.specs.RunWords.{start-well}
 use Rattle.words_wellformed.specs.Wellformed.{SignsEven, end-signs, work-signs}
-use Rattle.run_wellformed.specs.CliffordAngles.{Turns, TurnsItem, turns-merging}
+use Rattle.words_wellformed.specs.RunWords.{Turns, TurnsItem}
+use Rattle.run_wellformed.specs.CliffordAngles.{turns-merging}
 use Rattle.run_wellformed.specs.Points.{Reached, start, streamed, exchanged, layered}
-
-turns : (i : Item) → HasAngle i → TurnsItem i
-turns (rotation r) h = h
-turns (barrier o a s) h = tt
-
-has : (i : Item) → TurnsItem i → HasAngle i
-has (rotation r) h = h
-has (barrier o a s) h = tt
 
 -- exchange and layering leave angles 1 to 7
 pub angles-stay : (l : ℕ) (r : Rules) → AnglesStay l r
 unfolding exchangePass layeringPass
 angles-stay l r = record {
-  exchange = λ w h. by-if (λ (v : Work). Every HasAngle (v .items)) _ _ _ h
-      (every-weaken TurnsItem HasAngle has (rewriteSegments (swaps l (w .store .axes) (r .window) (r .candidates) (r .eager)) (w .items) .items)
+  exchange = λ w h. by-if (λ (v : Work). Every TurnsItem (v .items)) _ _ _ h
       (rewriteSegments-every Turns TurnsItem (λ t k. k) (λ t k. k) (swaps l (w .store .axes) (r .window) (r .candidates) (r .eager))
-      (swaps-by _ Turns turns-merging l (w .store .axes) (r .window) (r .candidates) (r .eager)) (w .items)
-      (every-weaken HasAngle TurnsItem turns (w .items) h)));
-  layering = λ w h. every-weaken TurnsItem HasAngle has (rewriteSegments (layerSegment l (w .store .axes)) (w .items) .items)
-      (rewriteSegments-every Turns TurnsItem (λ t k. k) (λ t k. k) (layerSegment l (w .store .axes))
-      (layerSegment-by _ Turns turns-merging l (w .store .axes)) (w .items) (every-weaken HasAngle TurnsItem turns (w .items) h));
+      (swaps-by _ Turns turns-merging l (w .store .axes) (r .window) (r .candidates) (r .eager)) (w .items) h);
+  layering = λ w h. rewriteSegments-every Turns TurnsItem (λ t k. k) (λ t k. k) (layerSegment l (w .store .axes))
+      (layerSegment-by _ Turns turns-merging l (w .store .axes)) (w .items) h;
 }
 
 module _ (p : Program) (fine : Fine p) (hermitian : packed p .refused ≡ false) (r : Rules) where

@@ -19,7 +19,8 @@ use Rattle.model.specs.Stream.{mergeOrPutOut, takeRotation, streamItem, stream,
 use Rattle.theory.specs.Cases.{by-if, on-if, and-left, and-right}
 use Rattle.theory.specs.Every.{Every, every-one}
 use Rattle.words_wellformed.specs.PassWords.{afterItems, stream-after}
-use Rattle.run_wellformed.specs.CliffordAngles.{SmallItem, TurnsItem, CliffordAngle, even-angle, clifford-angle}
+use Rattle.words_wellformed.specs.RunWords.{TurnsItem}
+use Rattle.run_wellformed.specs.CliffordAngles.{SmallItem, CliffordAngle, even-angle, clifford-angle}
 use Rattle.run_wellformed.specs.CliffordAngles.{withSign-turns}
 
 -- ---- the points of a stream

@@ -27,7 +27,8 @@ use Rattle.theory.specs.Every.{Every, every-one}
 use Rattle.theory.specs.Ids.{id-word, Grows, intern-grows}
 use Rattle.theory.specs.StreamState.{withoutAngles, axisOf, AllIn, AllRotations, Names, Sound, absorb-axes, carried-id, streamItem-stepped}
 use Rattle.words_wellformed.specs.PassWords.{afterItems, stream-after}
-use Rattle.run_wellformed.specs.CliffordAngles.{and-false, TurnsItem, withSign-turns}
+use Rattle.words_wellformed.specs.RunWords.{TurnsItem}
+use Rattle.run_wellformed.specs.CliffordAngles.{and-false, withSign-turns}
 use Rattle.run_wellformed.specs.CarriedImages.{absorbed-image}
 use Rattle.run_wellformed.specs.WaitingItems.{no-zero, Still, zeroed, zeroed-still, Passes, Waits, waits-zero, Yields, Mutual, waits-mutual}
 use Rattle.run_wellformed.specs.WaitingItems.{waits-one, still-waits, waits-grows, yields-grows}

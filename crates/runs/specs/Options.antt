@@ -81,6 +81,19 @@ six = job 1 (I ∷ X 0 ∷ Z 0 ∷ [])
     (rotate 1 0 1 ∷ rotate 2 0 1 ∷ rotate 1 0 1 ∷ rotate 1 0 7 ∷ rotate 2 0 7 ∷ rotate 1 0 1 ∷ [])
     (row 0 0 1 0 ∷ row 0 1 2 0 ∷ [])
 
+-- the oracle's ladder of 4: X Z X Z X Z X by 1, then backwards by -1, but the last X by 1
+abbrev ladder : Job
+ladder = job 1 (I ∷ X 0 ∷ Z 0 ∷ [])
+    (rotate 1 0 1 ∷ rotate 2 0 1 ∷ rotate 1 0 1 ∷ rotate 2 0 1 ∷ rotate 1 0 1 ∷ rotate 2 0 1 ∷ rotate 1 0 1
+    ∷ rotate 1 0 7 ∷ rotate 2 0 7 ∷ rotate 1 0 7 ∷ rotate 2 0 7 ∷ rotate 1 0 7 ∷ rotate 2 0 7 ∷ rotate 1 0 1 ∷ [])
+    (row 0 0 1 0 ∷ row 0 1 2 0 ∷ [])
+
+-- X:1 Z:1 X:1 Z:1 Z:7 X:7 Z:7 X:1
+abbrev ladderOfLayers : Job
+ladderOfLayers = job 1 (I ∷ X 0 ∷ Z 0 ∷ [])
+    (rotate 1 0 1 ∷ rotate 2 0 1 ∷ rotate 1 0 1 ∷ rotate 2 0 1 ∷ rotate 2 0 7 ∷ rotate 1 0 7 ∷ rotate 2 0 7 ∷ rotate 1 0 1 ∷ [])
+    (row 0 0 1 0 ∷ row 0 1 2 0 ∷ [])
+
 -- Z:2 X:1
 abbrev even : Job
 even = job 1 (I ∷ X 0 ∷ Z 0 ∷ [])
@@ -183,6 +196,18 @@ rounds-2 : called (options 1048576 0 16 2 true true false Merge false 64) six
 unfolding everything
 rounds-2 = refl
 
+-- three rounds of four that are needed: T 2
+rounds-3 : called (options 1048576 0 16 3 true true false Merge false 64) ladder
+    ≡ leaves (14 ∷ 2 ∷ 6 ∷ 0 ∷ 0 ∷ 14 ∷ 2 ∷ 0 ∷ 0 ∷ 14 ∷ 2 ∷ []) ((rotated 0 1 ∷ rotated 0 1 ∷ []) room 12)
+unfolding everything
+rounds-3 = refl
+
+-- four: T 0; refuses three rounds at most
+rounds-4 : called (options 1048576 0 16 4 true true false Merge false 64) ladder
+    ≡ leaves (14 ∷ 0 ∷ 7 ∷ 0 ∷ 1 ∷ 14 ∷ 0 ∷ 0 ∷ 0 ∷ 14 ∷ 0 ∷ []) ([] room 14)
+unfolding everything
+rounds-4 = refl
+
 -- absorption on, T-depth measured
 absorbed : called (options 1048576 0 16 8 true true false Merge true 64) even
     ≡ leaves (1 ∷ 1 ∷ 0 ∷ 0 ∷ 1 ∷ 2 ∷ 1 ∷ 1 ∷ 1 ∷ 2 ∷ 1 ∷ []) ((rotated 2 7 ∷ []) room 1)
@@ -255,6 +280,18 @@ litinski-8 : called (options 1048576 0 16 8 true true true Litinski false 64) la
     ≡ leaves (4 ∷ 0 ∷ 2 ∷ 0 ∷ 1 ∷ 4 ∷ 0 ∷ 0 ∷ 0 ∷ 4 ∷ 0 ∷ []) ([] room 4)
 unfolding everything
 litinski-8 = refl
+
+-- Litinski, three rounds of four that are needed: T 2
+litinski-3 : called (options 1048576 0 16 3 true true false Litinski false 64) ladderOfLayers
+    ≡ leaves (8 ∷ 2 ∷ 3 ∷ 0 ∷ 0 ∷ 8 ∷ 2 ∷ 0 ∷ 0 ∷ 8 ∷ 2 ∷ []) ((rotated 0 1 ∷ rotated 0 1 ∷ []) room 6)
+unfolding everything
+litinski-3 = refl
+
+-- four: T 0; refuses three rounds at most
+litinski-4 : called (options 1048576 0 16 4 true true false Litinski false 64) ladderOfLayers
+    ≡ leaves (8 ∷ 0 ∷ 4 ∷ 0 ∷ 1 ∷ 8 ∷ 0 ∷ 0 ∷ 0 ∷ 8 ∷ 0 ∷ []) ([] room 8)
+unfolding everything
+litinski-4 = refl
 
 -- Litinski: the streams between layerings do not merge
 streams-apart : called (options 1048576 0 16 8 true true true Litinski false 64) apart

@@ -4,6 +4,7 @@ use mathlib.Core.Bool.{true, false}
 use mathlib.Core.List.{List, [], _∷_, _++_}
 use Prim.Native.Nat.{ℕ}
 use lib.ListN.{replicate}
+use Rattle.pauli.specs.Word.{width}
 use Rattle.model.specs.declared.Strategy.the-variants.{Merge}
 use Rattle.model.specs.declared.Options.{Options}
 use Rattle.model.specs.declared.Answer.{Answer}
@@ -12,7 +13,7 @@ use Rattle.model.specs.declared.Answer.the-variants.{BadOperation}
 use Rattle.model.specs.declared.Answer.the-variants.{BadOutcome, NonHermitianAxis, ExpansionLimit}
 use Rattle.model.specs.Interface.{defaultsAt, noCounters}
 use Rattle.model.specs.Program.{Job}
-use Rattle.model.specs.Checking.{Lent, checking}
+use Rattle.model.specs.Checking.{Lent, wordsAsked, numbersAsked, checking}
 use Rattle.model.specs.Rewriting.{rewriting}
 use Rattle.model.specs.Everything.{everything}
 use Rattle.runs.specs.Shown.{I, X, Z, product, rotate, measure, conditional, row, job, measured-, given+, given-, allCounters}
@@ -21,12 +22,13 @@ use Rattle.runs.specs.Shown.{I, X, Z, product, rotate, measure, conditio
 abbrev options : Options
 options = defaultsAt 12
 
-abbrev withRounds : ℕ → Options
-withRounds n = record {
-  lookback = 0;
-  window = 0;
-  candidates = 0;
-  rounds = n;
+-- lookback, window, candidates, rounds
+abbrev sized : ℕ → ℕ → ℕ → ℕ → Options
+sized lookback window candidates rounds = record {
+  lookback = lookback;
+  window = window;
+  candidates = candidates;
+  rounds = rounds;
   «clifford_to_frame» = true;
   «eager_swaps» = true;
   «lazy_cliffords» = false;
@@ -34,6 +36,12 @@ withRounds n = record {
   «measure_depth» = false;
   «max_packed_words» = 0;
 }
+
+abbrev withRounds : ℕ → Options
+withRounds n = sized 0 0 0 n
+
+abbrev withSizes : ℕ → ℕ → ℕ → Options
+withSizes lookback window candidates = sized lookback window candidates 8
 
 -- slices of sevens
 abbrev lengths : ℕ → ℕ → ℕ → ℕ → Lent
@@ -68,8 +76,18 @@ pub record Refused : Type 0 where
   pub no-node : check (counted 1 0 0) ≡ CountOutside
   pub too-many-nodes : check (counted 1 65536 0) ≡ CountOutside
   pub too-many-operations : check (counted 1 1 65536) ≡ CountOutside
+  -- the last counts that 1 lets through: the slices are short
+  pub qubits-4096 : check (counted 4096 1 0) ≡ SliceShort
+  pub nodes-65535 : check (counted 1 65535 0) ≡ SliceShort
+  pub operations-65535 : check (counted 1 1 65535) ≡ SliceShort
   -- 2, after 1
   pub too-many-rounds : checking (withRounds 256) (job1 nodes []) (lent 400) ≡ OptionOutside
+  pub rounds-255 : checking (withRounds 255) (job1 nodes []) (lent 400) ≡ Accepted
+  pub largest-options : checking (withSizes 1048576 1048576 1048576) (job1 nodes []) (lent 400) ≡ Accepted
+  pub large-lookback : checking (withSizes 1048577 0 0) (job1 nodes []) (lent 400) ≡ OptionOutside
+  pub large-window : checking (withSizes 0 1048577 0) (job1 nodes []) (lent 400) ≡ OptionOutside
+  pub large-candidates : checking (withSizes 0 0 1048577) (job1 nodes []) (lent 400) ≡ OptionOutside
+  pub largest-limit : checking (defaultsAt 1048576) (job1 nodes []) (lent 400) ≡ SliceShort
   pub large-limit : checking (defaultsAt 1048577) (job1 nodes []) (lent 400) ≡ OptionOutside
   pub count-before-option : checking (withRounds 256) (counted 1 0 0) (lent 400) ≡ CountOutside
   -- 3, after 2: 28 words and 24 × (3 + 0 + 2 + 6 + 1) numbers are asked
@@ -79,12 +97,17 @@ pub record Refused : Type 0 where
   pub few-rows : checking options (job1 nodes []) (lengths 28 288 0 7) ≡ SliceShort
   pub few-operations : checking options (job1 nodes (rotate 1 0 1 ∷ [])) (lengths 28 312 5 8) ≡ SliceShort
   pub program-cut : check (counted 1 1 0) ≡ SliceShort
+  -- at 65 qubits, where l is 2: 100 + 16 × 2, and 24 × (3 + 4 + 130 + 25 + 1)
+  pub words-of-65 : wordsAsked (width 65) 100 ≡ 132
+  pub numbers-of-65 : numbersAsked (width 65) (record { qubits = 65; nodes = 3; operations = 4 }) 100 ≡ 3912
   -- 4
   pub node-0 : checkNodesOf (X 0 ∷ X 0 ∷ Z 0 ∷ []) ≡ BadNode
   pub unknown-kind : checkNodesOf (I ∷ X 0 ∷ (3 ∷ 0 ∷ 0 ∷ 0 ∷ 0 ∷ []) ∷ []) ≡ BadNode
   pub unknown-letter : checkNodesOf (I ∷ X 0 ∷ (1 ∷ 0 ∷ 4 ∷ 0 ∷ 0 ∷ []) ∷ []) ≡ BadNode
   pub unknown-phase : checkNodesOf (I ∷ X 0 ∷ product 1 0 1 4 ∷ []) ≡ BadNode
+  pub first-unknown-phase : checkNodesOf (I ∷ X 0 ∷ product 1 4 1 0 ∷ []) ≡ BadNode
   pub own-child : checkNodesOf (I ∷ X 0 ∷ product 1 0 2 0 ∷ []) ≡ BadNode
+  pub own-first-child : checkNodesOf (I ∷ X 0 ∷ product 2 0 1 0 ∷ []) ≡ BadNode
   -- 5, after 4 of the same node
   pub no-qubit : checkNodesOf (I ∷ X 1 ∷ Z 0 ∷ []) ≡ BadQubit
   pub letter-before-qubit : checkNodesOf (I ∷ (1 ∷ 1 ∷ 4 ∷ 0 ∷ 0 ∷ []) ∷ Z 0 ∷ []) ≡ BadNode
@@ -93,6 +116,7 @@ pub record Refused : Type 0 where
   pub large-angle : checkOps ((2 ∷ 1 ∷ 0 ∷ 8 ∷ 0 ∷ 0 ∷ []) ∷ []) ≡ BadOperation
   pub large-target : checkOps ((1 ∷ 1 ∷ 0 ∷ 0 ∷ 0 ∷ 65536 ∷ []) ∷ []) ≡ BadOperation
   pub large-outcome : checkOps (measure 1 0 65535 0 ∷ []) ≡ BadOperation
+  pub largest-outcome : checkOps (measure 1 0 65534 65535 ∷ []) ≡ Accepted
   pub unused-outcome : checkOps ((1 ∷ 1 ∷ 0 ∷ 0 ∷ 70000 ∷ 0 ∷ []) ∷ []) ≡ Accepted
   -- 6, after 7
   pub no-such-node : checkOps (rotate 3 0 1 ∷ []) ≡ BadReference
@@ -100,10 +124,14 @@ pub record Refused : Type 0 where
   pub angle-before-node : checkOps (rotate 3 0 8 ∷ []) ≡ BadOperation
   pub row-out-of-turn : check (job 1 nodes [] (row 0 1 2 0 ∷ row 0 0 1 0 ∷ [])) ≡ BadReference
   pub row-without-node : check (job 1 nodes [] (row 0 0 3 0 ∷ row 0 1 2 0 ∷ [])) ≡ BadReference
+  pub row-without-phase : check (job 1 nodes [] (row 0 0 1 4 ∷ row 0 1 2 0 ∷ [])) ≡ BadReference
   -- 8, after 6
   pub measured-twice : checkOps (measure 1 0 5 0 ∷ measure 2 0 5 0 ∷ []) ≡ BadOutcome
   pub measured-later : checkOps (conditional 1 0 1 5 ∷ measure 1 0 5 0 ∷ []) ≡ BadOutcome
   pub node-before-outcome : checkOps (conditional 3 0 1 5 ∷ []) ≡ BadReference
+  -- nodes before operations, operations before rows
+  pub nodes-before-operations : check (job1 (X 0 ∷ X 0 ∷ Z 0 ∷ []) (rotate 1 0 8 ∷ [])) ≡ BadNode
+  pub operations-before-rows : check (job 1 nodes (rotate 1 0 8 ∷ []) (row 0 1 2 0 ∷ row 0 0 1 0 ∷ [])) ≡ BadOperation
 
 pub refused-as-stated : Refused
 unfolding everything
@@ -113,7 +141,16 @@ refused-as-stated = record {
   no-node = refl;
   too-many-nodes = refl;
   too-many-operations = refl;
+  qubits-4096 = refl;
+  nodes-65535 = refl;
+  operations-65535 = refl;
   too-many-rounds = refl;
+  rounds-255 = refl;
+  largest-options = refl;
+  large-lookback = refl;
+  large-window = refl;
+  large-candidates = refl;
+  largest-limit = refl;
   large-limit = refl;
   count-before-option = refl;
   enough = refl;
@@ -122,26 +159,34 @@ refused-as-stated = record {
   few-rows = refl;
   few-operations = refl;
   program-cut = refl;
+  words-of-65 = refl;
+  numbers-of-65 = refl;
   node-0 = refl;
   unknown-kind = refl;
   unknown-letter = refl;
   unknown-phase = refl;
+  first-unknown-phase = refl;
   own-child = refl;
+  own-first-child = refl;
   no-qubit = refl;
   letter-before-qubit = refl;
   unknown-operation = refl;
   large-angle = refl;
   large-target = refl;
   large-outcome = refl;
+  largest-outcome = refl;
   unused-outcome = refl;
   no-such-node = refl;
   no-such-phase = refl;
   angle-before-node = refl;
   row-out-of-turn = refl;
   row-without-node = refl;
+  row-without-phase = refl;
   measured-twice = refl;
   measured-later = refl;
   node-before-outcome = refl;
+  nodes-before-operations = refl;
+  operations-before-rows = refl;
 }
 
 -- ---- what a call leaves

@@ -4,8 +4,6 @@ use mathlib.Core.Bool.{true, false}
 use mathlib.Core.Option.{Option, none, some}
 use mathlib.Core.List.{List, [], _∷_, _++_}
 use Prim.Native.Nat.{ℕ, _^_}
-use Prim.Native.String.{String}
-use Prim.Native.Char.{code}
 use lib.IntN.{pos, negsuc}
 use lib.ListN.{getD}
 use Rattle.angle.specs.Angle.{signedAngle, eighthsOf}
@@ -21,13 +19,8 @@ use Rattle.model.specs.Clifford.{absorbImage}
 use Rattle.model.specs.Run.{run, answerOf}
 use Rattle.model.specs.Listing.{listing}
 use Rattle.model.specs.Everything.{everything}
-use Rattle.runs.specs.Shown.{I, product, rotate, row, program, rules, rotated, kept, Shown, nonHermitianAt, shows, shown}
-use Prim.Native.String.{[] as done, _∷_ as _then_}
+use Rattle.runs.specs.Shown.{I, product, rotate, row, program, rules, rotated, kept, Shown, nonHermitianAt, shows, shown, bytes}
 use Rattle.runs.specs.Shown.{X as leafX, Z as leafZ}
-
-abbrev pub bytes : String → List ℕ
-bytes done = []
-bytes (c then s) = code c ∷ bytes s
 
 -- i ^ e times a word of one qubit or two
 abbrev value : ℕ → List ℕ → Value

@@ -1,4 +1,4 @@
--- The first state, and a state with one part of it changed. Assumes nothing.
+-- The first state, and a state with a part of it changed. Assumes nothing.
 use Prim.Native.Nat.{ℕ}
 use Rattle.steps.specs.declared.State.{State}
 
@@ -36,6 +36,36 @@ withSlots n st = record {
   absorbed = st .absorbed;
 }
 
+-- so many items put out
+abbrev pub withOut : ℕ → State → State
+withOut n st = record {
+  axes = st .axes;
+  id = st .id;
+  turns = st .turns;
+  slots = st .slots;
+  out = n;
+  start = st .start;
+  waiting = st .waiting;
+  merges = st .merges;
+  swaps = st .swaps;
+  absorbed = st .absorbed;
+}
+
+-- so many items put out, and a segment begins
+abbrev pub withSegment : ℕ → State → State
+withSegment n st = record {
+  axes = st .axes;
+  id = st .id;
+  turns = st .turns;
+  slots = st .slots;
+  out = n;
+  start = n;
+  waiting = st .waiting;
+  merges = st .merges;
+  swaps = st .swaps;
+  absorbed = st .absorbed;
+}
+
 -- so many places named
 abbrev pub withWaiting : ℕ → State → State
 withWaiting n st = record {
@@ -49,4 +79,49 @@ withWaiting n st = record {
   merges = st .merges;
   swaps = st .swaps;
   absorbed = st .absorbed;
+}
+
+-- so many merges
+abbrev pub withMerges : ℕ → State → State
+withMerges n st = record {
+  axes = st .axes;
+  id = st .id;
+  turns = st .turns;
+  slots = st .slots;
+  out = st .out;
+  start = st .start;
+  waiting = st .waiting;
+  merges = n;
+  swaps = st .swaps;
+  absorbed = st .absorbed;
+}
+
+-- so many exchanges
+abbrev pub withSwaps : ℕ → State → State
+withSwaps n st = record {
+  axes = st .axes;
+  id = st .id;
+  turns = st .turns;
+  slots = st .slots;
+  out = st .out;
+  start = st .start;
+  waiting = st .waiting;
+  merges = st .merges;
+  swaps = n;
+  absorbed = st .absorbed;
+}
+
+-- so many rotations absorbed
+abbrev pub withAbsorbed : ℕ → State → State
+withAbsorbed n st = record {
+  axes = st .axes;
+  id = st .id;
+  turns = st .turns;
+  slots = st .slots;
+  out = st .out;
+  start = st .start;
+  waiting = st .waiting;
+  merges = st .merges;
+  swaps = st .swaps;
+  absorbed = n;
 }

@@ -20,7 +20,8 @@ use Rattle.words_wellformed.specs.StoredWords.{StoredWords}
 use Rattle.words_wellformed.specs.PassWords.{WellItem, WellPass, items-more, afterItems, stream-after, carryAxis-well, absorbAllWaiting-well}
 use Rattle.words_wellformed.specs.PassWords.{absorbBlocking-well}
 use Rattle.words_wellformed.specs.PassWords.{carryRotation-well, streamItem-well, begin-well}
-use Rattle.run_wellformed.specs.CliffordAngles.{TurnsItem, withSign-turns}
+use Rattle.words_wellformed.specs.RunWords.{TurnsItem}
+use Rattle.run_wellformed.specs.CliffordAngles.{withSign-turns}
 use Rattle.run_wellformed.specs.Waiting.{Waiting, absorbWaiting-axes, absorbBlocking-axes, carryRotation-waiting, streamItem-waiting}
 use Rattle.run_wellformed.specs.Waiting.{begin-waiting}
 use Rattle.run_wellformed.specs.Waiting.{waiting-sound}

@@ -33,6 +33,7 @@ use Rattle.words_wellformed.specs.PassWords.{absorbBlocking-well}
 use Rattle.run_wellformed.specs.StreamSteps.{absorbBlocking-by}
 use Rattle.run_wellformed.specs.PassInside.{PassInside, inside-kept}
 use Rattle.steps.specs.declared.State.{State}
+use Rattle.steps.specs.State.{withSegment}
 use Rattle.steps.specs.declared.Step.{Step}
 use Rattle.steps.specs.declared.Step.the-variants.{Next, ExpansionLimit}
 use Rattle.stream_states.specs.declared.StreamRules.{StreamRules}
@@ -289,21 +290,6 @@ module _ {z : Shape} {c : StreamRules} {st : State} {ws xs : List ℕ} {m : Abso
 
 -- ---- a barrier, once none waits
 
--- behind it a segment begins
-abbrev pub withBarrier : State → State
-withBarrier st = record {
-  axes = st .axes;
-  id = st .id;
-  turns = st .turns;
-  slots = st .slots;
-  out = st .out + 1;
-  start = st .out + 1;
-  waiting = st .waiting;
-  merges = st .merges;
-  swaps = st .swaps;
-  absorbed = st .absorbed;
-}
-
 -- as it is put out
 abbrev pub movedBarrier : Tagged → ℕ → ℕ → Tagged
 movedBarrier x id turns = record { tag = x .tag; axis = id; angle = (turns + x .angle) % 4 }
@@ -356,7 +342,7 @@ module _ {z : Shape} {st : State} {x : Tagged} {ws xs : List ℕ} {r : Step} {ws
           said-other (movedBarrier x (to .id) (to .turns)) (h .tag)
           ∙ ap₂ (λ (i t : ℕ). barrier (x .tag - 1) i ((t + x .angle) % 4)) (carried-id (h .carry) call e) (carried-turns (h .carry) call e)
 
-      pub barrier-next : SteppedAs z m 0 0 st (Next (withBarrier to)) ws′ xs″
+      pub barrier-next : SteppedAs z m 0 0 st (Next (withSegment (to .out + 1) to)) ws′ xs″
           (barrierPut (z .l) p (x .tag - 1) (x .axis) (x .angle))
       unfolding barrierPut putOut withLast member anyOf
       barrier-next =

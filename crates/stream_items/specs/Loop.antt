@@ -20,7 +20,7 @@ use Rattle.items.specs.View.{taggedAt, itemSaid, itemAt, itemsIn, said-rotation
 use Rattle.items.specs.View.{tagged-other}
 use Rattle.items.specs.Put.{EntryPre}
 use Rattle.words_wellformed.specs.PassWords.{WellItem, afterItems, absorbAllWaiting-well, streamItem-well}
-use Rattle.run_wellformed.specs.CliffordAngles.{TurnsItem}
+use Rattle.words_wellformed.specs.RunWords.{TurnsItem}
 use Rattle.run_wellformed.specs.StreamSteps.{absorbAllWaiting-by, streamItem-by}
 use Rattle.run_wellformed.specs.PassInside.{PassInside, inside-kept}
 use Rattle.steps.specs.declared.State.{State}

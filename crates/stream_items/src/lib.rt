@@ -194,13 +194,7 @@ pub fn absorb_all(
 }
 
 // A barrier, once none waits: it is carried and put out, and a segment begins behind it.
-fn put_barrier(
-    words: &mut [u64],
-    numbers: &mut [u32],
-    shape: Shape,
-    st: State,
-    x: Tagged,
-) -> Step
+fn put_barrier(words: &mut [u64], numbers: &mut [u32], shape: Shape, st: State, x: Tagged) -> Step
     requires { ⌜ SomePass (λ m n p. BarrierAt shape st x (now words) (now numbers) m n p) ⌝ }
     ensures { λ r. ⌜ LeftS shape (now (words .entry)) (now (numbers .entry)) (now (words .exit)) (now (numbers .exit))
         × ((m : Absorption) (n : ℕ) (p : Pass) → BarrierAt shape st x (now (words .entry)) (now (numbers .entry)) m n p

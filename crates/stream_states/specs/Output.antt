@@ -26,7 +26,7 @@ use Rattle.words_wellformed.specs.Conjugation.{value-eq}
 use Rattle.waiting.specs.Places.{placeIn, Rising, Named, rising-as, named-as}
 use Rattle.clifford.specs.Holds.{imageIn, Holds}
 use Rattle.steps.specs.declared.State.{State}
-use Rattle.steps.specs.State.{withWaiting}
+use Rattle.steps.specs.State.{withOut, withWaiting}
 use Rattle.stream_states.specs.States.{heldOf, placeSaid, lastIn, isWaiting, Waits, HoldsPass}
 
 -- ---- F stays where other rows change
@@ -258,21 +258,6 @@ module _ {z : Shape} {m : Absorption} {st : State} {ws xs xs′ : List ℕ} {p :
 
 -- ---- a rotation is put out
 
--- one item more
-abbrev pub withOut : State → State
-withOut st = record {
-  axes = st .axes;
-  id = st .id;
-  turns = st .turns;
-  slots = st .slots;
-  out = st .out + 1;
-  start = st .start;
-  waiting = st .waiting;
-  merges = st .merges;
-  swaps = st .swaps;
-  absorbed = st .absorbed;
-}
-
 module _ {z : Shape} {m : Absorption} {st : State} {ws xs xs₁ xs₂ : List ℕ} {p : Pass} {a k : ℕ} (h : HoldsPass z m st ws xs p)
     (long : rowCount * z .u ≤ length xs) (inside : a < z .u) (wrote : Written xs (z .u) lastRow a (st .out + 1) xs₁)
     (put : ItemPut xs₁ (z .u) outRow (st .out) (taggedRotation a k) xs₂) where
@@ -290,7 +275,7 @@ module _ {z : Shape} {m : Absorption} {st : State} {ws xs xs₁ xs₂ : List ℕ
       (waits-same (λ i. tagged-other only-named outRow (omega arith) refl i) (only-named .rows waitingRow (omega arith) refl) (h .waits e))
 
   -- nothing is said of those that wait
-  pub rotation-put : HoldsPass z off (withOut st) ws xs₂ (putOutRotation p a k)
+  pub rotation-put : HoldsPass z off (withOut (st .out + 1) st) ws xs₂ (putOutRotation p a k)
   unfolding putOutRotation putOut withLast member anyOf
   rotation-put = record {
     f = holds-other (put .only) refl refl refl (holds-other only-named refl refl refl (h .f));

@@ -57,7 +57,7 @@ pub record IsXYZ (c : ℕ) : Type 0 where
   pub some : 0 < c
   pub small : c ≤ 3
 
-letter-small : {x z : ℕ} → Digit x → Digit z → letterOf x z ≤ 3
+pub letter-small : {x z : ℕ} → Digit x → Digit z → letterOf x z ≤ 3
 letter-small off off = omega arith
 letter-small off on = omega arith
 letter-small on off = omega arith

@@ -97,15 +97,19 @@ module _ (l : ℕ) (Angles : Type 0) where
 
 -- ---- exchange and layering
 
--- an angle of 1 to 7 eighths
-abbrev pub HasAngle : Item → Type 0
-HasAngle (rotation r) = (0 < r .angle) × (r .angle ≤ 7)
-HasAngle (barrier o a s) = Unit {0}
+-- a rotation that is there to turn: its angle is 1 to 7
+abbrev pub Turns : Rot → Type 0
+Turns r = (0 < r .angle) × (r .angle ≤ 7)
+
+-- so for the rotations among items
+abbrev pub TurnsItem : Item → Type 0
+TurnsItem (rotation r) = Turns r
+TurnsItem (barrier o a s) = Unit {0}
 
 -- what the crate of angles shows: exchange and layering leave angles 1 to 7
 pub record AnglesStay (l : ℕ) (r : Rules) : Type 0 where
-  pub exchange : (w : Work) → Every HasAngle (w .items) → Every HasAngle (exchangePass l r w .items)
-  pub layering : (w : Work) → Every HasAngle (w .items) → Every HasAngle (layeringPass l w .items)
+  pub exchange : (w : Work) → Every TurnsItem (w .items) → Every TurnsItem (exchangePass l r w .items)
+  pub layering : (w : Work) → Every TurnsItem (w .items) → Every TurnsItem (layeringPass l w .items)
 
 -- an item apart from its angle
 abbrev InPlace : Type 0 → ℕ → Item → Type 0
@@ -116,12 +120,12 @@ item-place : (Angles : Type 0) (m : ℕ) (i : Item) → WellItem Angles m i → 
 item-place Angles m (rotation r) h = h .0
 item-place Angles m (barrier o a s) h = h
 
-items-angles : (Angles : Type 0) (m : ℕ) (is : List Item) → Every (WellItem Angles m) is → Angles → Every HasAngle is
+items-angles : (Angles : Type 0) (m : ℕ) (is : List Item) → Every (WellItem Angles m) is → Angles → Every TurnsItem is
 items-angles Angles m [] h g = tt
 items-angles Angles m (rotation r ∷ is) h g = (h .0 .1 g, items-angles Angles m is (h .1) g)
 items-angles Angles m (barrier o a s ∷ is) h g = (tt, items-angles Angles m is (h .1) g)
 
-items-whole : (Angles : Type 0) (m : ℕ) (is : List Item) → Every (InPlace Angles m) is → (Angles → Every HasAngle is)
+items-whole : (Angles : Type 0) (m : ℕ) (is : List Item) → Every (InPlace Angles m) is → (Angles → Every TurnsItem is)
     → Every (WellItem Angles m) is
 items-whole Angles m [] h f = tt
 items-whole Angles m (rotation r ∷ is) h f = ((h .0, λ g. f g .0), items-whole Angles m is (h .1) (λ g. f g .1))

@@ -59,10 +59,12 @@ returns-2 c =
     let axis-at = turn-images .before .before .before .before in
     let t′ = axis-at .before .before in
     let touch-all = t′ .before .before .before .before .before .before in
-    let start = touch-all .before .before .before .before .before in
-    (absorb-left (touch-all .touch-all .ensures) (t′ .t .given .1) (axis-at .axis-at .ensures) (start .pre)
-    (turn-images .turn-images .ensures), λ t h. absorb-holds (touch-all .touch-all .ensures) (t′ .t .given .1) (axis-at .axis-at .ensures) h
-    (turn-images .turn-images .ensures))
+    let start = touch-all .before .before .before .before .before in (
+      absorb-left (touch-all .touch-all .ensures) (t′ .t .given .1) (axis-at .axis-at .ensures) (start .pre)
+          (turn-images .turn-images .ensures),
+      λ t h. absorb-holds (touch-all .touch-all .ensures) (t′ .t .given .1) (axis-at .axis-at .ensures) h
+          (turn-images .turn-images .ensures),
+    )
 
 pub absorb-spec : {M : Type 1} → statement M
 absorb-spec =

@@ -68,10 +68,12 @@ returns c =
     let acted-at = touch-bits .before .before .before in
     let turn = acted-at .before .before in
     let head = turn .before in
-    let axis-at = head .before in
-    (numbers-left (head .loop .inv) (turn .loop-test .taken) (axis-at .axis-at .ensures) (acted-at .acted-at .ensures)
-    (touch-bits .touch-bits .ensures), numbers-limit (head .loop .inv) (turn .loop-test .taken) (axis-at .axis-at .ensures)
-    (acted-at .acted-at .ensures) (touch-bits .touch-bits .ensures) (c .enum-told .given .1))
+    let axis-at = head .before in (
+      numbers-left (head .loop .inv) (turn .loop-test .taken) (axis-at .axis-at .ensures) (acted-at .acted-at .ensures)
+          (touch-bits .touch-bits .ensures),
+      numbers-limit (head .loop .inv) (turn .loop-test .taken) (axis-at .axis-at .ensures)
+          (acted-at .acted-at .ensures) (touch-bits .touch-bits .ensures) (c .enum-told .given .1),
+    )
 
 add-j : tie.Need-add-j Inv-loop μ-loop
 add-j c =

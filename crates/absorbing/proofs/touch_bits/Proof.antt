@@ -57,9 +57,11 @@ returns : tie.Need-returns Inv-loop μ-loop
 returns c =
     let touch = c .before .before .before .before .before .before in
     let turn = touch .before .before .before in
-    let head = turn .before in
-    (bits-left (head .loop .inv) (turn .loop-test .taken) refl (touch .touch .ensures), bits-limit (head .loop .inv)
-    (turn .loop-test .taken) refl (touch .touch .ensures) (c .enum-told .given .1))
+    let head = turn .before in (
+      bits-left (head .loop .inv) (turn .loop-test .taken) refl (touch .touch .ensures),
+      bits-limit (head .loop .inv)
+          (turn .loop-test .taken) refl (touch .touch .ensures) (c .enum-told .given .1),
+    )
 
 sub-rest : tie.Need-sub-rest Inv-loop μ-loop
 sub-rest c = omega arith

@@ -16,9 +16,11 @@ fixes-requires : tie.Need-fixes-requires
 fixes-requires c κs =
     let mask-at = c .before in
     let axis-at = mask-at .before in
-    let start = axis-at .before .before .before in
-    (omega (arith, axis-at .axis-at .ensures, carry-words (start .pre .it)), omega
-    (arith, mask-at .mask-at .ensures, carry-words (start .pre .it)))
+    let start = axis-at .before .before .before in (
+      omega (arith, axis-at .axis-at .ensures, carry-words (start .pre .it)),
+      omega
+          (arith, mask-at .mask-at .ensures, carry-words (start .pre .it)),
+    )
 
 with-image-requires : tie.Need-with-image-requires
 with-image-requires c κs = search needs
@@ -31,9 +33,11 @@ returns c =
     let test = c .before in
     let fixes = test .before in
     let mask-at = fixes .before .before in
-    let axis-at = mask-at .before in
-    (left-fixed _ _ _, λ t h. fixed-to h (axis-at .axis-at .ensures) (mask-at .mask-at .ensures) (fixes .fixes .ensures (test .if1 .taken))
-    (c .with-image .ensures))
+    let axis-at = mask-at .before in (
+      left-fixed _ _ _,
+      λ t h. fixed-to h (axis-at .axis-at .ensures) (mask-at .mask-at .ensures) (fixes .fixes .ensures (test .if1 .taken))
+          (c .with-image .ensures),
+    )
 
 carry-word-requires : tie.Need-carry-word-requires
 carry-word-requires c κs =
@@ -79,11 +83,13 @@ returns-2 c =
     let sizes-of = intern .before .before .before in
     let scratch-at = sizes-of .before in
     let carry-word = scratch-at .before .before .before .before .before in
-    let start = carry-word .before .before .before .before .before .before .before .before .before .before in
-    (limit-left (start .pre .it) (carry-word .carry-word .ensures _ (carry-at (start .pre .it))) (scratch-at .scratch-at .ensures)
-    (sizes-of .sizes-of .ensures) (intern .intern .ensures) (c .enum-told .given .1), λ t h. carry-limit h
-    (carry-word .carry-word .ensures t (carry-at h)) (scratch-at .scratch-at .ensures) (sizes-of .sizes-of .ensures)
-    (intern .intern .ensures) (c .enum-told .given .1))
+    let start = carry-word .before .before .before .before .before .before .before .before .before .before in (
+      limit-left (start .pre .it) (carry-word .carry-word .ensures _ (carry-at (start .pre .it))) (scratch-at .scratch-at .ensures)
+          (sizes-of .sizes-of .ensures) (intern .intern .ensures) (c .enum-told .given .1),
+      λ t h. carry-limit h
+          (carry-word .carry-word .ensures t (carry-at h)) (scratch-at .scratch-at .ensures) (sizes-of .sizes-of .ensures)
+          (intern .intern .ensures) (c .enum-told .given .1),
+    )
 
 count-with-requires : tie.Need-count-with-requires
 count-with-requires c κs =
@@ -107,11 +113,13 @@ returns-3 c =
     let sizes-of = intern .before .before .before in
     let scratch-at = sizes-of .before in
     let carry-word = scratch-at .before .before .before .before .before in
-    let start = carry-word .before .before .before .before .before .before .before .before .before .before in
-    (carry-left (start .pre .it) (carry-word .carry-word .ensures _ (carry-at (start .pre .it))) (scratch-at .scratch-at .ensures)
-    (sizes-of .sizes-of .ensures) (intern .intern .ensures) (i .i .given .1), λ t h. carry-to h
-    (carry-word .carry-word .ensures t (carry-at h)) (scratch-at .scratch-at .ensures) (sizes-of .sizes-of .ensures)
-    (intern .intern .ensures) (i .i .given .1) (count-with .count-with .ensures) (c .with-image2 .ensures))
+    let start = carry-word .before .before .before .before .before .before .before .before .before .before in (
+      carry-left (start .pre .it) (carry-word .carry-word .ensures _ (carry-at (start .pre .it))) (scratch-at .scratch-at .ensures)
+          (sizes-of .sizes-of .ensures) (intern .intern .ensures) (i .i .given .1),
+      λ t h. carry-to h
+          (carry-word .carry-word .ensures t (carry-at h)) (scratch-at .scratch-at .ensures) (sizes-of .sizes-of .ensures)
+          (intern .intern .ensures) (i .i .given .1) (count-with .count-with .ensures) (c .with-image2 .ensures),
+    )
 
 pub carry-spec : {M : Type 1} → statement M
 carry-spec =

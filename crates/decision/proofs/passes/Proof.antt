@@ -14,9 +14,10 @@ passes-requires : tie.Need-passes-requires
 passes-requires c κs =
     let first-state = c .before .before in
     let start-run = first-state .before .before .before in
-    let start = start-run .before .before .before .before .before .before .before .before in
-    (record { p = _; w = _; at = first-run (start .pre .0) (start-run .start-run .ensures) (first-state .first-state .ensures) },
-    start .pre .1)
+    let start = start-run .before .before .before .before .before .before .before .before in (
+      record { p = _; w = _; at = first-run (start .pre .0) (start-run .start-run .ensures) (first-state .first-state .ensures) },
+      start .pre .1,
+    )
 
 enum-known-e : tie.Need-enum-known-e
 enum-known-e c = search needs

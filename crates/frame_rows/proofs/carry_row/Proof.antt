@@ -43,9 +43,11 @@ returns-2 : tie.Need-returns-2
 returns-2 c =
     let carry = c .before .before .before .before .before .before in
     let test = carry .before .before .before .before in
-    let root-at = test .before .before in
-    (row-left (carry .carry .ensures .0), λ m n p h. row-limit h (root-at .root-at .ensures) (test .if1 .left) (carry .carry .ensures)
-    (c .enum-told .given .1))
+    let root-at = test .before .before in (
+      row-left (carry .carry .ensures .0),
+      λ m n p h. row-limit h (root-at .root-at .ensures) (test .if1 .left) (carry .carry .ensures)
+          (c .enum-told .given .1),
+    )
 
 cast-t18 : tie.Need-cast-t18
 cast-t18 c =
@@ -63,15 +65,22 @@ add-t19 c =
     let test = carry .before .before .before .before in
     let root-at = test .before .before in
     let start = root-at .before .before .before .before in
-    omega (arith, row-sign (start .pre .it) (root-at .root-at .ensures) (test .if1 .left), carried-small
-    (row-carry (start .pre .it) (root-at .root-at .ensures) (test .if1 .left)) (carry .carry .ensures) (c′ .c .given .1))
+    omega (
+      arith,
+      row-sign (start .pre .it) (root-at .root-at .ensures) (test .if1 .left),
+      carried-small
+          (row-carry (start .pre .it) (root-at .root-at .ensures) (test .if1 .left)) (carry .carry .ensures) (c′ .c .given .1),
+    )
 
 put-root-requires : tie.Need-put-root-requires
 put-root-requires c κs =
     let carry = c .before .before .before .before .before .before .before .before .before .before .before in
     let start = carry .before .before .before .before .before .before .before .before .before .before in
-    record { long = omega (arith, start .pre .it .at .granted .numbers-long, carry .carry .ensures .0 .numbers .long); here =
-    start .pre .it .here }
+    record {
+      long = omega (arith, start .pre .it .at .granted .numbers-long, carry .carry .ensures .0 .numbers .long);
+      here =
+          start .pre .it .here;
+    }
 
 same-length-4 : tie.Need-same-length-4
 same-length-4 c = search needs
@@ -85,9 +94,11 @@ returns-3 c =
     let c′ = put-root .before .before .before .before .before .before in
     let carry = c′ .before .before .before .before .before .before in
     let test = carry .before .before .before .before in
-    let root-at = test .before .before in
-    (row-put-left (carry .carry .ensures .0) (put-root .put-root .ensures), λ m n p h. row-next h (root-at .root-at .ensures)
-    (test .if1 .left) (carry .carry .ensures) (c′ .c .given .1) (put-root .put-root .ensures))
+    let root-at = test .before .before in (
+      row-put-left (carry .carry .ensures .0) (put-root .put-root .ensures),
+      λ m n p h. row-next h (root-at .root-at .ensures)
+          (test .if1 .left) (carry .carry .ensures) (c′ .c .given .1) (put-root .put-root .ensures),
+    )
 
 pub carry-row-spec : {M : Type 1} → statement M
 carry-row-spec =

@@ -24,9 +24,11 @@ same-length-2 c = search needs
 returns : tie.Need-returns
 returns c =
     let carry = c .before .before .before .before .before .before in
-    let start = carry .before .before .before .before .before in
-    (carry-left (start .pre .it .carry) (carry .carry .ensures), λ g n p rules h. carried-limit (carry .carry .ensures) h
-    (c .enum-told .given .1) g _ _ _)
+    let start = carry .before .before .before .before .before in (
+      carry-left (start .pre .it .carry) (carry .carry .ensures),
+      λ g n p rules h. carried-limit (carry .carry .ensures) h
+          (c .enum-told .given .1) g _ _ _,
+    )
 
 with-sign-requires : tie.Need-with-sign-requires
 with-sign-requires c κs = search needs
@@ -37,8 +39,13 @@ take-requires c κs =
     let c′ = with-sign .before .before in
     let carry = c′ .before .before .before .before .before .before in
     let start = carry .before .before .before .before .before in
-    record { m = start .pre .m; n = start .pre .n; p = _; it = taking-there (carry .carry .ensures) (start .pre .it) (c′ .c .given .1)
-    (with-sign .with-sign .ensures) }
+    record {
+      m = start .pre .m;
+      n = start .pre .n;
+      p = _;
+      it = taking-there (carry .carry .ensures) (start .pre .it) (c′ .c .given .1)
+          (with-sign .with-sign .ensures);
+    }
 
 same-length-3 : tie.Need-same-length-3
 same-length-3 c = search needs
@@ -52,10 +59,12 @@ returns-2 c =
     let with-sign = take .before .before .before in
     let c′ = with-sign .before .before in
     let carry = c′ .before .before .before .before .before .before in
-    let start = carry .before .before .before .before .before in
-    (left-then (carry-left (start .pre .it .carry) (carry .carry .ensures)) (take .take .ensures .0), λ g n p rules h. taken-as
-    (carry .carry .ensures) h (c′ .c .given .1) (with-sign .with-sign .ensures) g _
-    (take .take .ensures .1 g n _ rules (taking-there (carry .carry .ensures) h (c′ .c .given .1) (with-sign .with-sign .ensures))))
+    let start = carry .before .before .before .before .before in (
+      left-then (carry-left (start .pre .it .carry) (carry .carry .ensures)) (take .take .ensures .0),
+      λ g n p rules h. taken-as
+          (carry .carry .ensures) h (c′ .c .given .1) (with-sign .with-sign .ensures) g _
+          (take .take .ensures .1 g n _ rules (taking-there (carry .carry .ensures) h (c′ .c .given .1) (with-sign .with-sign .ensures))),
+    )
 
 pub carry-and-take-spec : {M : Type 1} → statement M
 carry-and-take-spec =

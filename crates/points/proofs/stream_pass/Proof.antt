@@ -25,25 +25,35 @@ same-length-2 c = stream-long (c .before .before .before .before .before .before
 returns : tie.Need-returns
 returns c =
     let stream = c .before .before .before .before .before .before in
-    let start = stream .before .before .before .before .before in
-    (stream-long (stream .stream .ensures .0), stream-limit (start .args .options) (start .args .merging) (start .args .run)
-    (stream .stream .ensures .0) (stream .stream .ensures .1) (c .enum-told .given .1))
+    let start = stream .before .before .before .before .before in (
+      stream-long (stream .stream .ensures .0),
+      stream-limit (start .args .options) (start .args .merging) (start .args .run)
+          (stream .stream .ensures .0) (stream .stream .ensures .1) (c .enum-told .given .1),
+    )
 
 add-next : tie.Need-add-next
 add-next c =
     let t = c .before .before .before in
     let stream = t .before .before .before .before .before .before in
     let start = stream .before .before .before .before .before in
-    omega (arith, start .pre .0 .at .few, stream-few (start .args .options) (start .args .merging) (start .args .run)
-    (stream .stream .ensures .0) (stream .stream .ensures .1) (t .t .given .1) (start .pre .0))
+    omega (
+      arith,
+      start .pre .0 .at .few,
+      stream-few (start .args .options) (start .args .merging) (start .args .run)
+          (stream .stream .ensures .0) (stream .stream .ensures .1) (t .t .given .1) (start .pre .0),
+    )
 
 add-next-2 : tie.Need-add-next-2
 add-next-2 c =
     let t = c .before .before .before .before .before in
     let stream = t .before .before .before .before .before .before in
     let start = stream .before .before .before .before .before in
-    omega (arith, start .pre .0 .at .few, stream-few (start .args .options) (start .args .merging) (start .args .run)
-    (stream .stream .ensures .0) (stream .stream .ensures .1) (t .t .given .1) (start .pre .0))
+    omega (
+      arith,
+      start .pre .0 .at .few,
+      stream-few (start .args .options) (start .args .merging) (start .args .run)
+          (stream .stream .ensures .0) (stream .stream .ensures .1) (t .t .given .1) (start .pre .0),
+    )
 
 same-length-3 : tie.Need-same-length-3
 same-length-3 c =
@@ -59,9 +69,11 @@ returns-2 : tie.Need-returns-2
 returns-2 c =
     let t = c .before .before .before .before .before in
     let stream = t .before .before .before .before .before .before in
-    let start = stream .before .before .before .before .before in
-    (stream-long (stream .stream .ensures .0), stream-done (start .args .options) (start .args .merging) (start .args .run)
-    (stream .stream .ensures .0) (stream .stream .ensures .1) (t .t .given .1))
+    let start = stream .before .before .before .before .before in (
+      stream-long (stream .stream .ensures .0),
+      stream-done (start .args .options) (start .args .merging) (start .args .run)
+          (stream .stream .ensures .0) (stream .stream .ensures .1) (t .t .given .1),
+    )
 
 pub stream-pass-spec : {M : Type 1} → statement M
 stream-pass-spec =

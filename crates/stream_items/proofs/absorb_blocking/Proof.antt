@@ -48,10 +48,12 @@ returns-2 c =
     let absorb-waiting = c .before .before .before .before in
     let c′ = absorb-waiting .before .before .before .before in
     let carry = c′ .before .before .before .before .before .before in
-    let start = carry .before .before .before .before .before in
-    (left-then (carry-left (start .pre .it .carry) (carry .carry .ensures)) (absorb-waiting .absorb-waiting .ensures .0), λ n p h.
-    blocked-as (carry .carry .ensures) h (c′ .c .given .1)
-    (absorb-waiting .absorb-waiting .ensures .1 n _ (wait-there (carry .carry .ensures) h (c′ .c .given .1))))
+    let start = carry .before .before .before .before .before in (
+      left-then (carry-left (start .pre .it .carry) (carry .carry .ensures)) (absorb-waiting .absorb-waiting .ensures .0),
+      λ n p h.
+          blocked-as (carry .carry .ensures) h (c′ .c .given .1)
+          (absorb-waiting .absorb-waiting .ensures .1 n _ (wait-there (carry .carry .ensures) h (c′ .c .given .1))),
+    )
 
 pub absorb-blocking-spec : {M : Type 1} → statement M
 absorb-blocking-spec =

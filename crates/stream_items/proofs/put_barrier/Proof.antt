@@ -30,9 +30,11 @@ same-length-2 c = search needs
 returns : tie.Need-returns
 returns c =
     let carry = c .before .before .before .before .before .before in
-    let start = carry .before .before .before .before .before .before in
-    (carry-left (start .pre .it .carry) (carry .carry .ensures), λ m n p h. barrier-limit (carry .carry .ensures) h
-    (c .enum-told .given .1))
+    let start = carry .before .before .before .before .before .before in (
+      carry-left (start .pre .it .carry) (carry .carry .ensures),
+      λ m n p h. barrier-limit (carry .carry .ensures) h
+          (c .enum-told .given .1),
+    )
 
 cast-t16 : tie.Need-cast-t16
 cast-t16 c =
@@ -80,9 +82,11 @@ returns-2 c =
     let put-item = c .before .before in
     let c′ = put-item .before .before .before .before .before .before in
     let carry = c′ .before .before .before .before .before .before in
-    let start = carry .before .before .before .before .before .before in
-    (barrier-left (carry .carry .ensures) (start .pre .it) (c′ .c .given .1) (put-item .put-item .ensures), λ m n p h. barrier-next
-    (carry .carry .ensures) h (c′ .c .given .1) (put-item .put-item .ensures))
+    let start = carry .before .before .before .before .before .before in (
+      barrier-left (carry .carry .ensures) (start .pre .it) (c′ .c .given .1) (put-item .put-item .ensures),
+      λ m n p h. barrier-next
+          (carry .carry .ensures) h (c′ .c .given .1) (put-item .put-item .ensures),
+    )
 
 pub put-barrier-spec : {M : Type 1} → statement M
 put-barrier-spec =

@@ -6,8 +6,8 @@ use lib.ListN.{getD}
 use Rattle.store.specs.Equal.{same-false}
 use borrow.Author.Needs.{needs}
 use borrow.Author.Tests.{eqb-false, not-true}
-use Rattle.axes.proofs.same_by.Statement.{statement}
-use Rattle.axes.proofs.same_by.Tie as tie
+use Rattle.interning.proofs.same_by.Statement.{statement}
+use Rattle.interning.proofs.same_by.Tie as tie
 
 mul-if3 : tie.Need-mul-if3
 mul-if3 c = search needs

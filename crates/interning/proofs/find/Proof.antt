@@ -1,12 +1,12 @@
 -- The loop's invariant: none of the first id axes is w. Assumes nothing.
 use Prim.Native.Nat.{_≤_, _-_}
 use Rattle.model.specs.Words.{idOf}
 use Rattle.axes.specs.Held.{storedAxes, held-axis}
-use Rattle.axes.specs.Find.{id-here, id-next, id-none}
+use Rattle.interning.specs.Find.{id-here, id-next, id-none}
 use native.Mathlib.Omega.{arith}
 use borrow.Author.Needs.{needs}
-use Rattle.axes.proofs.find.Statement.{statement}
-use Rattle.axes.proofs.find.Tie as tie
+use Rattle.interning.proofs.find.Statement.{statement}
+use Rattle.interning.proofs.find.Tie as tie
 
 abbrev Inv-loop : tie.InvT-loop
 Inv-loop words numbers z w k count id₀ id = (id ≤ z .axes) × (id ≤ idOf (storedAxes z words) w)

@@ -2,11 +2,11 @@
 use mathlib.Core.Path.{_≡_}
 use Prim.Native.Nat.{_≤_, _-_}
 use lib.ListN.{length}
-use Rattle.axes.specs.Find.{firstNonzero, first-here, first-next, first-none}
+use Rattle.interning.specs.Find.{firstNonzero, first-here, first-next, first-none}
 use native.Mathlib.Omega.{arith}
 use borrow.Author.Needs.{needs}
-use Rattle.axes.proofs.first_nonzero.Statement.{statement}
-use Rattle.axes.proofs.first_nonzero.Tie as tie
+use Rattle.interning.proofs.first_nonzero.Statement.{statement}
+use Rattle.interning.proofs.first_nonzero.Tie as tie
 
 abbrev Inv-loop : tie.InvT-loop
 Inv-loop w k₀ k-end k = (k ≤ k-end) × (k-end ≡ length w) × (k ≤ firstNonzero w)

@@ -14,11 +14,11 @@ use Rattle.theory.specs.Cases.{if-true, if-false}
 use Rattle.layout.specs.Rows.{axesRows}
 use Rattle.layout.specs.Only.{Only, only-none}
 use Rattle.layout.specs.Words.{axisPlace}
 use Rattle.axes.specs.View.{axesOf, wordAt, axes-length}
 use Rattle.axes.specs.declared.Sizes.{Sizes}
 use Rattle.axes.specs.Held.{storedAxes, Stored}
-use Rattle.axes.specs.declared.Interned.{Interned}
-use Rattle.axes.specs.declared.Interned.the-variants.{Id, Full}
+use Rattle.interning.specs.declared.Interned.{Interned}
+use Rattle.interning.specs.declared.Interned.the-variants.{Id, Full}
 
 -- the words that are counted when one is stored behind n axes
 abbrev pub sumWith : ℕ → ℕ → ℕ → ℕ

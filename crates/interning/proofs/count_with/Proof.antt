@@ -1,8 +1,8 @@
 -- An id is new exactly where it is the count. Assumes nothing.
-use Rattle.axes.specs.Intern.{count-new, count-old}
+use Rattle.interning.specs.Intern.{count-new, count-old}
 use borrow.Author.Needs.{needs}
-use Rattle.axes.proofs.count_with.Statement.{statement}
-use Rattle.axes.proofs.count_with.Tie as tie
+use Rattle.interning.proofs.count_with.Statement.{statement}
+use Rattle.interning.proofs.count_with.Tie as tie
 
 add-result : tie.Need-add-result
 add-result c = search needs

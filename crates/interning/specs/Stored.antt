@@ -13,13 +13,13 @@ use Rattle.theory.specs.Ids.{id-le}
 use Rattle.layout.specs.Rows.{axesRows}
 use Rattle.layout.specs.Only.{Only}
 use Rattle.layout.specs.Words.{axisPlace, KeptFrom, kept-none, kept-put}
 use Rattle.axes.specs.View.{axesOf, wordAt, axes-length, axes-put}
 use Rattle.axes.specs.declared.Sizes.{Sizes}
 use Rattle.axes.specs.Held.{withAxes, storedAxes, HoldsAxes, held-count}
-use Rattle.axes.specs.Intern.{sumWith, InternPre, Stores, intern-old, intern-new, stores-old, stores-limit, stores-new, stores-one}
-use Rattle.axes.specs.Intern.{countWith, count-new, count-old}
-use Rattle.axes.specs.declared.Interned.{Interned}
-use Rattle.axes.specs.declared.Interned.the-variants.{Id, Full}
+use Rattle.interning.specs.Intern.{sumWith, InternPre, Stores, intern-old, intern-new, stores-old, stores-limit, stores-new, stores-one}
+use Rattle.interning.specs.Intern.{countWith, count-new, count-old}
+use Rattle.interning.specs.declared.Interned.{Interned}
+use Rattle.interning.specs.declared.Interned.the-variants.{Id, Full}
 
 -- what a word's id means to the caller: the stores hold the model's axes, no tested sum exceeds the limit, axes and the other words
 -- still fit in it, and the other words that are counted, those behind the limit, and the rows that axes do not keep, are as they were

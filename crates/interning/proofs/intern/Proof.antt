@@ -1,10 +1,10 @@
 -- Three cases: the word is stored, the limit refuses it, or it is laid behind the axes. Assumes nothing.
 use mathlib.Core.Logic.{inr}
-use Rattle.axes.specs.Intern.{stores-old, stores-limit, stores-new}
+use Rattle.interning.specs.Intern.{stores-old, stores-limit, stores-new}
 use native.Mathlib.Omega.{arith}
 use borrow.Author.Needs.{needs}
-use Rattle.axes.proofs.intern.Statement.{statement}
-use Rattle.axes.proofs.intern.Tie as tie
+use Rattle.interning.proofs.intern.Statement.{statement}
+use Rattle.interning.proofs.intern.Tie as tie
 
 word-at-requires : tie.Need-word-at-requires
 word-at-requires c κs = search needs

@@ -1,0 +1,3 @@
+pub mod Find
+pub mod Intern
+pub mod Stored
