@@ -39,7 +39,7 @@ fn show(program: &Program, options: &Options) {
             let counted = rewritten.counted;
             println!("after\n{}", rewritten.view(&source));
             println!("T-count {} before, {} after", counted.t_before, counted.t_after);
-            println!("{} merges, {} exchanges, {} absorbed", counted.merges, counted.swaps, counted.cliffords_to_frame);
+            println!("merges {}, exchanges {}, absorbed {}", counted.merges, counted.swaps, counted.cliffords_to_frame);
         }
         (Err(refusal), _) => println!("{refusal}"),
         (Ok(_), None) => unreachable!("an accepted program's records are good"),

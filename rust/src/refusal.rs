@@ -45,7 +45,9 @@ impl Refusal {
             Self::CountOutside => "There are more than 4,096 qubits, more than 65,535 nodes or operations, or no node.",
             Self::OptionOutside => "Rounds are above 255, or lookback, window, candidates or word limit above 1,048,576.",
             Self::SliceShort => "A slice is shorter than its records, or than the memory that the job needs.",
-            Self::BadNode => "Node 0 is not the identity, a kind, letter or phase is unknown, or a child is not below its product.",
+            Self::BadNode => {
+                "Node 0 is not the identity, a kind, letter or phase is unknown, or a child is not below its product."
+            }
             Self::BadQubit => "A node's qubit is not below the number of qubits.",
             Self::BadReference => "An operation or row names a node or phase that does not exist, or a row is out of turn.",
             Self::BadOperation => "An operation's kind is unknown, its angle above 7, or its outcome or target too large.",

@@ -117,7 +117,9 @@ impl Program {
         let rows = self.row_records().iter();
         Some(View {
             qubits: self.qubits(),
-            operations: operations.map(|record| Some(Operation::read(axis(record[1], record[2])?, record))).collect::<Option<_>>()?,
+            operations: operations
+                .map(|record| Some(Operation::read(axis(record[1], record[2])?, record)))
+                .collect::<Option<_>>()?,
             frame: rows.map(|record| axis(record[2], record[3])).collect::<Option<_>>()?,
         })
     }

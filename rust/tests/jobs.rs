@@ -68,7 +68,11 @@ fn first_line(answer: Result<Counted, Refusal>) -> String {
 
 /// A line of a slice's numbers: `v*n` for n times v, `=` for what was there before.
 fn slice_line(name: &str, slice: &[u64], before: impl Fn(usize) -> u64) -> String {
-    let shown = slice.iter().enumerate().map(|(place, &number)| if number == before(place) { "=".to_string() } else { number.to_string() });
+    let shown = slice.iter().enumerate().map(
+        |(place, &number)| {
+            if number == before(place) { "=".to_string() } else { number.to_string() }
+        },
+    );
     let mut runs: Vec<(String, usize)> = Vec::new();
     for number in shown {
         match runs.last_mut() {
@@ -76,7 +80,9 @@ fn slice_line(name: &str, slice: &[u64], before: impl Fn(usize) -> u64) -> Strin
             _ => runs.push((number, 1)),
         }
     }
-    let run = |(number, times): &(String, usize)| if *times == 1 { format!(" {number}") } else { format!(" {number}*{times}") };
+    let run = |(number, times): &(String, usize)| {
+        if *times == 1 { format!(" {number}") } else { format!(" {number}*{times}") }
+    };
     format!("{name}{}", runs.iter().map(run).collect::<String>())
 }
 

@@ -90,7 +90,9 @@ fn listings_and_rewriting_agree() {
     let texts = gate_listings();
     let mut accepted = 0;
     for text in texts.iter().filter_map(|text| std::str::from_utf8(text).ok()) {
-        let Ok((program, options)) = Program::from_listing(text) else { continue };
+        let Ok((program, options)) = Program::from_listing(text) else {
+            continue;
+        };
         let listing = list(text);
         let rewritten = optimize(&program, &options);
         assert_eq!(rewritten.as_ref().err(), listing.answer.err().as_ref(), "{text}");

@@ -3,9 +3,7 @@
 mod lent;
 
 use lent::{Guarded, Lent};
-use werdutxa::{
-    LISTING_BYTES, NONE, Options, Program, Records, Refusal, Sizes, check, list, list_into, optimize, rewrite,
-};
+use werdutxa::{LISTING_BYTES, NONE, Options, Program, Records, Refusal, Sizes, check, list, list_into, optimize, rewrite};
 
 const IDENTITY: [u32; 5] = [0; 5];
 
