@@ -1,11 +1,11 @@
-//! Finds the smallest word limit that a program is accepted with, by bisection: what is accepted at a limit is accepted at every larger one.
+//! Prints the smallest word limit that a program is accepted with.
 //!
 //! limit               the paper's example
 //! limit - < listing   a listing; its own limit is passed over
 
 use std::io::Read;
 
-use werdutxa::{LARGEST, Options, Program, Refusal, optimize};
+use werdutxa::{Program, smallest_limit};
 
 const EXAMPLE: &str = include_str!("../../oracle/listing/example.in");
 
@@ -19,24 +19,9 @@ fn main() -> std::io::Result<()> {
         }
         Some(_) => panic!("limit, or limit - < listing"),
     }
-    match Program::from_listing(&text).and_then(|(program, options)| smallest(&program, options)) {
+    match Program::from_listing(&text).and_then(|(program, options)| smallest_limit(&program, &options)) {
         Ok(limit) => println!("{limit}"),
         Err(refusal) => println!("{refusal}"),
     }
     Ok(())
-}
-
-/// The smallest limit that accepts, or why none does.
-fn smallest(program: &Program, options: Options) -> Result<usize, Refusal> {
-    let run = |limit| optimize(program, &Options { max_packed_words: limit, ..options });
-    run(LARGEST)?;
-    let (mut low, mut high) = (0, LARGEST);
-    while low < high {
-        let middle = (low + high) / 2;
-        match run(middle) {
-            Ok(_) => high = middle,
-            Err(_) => low = middle + 1,
-        }
-    }
-    Ok(high)
 }

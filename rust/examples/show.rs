@@ -5,7 +5,7 @@
 
 use std::io::Read;
 
-use werdutxa::{Options, Program, Refusal, optimize};
+use werdutxa::{Program, show};
 
 const EXAMPLE: &str = include_str!("../../oracle/listing/example.in");
 
@@ -20,28 +20,8 @@ fn main() -> std::io::Result<()> {
         Some(_) => panic!("show, or show - < listing"),
     }
     match Program::from_listing(&text) {
-        Ok((program, options)) => show(&program, &options),
+        Ok((program, options)) => print!("{}", show(&program, &options)),
         Err(refusal) => println!("{refusal}"),
     }
     Ok(())
-}
-
-fn show(program: &Program, options: &Options) {
-    let rewritten = optimize(program, options);
-    // From 9 on the records are good.
-    let good = !matches!(rewritten, Err(refusal) if refusal.number() < Refusal::NonHermitianAxis.number());
-    let source = program.view().filter(|_| good);
-    if let Some(source) = &source {
-        println!("before\n{source}");
-    }
-    match (rewritten, source) {
-        (Ok(rewritten), Some(source)) => {
-            let counted = rewritten.counted;
-            println!("after\n{}", rewritten.view(&source));
-            println!("T-count {} before, {} after", counted.t_before, counted.t_after);
-            println!("merges {}, exchanges {}, absorbed {}", counted.merges, counted.swaps, counted.cliffords_to_frame);
-        }
-        (Err(refusal), _) => println!("{refusal}"),
-        (Ok(_), None) => unreachable!("an accepted program's records are good"),
-    }
 }

@@ -1,6 +1,7 @@
 //! Listing: the paper's text in, its text out.
 
-use crate::calls::{LISTING_BYTES, Memory, Sizes, list_into};
+use crate::calls::list_into;
+use crate::lent::{LISTING_BYTES, Memory, Sizes};
 use crate::refusal::Refusal;
 
 /// What Listing answers and prints.

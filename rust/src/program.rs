@@ -2,7 +2,7 @@
 
 use std::collections::HashMap;
 
-use crate::calls::{NONE, Records};
+use crate::lent::{NONE, Records};
 use crate::list;
 use crate::options::Options;
 use crate::pauli::{Letter, NoPauli, Pauli};

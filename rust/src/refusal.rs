@@ -3,6 +3,12 @@
 use std::fmt;
 
 /// Why a call was refused, by the paper's numbers. `docs/REFUSALS.md` says for each what to do.
+///
+/// ```
+/// # use werdutxa::Refusal;
+/// assert_eq!(Refusal::BadQubit.number(), 5);
+/// assert_eq!(Refusal::BadQubit.to_string(), "refused by 5: A node's qubit is not below the number of qubits.");
+/// ```
 #[derive(Clone, Copy, Debug, PartialEq, Eq)]
 pub enum Refusal {
     CountOutside = 1,

@@ -2,8 +2,9 @@
 
 use std::fmt;
 
-use crate::calls::{Counted, MINUS_ONE, Memory, NONE, Sizes, rewrite, width};
-use crate::options::Options;
+use crate::calls::rewrite;
+use crate::lent::{Counted, MINUS_ONE, Memory, NONE, Sizes, width};
+use crate::options::{LARGEST, Options};
 use crate::pauli::Pauli;
 use crate::program::{CONDITIONAL_ROTATE, MEASURE, Program};
 use crate::refusal::Refusal;
@@ -71,6 +72,30 @@ pub fn optimize(program: &Program, options: &Options) -> Result<Rewritten, Refus
     let mut memory = Memory { words: &mut words, numbers: &mut numbers, operations: &mut operations, rows: &mut rows };
     let counted = rewrite(&records, options, &mut memory)?;
     Ok(Rewritten::read(program.qubits(), counted, &memory))
+}
+
+/// The smallest word limit that a program is accepted with, or why none is, by bisection: what is accepted at a limit is accepted at every
+/// larger one.
+///
+/// ```
+/// # use werdutxa::{NoPauli, Options, Program, smallest_limit};
+/// let mut program = Program::new(1);
+/// program.rotate("Z", 1)?.rotate("Z", 1)?.measure("X", 0, None)?;
+/// assert_eq!(smallest_limit(&program, &Options::default()), Ok(12));
+/// # Ok::<(), NoPauli>(())
+/// ```
+pub fn smallest_limit(program: &Program, options: &Options) -> Result<usize, Refusal> {
+    let run = |max_packed_words| optimize(program, &Options { max_packed_words, ..*options });
+    run(LARGEST)?;
+    let (mut low, mut high) = (0, LARGEST);
+    while low < high {
+        let middle = (low + high) / 2;
+        match run(middle) {
+            Ok(_) => high = middle,
+            Err(_) => low = middle + 1,
+        }
+    }
+    Ok(high)
 }
 
 impl Rewritten {

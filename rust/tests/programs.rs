@@ -1,6 +1,6 @@
 //! Programs from Pauli strings, records and listings say the same.
 
-use werdutxa::{NONE, Operation, Options, Pauli, Program, Refusal, list, optimize};
+use werdutxa::{NONE, Operation, Options, Pauli, Program, Refusal, list, optimize, show};
 
 const EXAMPLE: &str = include_str!("../../oracle/listing/example.in");
 const EXAMPLE_OUT: &str = include_str!("../../oracle/listing/example.out");
@@ -69,6 +69,25 @@ fn listings() {
     built.rotate("Z", 1).unwrap().rotate("Z", 1).unwrap().measure("X", 0, None).unwrap();
     assert_eq!(listed.view(), built.view());
     assert_eq!(Program::from_listing("no listing"), Err(Refusal::BadText));
+}
+
+/// rust/README.md has what `show` prints of 01's example.
+#[test]
+fn the_readme_shows_the_example() {
+    let (program, options) = Program::from_listing(EXAMPLE).unwrap();
+    let indented = |line: &str| if line.is_empty() { "\n".to_string() } else { format!("    {line}\n") };
+    let shown: String = show(&program, &options).lines().map(indented).collect();
+    assert!(include_str!("../README.md").contains(&shown), "{shown}");
+}
+
+/// What is shown where there is no result.
+#[test]
+fn refusals_are_shown() {
+    let (program, options) = Program::from_listing(LIMIT_11).unwrap();
+    let shown = show(&program, &options);
+    assert!(shown.starts_with("before\n") && shown.ends_with("refused by 10: The run needs more words than the word limit.\n"));
+    let bad = Program::from_records(1, vec![[9; 5]], vec![], vec![]);
+    assert!(show(&bad, &Options::default()).starts_with("refused by 3"));
 }
 
 /// The texts of the gate's list: a line with the number of bytes and five lengths, then the bytes and a newline.
