@@ -27,11 +27,20 @@ fn words_of_example(qubits: usize) -> usize {
     12 * width(qubits)
 }
 
+/// A run in lent slices of just the sizes that are asked, between sentinels.
+fn run(program: &Program, options: &Options) -> Result<Rewritten, Refusal> {
+    let records = program.records();
+    let mut lent = Lent::new(Sizes::of(&records, options));
+    let counted = rewrite(&records, options, &mut lent.lend());
+    assert!(lent.sentinels_hold());
+    counted.map(|counted| Rewritten::read(program.qubits(), counted, &lent.lend()))
+}
+
 fn example_is_rewritten(qubits: usize, strategy: Strategy) {
     let program = example(qubits);
     let words = words_of_example(qubits);
     let options = |max_packed_words| Options { max_packed_words, strategy, ..Options::default() };
-    let rewritten = optimize(&program, &options(words)).unwrap();
+    let rewritten = run(&program, &options(words)).unwrap();
     let y = format!("-Y{}", qubits - 1);
     let measured = Operation::Measure { axis: pauli(&y), outcome: 0, target: None };
     assert_eq!(rewritten.operations, [measured], "{qubits} qubits");
@@ -40,7 +49,7 @@ fn example_is_rewritten(qubits: usize, strategy: Strategy) {
     let z = format!("Z{}", qubits - 1);
     assert_eq!(given, [FrameRow::Given(pauli(&y)), FrameRow::Given(pauli(&z))]);
     assert_eq!((rewritten.counted.t_before, rewritten.counted.t_after), (2, 0));
-    assert_eq!(optimize(&program, &options(words - 1)), Err(Refusal::ExpansionLimit));
+    assert_eq!(run(&program, &options(words - 1)), Err(Refusal::ExpansionLimit));
 }
 
 #[test]
