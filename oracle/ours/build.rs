@@ -8,13 +8,13 @@ fn main() {
         let ours = std::env::var("CARGO_MANIFEST_DIR").expect("cargo sets it");
         format!("{ours}/../../target/staticlib")
     });
-    let library = Path::new(&folder).join("librewriting_exports.a");
+    let library = Path::new(&folder).join("libwerdutxa.a");
     sources::rerun_if_changed(&library);
     assert!(
         library.exists(),
-        "{} is not there: run `rt staticlib rewriting_exports` in the repository's root",
+        "{} is not there: run `rt staticlib werdutxa` in the repository's root",
         library.display()
     );
     println!("cargo::rustc-link-search=native={folder}");
-    println!("cargo::rustc-link-lib=static=rewriting_exports");
+    println!("cargo::rustc-link-lib=static=werdutxa");
 }

@@ -1,0 +1,88 @@
+/* 01's example twice: as records through Rewriting, and as a listing through Listing. */
+#include <inttypes.h>
+#include <stdio.h>
+#include <string.h>
+
+#include "werdutxa.h"
+
+enum { QUBITS = 1, NODES = 3, OPERATIONS = 3, LIMIT = 12 };
+
+/* the identity, Z and X of qubit 0 */
+static const uint32_t nodes[NODES * WERDUTXA_NODE_FIELDS] = {
+    WERDUTXA_IDENTITY, 0, 0, 0, 0,
+    WERDUTXA_LETTER, 0, WERDUTXA_Z, 0, 0,
+    WERDUTXA_LETTER, 0, WERDUTXA_X, 0, 0,
+};
+
+/* two T rotations about Z, then a measurement of X into outcome 0 */
+static const uint32_t operations[OPERATIONS * WERDUTXA_OPERATION_FIELDS] = {
+    WERDUTXA_ROTATE, 1, 0, 1, WERDUTXA_NONE, WERDUTXA_NONE,
+    WERDUTXA_ROTATE, 1, 0, 1, WERDUTXA_NONE, WERDUTXA_NONE,
+    WERDUTXA_MEASURE, 2, 0, 0, 0, WERDUTXA_NONE,
+};
+
+static const uint32_t rows[2 * QUBITS * WERDUTXA_ROW_FIELDS] = {
+    0, 0, 2, 0,
+    0, 1, 1, 0,
+};
+
+static const char listing[] =
+    "       1       3       3      12\n"
+    "       0       0       0       0       0\n"
+    "       1       0       3       0       0\n"
+    "       1       0       1       0       0\n"
+    "       1       1       0       1      -1      -1\n"
+    "       1       1       0       1      -1      -1\n"
+    "       2       2       0       0       0      -1\n"
+    "       0       0       2       0\n"
+    "       0       1       1       0\n";
+
+/* lent memory, as long as refusal 3 asks at this limit: limit + 16, 24 * (nodes + operations + 2 * qubits + limit / 2 + 1) */
+static uint64_t words[LIMIT + 16];
+static uint32_t numbers[24 * (NODES + OPERATIONS + 2 * QUBITS + LIMIT / 2 + 1)];
+static uint32_t result_operations[OPERATIONS * WERDUTXA_OPERATION_FIELDS];
+static uint32_t result_rows[2 * QUBITS * WERDUTXA_ROW_FIELDS];
+static uint8_t output[WERDUTXA_LISTING_BYTES];
+
+#define LENGTH(a) (sizeof(a) / sizeof *(a))
+
+static const struct werdutxa_program program = {
+    QUBITS, NODES, OPERATIONS, nodes, LENGTH(nodes), operations, LENGTH(operations), rows, LENGTH(rows),
+};
+
+static const struct werdutxa_memory memory = {
+    words, LENGTH(words), numbers, LENGTH(numbers),
+    result_operations, LENGTH(result_operations), result_rows, LENGTH(result_rows),
+};
+
+static void print_records(const uint32_t *records, size_t count, size_t fields) {
+    for (size_t i = 0; i < count; i++)
+        for (size_t j = 0; j < fields; j++)
+            printf("%" PRIu32 "%c", records[i * fields + j], j + 1 < fields ? ' ' : '\n');
+}
+
+static void rewrite(size_t limit) {
+    struct werdutxa_options options = WERDUTXA_DEFAULTS;
+    options.limit = limit;
+    struct werdutxa_counted counted;
+    uint32_t checked = werdutxa_check_program(&program, &options, &memory);
+    uint32_t answer = werdutxa_rewrite_program(&program, &options, &memory, &counted);
+    printf("limit %zu: checking %" PRIu32 ", rewriting %" PRIu32 ", T-count %zu before, %zu after\n",
+           limit, checked, answer, counted.t_before, counted.t_after);
+    if (answer != WERDUTXA_ACCEPTED)
+        return;
+    print_records(result_operations, counted.operations, WERDUTXA_OPERATION_FIELDS);
+    print_records(result_rows, 2 * QUBITS, WERDUTXA_ROW_FIELDS);
+    for (size_t id = 0; id < counted.axes; id++)
+        printf("axis %zu: x %" PRIu64 ", z %" PRIu64 "\n", id, words[2 * id], words[2 * id + 1]);
+}
+
+int main(void) {
+    rewrite(LIMIT);
+    rewrite(LIMIT - 1);
+    rewrite(LIMIT + 1);
+    size_t size;
+    uint32_t answer = werdutxa_list_text((const uint8_t *)listing, strlen(listing), output, sizeof output, &memory, &size);
+    printf("listing %" PRIu32 "\n%.*s", answer, (int)size, (const char *)output);
+    return 0;
+}

@@ -1,0 +1,112 @@
+//! What the library's calls are lent, and what they count.
+
+use crate::options::Options;
+
+/// The bytes that a listing's output must have room for: the largest listing.
+pub const LISTING_BYTES: usize = 215_361;
+
+/// No outcome or no target, in a record.
+pub const NONE: u32 = 65_535;
+
+/// -1 in a result's sign, or in the axis of a kept row.
+pub const MINUS_ONE: u32 = u32::MAX;
+
+/// A program's records as numbers in a row, as the paper has them. The slices may be longer than the counts say.
+#[derive(Clone, Copy, Debug)]
+pub struct Records<'a> {
+    pub qubits: usize,
+    pub node_count: usize,
+    pub operation_count: usize,
+    /// kind and four fields for each node
+    pub nodes: &'a [u32],
+    /// kind, node, phase, angle, outcome, target
+    pub operations: &'a [u32],
+    /// qubit, 0 for x or 1 for z, node, phase
+    pub rows: &'a [u32],
+}
+
+/// The slices that a call is lent.
+///
+/// After an accepted call they hold results and then zeros; after 9 and 10 words and numbers are zero; after any other refusal all is
+/// as it was.
+#[derive(Debug)]
+pub struct Memory<'a> {
+    /// The axes by id: x-words, then z-words.
+    pub words: &'a mut [u64],
+    /// For work.
+    pub numbers: &'a mut [u32],
+    /// kind, axis, sign, angle, outcome, target
+    pub operations: &'a mut [u32],
+    /// qubit, 0 for x or 1 for z, axis, sign
+    pub rows: &'a mut [u32],
+}
+
+/// What a run counts, in the order that the library writes it.
+#[repr(C)]
+#[derive(Clone, Copy, Debug, Default, PartialEq, Eq)]
+pub struct Counted {
+    /// Rotations of odd angle, plain and conditional.
+    pub t_before: usize,
+    pub t_after: usize,
+    /// Pairs of rotations merged into one.
+    pub merges: usize,
+    /// Exchanges.
+    pub swaps: usize,
+    /// Rotations absorbed into the frame.
+    pub cliffords_to_frame: usize,
+    /// Operations that came out.
+    pub operations: usize,
+    /// Axes that are stored.
+    pub axes: usize,
+    /// Plain rotations.
+    pub rotations_before: usize,
+    pub rotations_after: usize,
+    /// 0 where `measure_depth` is off.
+    pub t_depth_before: usize,
+    pub t_depth_after: usize,
+    /// Letters other than I of all rotations.
+    pub weight_before: usize,
+    pub weight_after: usize,
+}
+
+/// How long the lent slices must be.
+#[derive(Clone, Copy, Debug, Default, PartialEq, Eq)]
+pub struct Sizes {
+    pub words: usize,
+    pub numbers: usize,
+    pub operations: usize,
+    pub rows: usize,
+}
+
+/// How many words a plane of an axis has: an axis has twice as many.
+pub fn width(qubits: usize) -> usize {
+    qubits.div_ceil(64).max(1)
+}
+
+impl Sizes {
+    /// What refusal 3 asks for, or nothing where refusal 1 or 2 comes before it.
+    pub fn of(records: &Records, options: &Options) -> Self {
+        let Records { qubits, node_count, operation_count, .. } = *records;
+        let in_domain = qubits <= 4_096 && node_count <= 65_535 && operation_count <= 65_535;
+        if !in_domain || !options.in_domain() {
+            return Self::default();
+        }
+        Self::at(qubits, node_count, operation_count, options.max_packed_words)
+    }
+
+    /// What the largest listing asks for.
+    pub fn of_listing() -> Self {
+        // One word per plane has the most axes; the other counts are those that refusal 11 lets through.
+        Self::at(64, 128, 128, 256)
+    }
+
+    fn at(qubits: usize, node_count: usize, operation_count: usize, limit: usize) -> Self {
+        let width = width(qubits);
+        Self {
+            words: limit + 16 * width,
+            numbers: 24 * (node_count + operation_count + 2 * qubits + limit / (2 * width) + 1),
+            operations: 6 * operation_count,
+            rows: 8 * qubits,
+        }
+    }
+}

@@ -1,0 +1,187 @@
+//! Pauli strings with a phase.
+
+use std::fmt;
+use std::str::FromStr;
+
+/// A letter other than I, by the paper's number.
+#[derive(Clone, Copy, Debug, PartialEq, Eq, PartialOrd, Ord, Hash)]
+pub enum Letter {
+    X = 1,
+    Y = 2,
+    Z = 3,
+}
+
+/// A power of i times a product of letters on different qubits.
+///
+/// It is read from and printed as a string: a phase (nothing, `+`, `-`, `i` or `-i`), then a letter for each qubit from qubit 0 on, or
+/// letters with their qubits.
+///
+/// ```
+/// # use werdutxa::Pauli;
+/// let dense: Pauli = "-XIZ".parse()?;
+/// let sparse: Pauli = "-X0 Z2".parse()?;
+/// assert_eq!(dense, sparse);
+/// assert_eq!(dense.to_string(), "-X0 Z2");
+/// assert_eq!(dense.dense(3), "-XIZ");
+/// # Ok::<(), werdutxa::NoPauli>(())
+/// ```
+#[derive(Clone, Debug, Default, PartialEq, Eq, Hash)]
+pub struct Pauli {
+    /// How many quarter turns, 0 to 3.
+    phase: u32,
+    /// By rising qubit.
+    letters: Vec<(usize, Letter)>,
+}
+
+/// A string that is no Pauli string.
+#[derive(Clone, Debug, PartialEq, Eq)]
+pub struct NoPauli(String);
+
+impl fmt::Display for NoPauli {
+    fn fmt(&self, f: &mut fmt::Formatter<'_>) -> fmt::Result {
+        write!(f, "{:?} is no Pauli string", self.0)
+    }
+}
+
+impl std::error::Error for NoPauli {}
+
+impl Letter {
+    pub(crate) fn of_number(number: u32) -> Option<Self> {
+        [None, Some(Self::X), Some(Self::Y), Some(Self::Z)].get(number as usize).copied().flatten()
+    }
+
+    fn of_char(letter: char) -> Option<Self> {
+        "IXYZ".find(letter).and_then(|number| Self::of_number(number as u32))
+    }
+
+    fn name(self) -> char {
+        [' ', 'X', 'Y', 'Z'][self as usize]
+    }
+
+    /// The product's letter and quarter turns: XY = iZ, YX = -iZ.
+    fn times(self, other: Self) -> (Option<Self>, u32) {
+        let (a, b) = (self as u32, other as u32);
+        match (3 + b - a) % 3 {
+            0 => (None, 0),
+            1 => (Self::of_number(6 - a - b), 1),
+            _ => (Self::of_number(6 - a - b), 3),
+        }
+    }
+}
+
+impl Pauli {
+    /// One letter on one qubit.
+    pub fn letter(qubit: usize, letter: Letter) -> Self {
+        Self { phase: 0, letters: vec![(qubit, letter)] }
+    }
+
+    /// How many quarter turns stand in front, 0 to 3: 2 is a minus.
+    pub fn phase(&self) -> u32 {
+        self.phase
+    }
+
+    /// The letters other than I, by rising qubit.
+    pub fn letters(&self) -> &[(usize, Letter)] {
+        &self.letters
+    }
+
+    /// With so many more quarter turns in front.
+    pub fn turned(mut self, quarters: u32) -> Self {
+        self.phase = (self.phase + quarters % 4) % 4;
+        self
+    }
+
+    /// The product, with its phase.
+    pub fn times(&self, other: &Self) -> Self {
+        let mut letters: Vec<(usize, Letter)> = Vec::new();
+        let mut phase = self.phase + other.phase;
+        let (mut left, mut right) = (self.letters.iter().peekable(), other.letters.iter().peekable());
+        loop {
+            let next = match (left.peek(), right.peek()) {
+                (Some(a), Some(b)) if a.0 == b.0 => {
+                    let (letter, turns) = a.1.times(b.1);
+                    phase += turns;
+                    letters.extend(letter.map(|letter| (a.0, letter)));
+                    left.next();
+                    right.next();
+                    continue;
+                }
+                (Some(a), Some(b)) if a.0 < b.0 => left.next(),
+                (Some(_), None) => left.next(),
+                (_, Some(_)) => right.next(),
+                (None, None) => return Self { phase: phase % 4, letters },
+            };
+            letters.extend(next);
+        }
+    }
+
+    /// The letters of a packed word: x-words, then z-words.
+    pub(crate) fn unpacked(qubits: usize, word: &[u64]) -> Self {
+        let (x, z) = word.split_at(word.len() / 2);
+        let bit = |plane: &[u64], qubit: usize| plane[qubit / 64] >> (qubit % 64) & 1 == 1;
+        let letter = |qubit| match (bit(x, qubit), bit(z, qubit)) {
+            (false, false) => None,
+            (true, false) => Some((qubit, Letter::X)),
+            (true, true) => Some((qubit, Letter::Y)),
+            (false, true) => Some((qubit, Letter::Z)),
+        };
+        Self { phase: 0, letters: (0..qubits).filter_map(letter).collect() }
+    }
+
+    fn sign(&self) -> &'static str {
+        ["", "i", "-", "-i"][self.phase as usize]
+    }
+
+    /// A letter for each qubit, I included, and beyond `qubits` for each that has one.
+    pub fn dense(&self, qubits: usize) -> String {
+        let last = self.letters.last().map_or(0, |&(qubit, _)| qubit + 1);
+        let mut letters = vec!['I'; qubits.max(last)];
+        for &(qubit, letter) in &self.letters {
+            letters[qubit] = letter.name();
+        }
+        self.sign().chars().chain(letters).collect()
+    }
+}
+
+impl fmt::Display for Pauli {
+    fn fmt(&self, f: &mut fmt::Formatter<'_>) -> fmt::Result {
+        let letters: Vec<String> = self.letters.iter().map(|(qubit, letter)| format!("{}{qubit}", letter.name())).collect();
+        let letters = if letters.is_empty() { "I".to_string() } else { letters.join(" ") };
+        f.pad(&format!("{}{letters}", self.sign()))
+    }
+}
+
+impl FromStr for Pauli {
+    type Err = NoPauli;
+
+    fn from_str(text: &str) -> Result<Self, NoPauli> {
+        let phases = [("-i", 3), ("+i", 1), ("i", 1), ("-", 2), ("+", 0), ("", 0)];
+        let (letters, phase) = phases
+            .iter()
+            .find_map(|&(sign, phase)| text.strip_prefix(sign).map(|letters| (letters, phase)))
+            .expect("the empty sign is a prefix");
+        let letters = if letters.contains(|c: char| c.is_ascii_digit()) { sparse(letters) } else { dense(letters) };
+        letters.map(|letters| Self { phase, letters }).ok_or_else(|| NoPauli(text.to_string()))
+    }
+}
+
+/// A letter for each qubit from qubit 0 on.
+fn dense(text: &str) -> Option<Vec<(usize, Letter)>> {
+    if text.is_empty() || text.contains(|c| !"IXYZ".contains(c)) {
+        return None;
+    }
+    let letters = text.chars().enumerate();
+    Some(letters.filter_map(|(qubit, letter)| Some((qubit, Letter::of_char(letter)?))).collect())
+}
+
+/// Letters with their qubits, between blanks, each qubit once.
+fn sparse(text: &str) -> Option<Vec<(usize, Letter)>> {
+    let field = |field: &str| {
+        let letter = Letter::of_char(field.chars().next()?)?;
+        Some((field[1..].parse().ok()?, letter))
+    };
+    let mut letters: Vec<(usize, Letter)> = text.split_whitespace().map(field).collect::<Option<_>>()?;
+    letters.sort();
+    let once = letters.windows(2).all(|pair| pair[0].0 != pair[1].0);
+    once.then_some(letters)
+}

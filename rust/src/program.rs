@@ -1,0 +1,193 @@
+//! Programs: from Pauli strings, from records, from listings.
+
+use std::collections::HashMap;
+
+use crate::lent::{NONE, Records};
+use crate::list;
+use crate::options::Options;
+use crate::pauli::{Letter, NoPauli, Pauli};
+use crate::refusal::Refusal;
+
+pub type NodeRecord = [u32; 5];
+pub type OperationRecord = [u32; 6];
+pub type RowRecord = [u32; 4];
+
+const IDENTITY: NodeRecord = [0; 5];
+const LETTER: u32 = 1;
+const PRODUCT: u32 = 2;
+
+pub(crate) const ROTATE: u32 = 1;
+pub(crate) const MEASURE: u32 = 2;
+pub(crate) const CONDITIONAL_ROTATE: u32 = 3;
+
+/// The two frame rows of a qubit.
+#[derive(Clone, Copy, Debug, PartialEq, Eq)]
+pub enum Row {
+    X = 0,
+    Z = 1,
+}
+
+/// A program: operations in order, and a frame.
+///
+/// From Pauli strings it begins with the frame that does nothing, and grows operation by operation:
+///
+/// ```
+/// # use werdutxa::{NoPauli, Program};
+/// let mut program = Program::new(2);
+/// program.rotate("ZI", 1)?.rotate("-XX", -1)?.measure("ZZ", 0, Some(7))?.conditional_rotate("XI", 2, 0)?;
+/// # Ok::<(), NoPauli>(())
+/// ```
+///
+/// Nothing is tested here but that a string is a Pauli string; a call answers for the rest.
+#[derive(Clone, Debug, PartialEq, Eq)]
+pub struct Program {
+    qubits: usize,
+    nodes: Vec<NodeRecord>,
+    operations: Vec<OperationRecord>,
+    rows: Vec<RowRecord>,
+    /// Where a letter or product stands, so that equal ones share a node.
+    places: HashMap<NodeRecord, u32>,
+}
+
+impl Program {
+    /// No operations, and rows X and Z for each qubit.
+    pub fn new(qubits: usize) -> Self {
+        let mut program = Self::from_records(qubits, vec![IDENTITY], Vec::new(), Vec::new());
+        for qubit in 0..qubits {
+            for (row, letter) in [(Row::X, Letter::X), (Row::Z, Letter::Z)] {
+                let node = program.leaf(qubit, letter);
+                program.rows.push([qubit as u32, row as u32, node, 0]);
+            }
+        }
+        program
+    }
+
+    /// As the paper has records; nothing is tested.
+    pub fn from_records(qubits: usize, nodes: Vec<NodeRecord>, operations: Vec<OperationRecord>, rows: Vec<RowRecord>) -> Self {
+        Self { qubits, nodes, operations, rows, places: HashMap::new() }
+    }
+
+    /// A listing's program, and its options: the defaults with its word limit. What is no listing is refused by 11.
+    pub fn from_listing(text: &str) -> Result<(Self, Options), Refusal> {
+        if list(text).answer == Err(Refusal::BadText) {
+            return Err(Refusal::BadText);
+        }
+        let mut lines = text.lines().map(fields);
+        let first = lines.next().expect("a listing has a first line");
+        let (qubits, nodes, operations) = (first[0] as usize, first[1] as usize, first[2] as usize);
+        let program = Self::from_records(
+            qubits,
+            lines.by_ref().take(nodes).map(record).collect(),
+            lines.by_ref().take(operations).map(record).collect(),
+            lines.map(record).collect(),
+        );
+        Ok((program, Options { max_packed_words: first[3] as usize, ..Options::default() }))
+    }
+
+    pub fn qubits(&self) -> usize {
+        self.qubits
+    }
+
+    /// A rotation by `angle` eighths, in full turns of 8.
+    pub fn rotate(&mut self, axis: &str, angle: i32) -> Result<&mut Self, NoPauli> {
+        self.operation(ROTATE, axis, angle, NONE, None)
+    }
+
+    /// A measurement into an outcome, and into a target if there is one.
+    pub fn measure(&mut self, axis: &str, outcome: u16, target: Option<u16>) -> Result<&mut Self, NoPauli> {
+        self.operation(MEASURE, axis, 0, outcome.into(), target)
+    }
+
+    /// A rotation where the outcome is 1.
+    pub fn conditional_rotate(&mut self, axis: &str, angle: i32, outcome: u16) -> Result<&mut Self, NoPauli> {
+        self.operation(CONDITIONAL_ROTATE, axis, angle, outcome.into(), None)
+    }
+
+    /// A frame row in place of the one that is there.
+    pub fn frame_row(&mut self, qubit: usize, row: Row, axis: &str) -> Result<&mut Self, NoPauli> {
+        let axis: Pauli = axis.parse()?;
+        let node = self.node_of(&axis);
+        self.rows[2 * qubit + row as usize] = [qubit as u32, row as u32, node, axis.phase()];
+        Ok(self)
+    }
+
+    fn operation(&mut self, kind: u32, axis: &str, angle: i32, outcome: u32, target: Option<u16>) -> Result<&mut Self, NoPauli> {
+        let axis: Pauli = axis.parse()?;
+        let node = self.node_of(&axis);
+        let target = target.map_or(NONE, u32::from);
+        self.operations.push([kind, node, axis.phase(), angle.rem_euclid(8) as u32, outcome, target]);
+        Ok(self)
+    }
+
+    /// The node of an axis without its phase: products of letters, leaning left.
+    fn node_of(&mut self, axis: &Pauli) -> u32 {
+        let mut node = 0;
+        for &(qubit, letter) in axis.letters() {
+            let leaf = self.leaf(qubit, letter);
+            node = if node == 0 { leaf } else { self.node([PRODUCT, node, 0, leaf, 0]) };
+        }
+        node
+    }
+
+    fn leaf(&mut self, qubit: usize, letter: Letter) -> u32 {
+        self.node([LETTER, qubit as u32, letter as u32, 0, 0])
+    }
+
+    fn node(&mut self, record: NodeRecord) -> u32 {
+        let next = self.nodes.len() as u32;
+        let place = *self.places.entry(record).or_insert(next);
+        if place == next {
+            self.nodes.push(record);
+        }
+        place
+    }
+
+    /// The records, as calls on lent slices take them.
+    pub fn records(&self) -> Records<'_> {
+        Records {
+            qubits: self.qubits,
+            node_count: self.nodes.len(),
+            operation_count: self.operations.len(),
+            nodes: self.nodes.as_flattened(),
+            operations: self.operations.as_flattened(),
+            rows: self.rows.as_flattened(),
+        }
+    }
+
+    pub(crate) fn operation_records(&self) -> &[OperationRecord] {
+        &self.operations
+    }
+
+    pub(crate) fn row_records(&self) -> &[RowRecord] {
+        &self.rows
+    }
+
+    /// Every node worked out, where the node records are good.
+    pub(crate) fn values(&self) -> Option<Vec<Pauli>> {
+        let mut values: Vec<Pauli> = Vec::with_capacity(self.nodes.len());
+        for &[kind, first, second, third, fourth] in &self.nodes {
+            let value = match kind {
+                0 => Pauli::default(),
+                LETTER if second == 0 => Pauli::default(),
+                LETTER => Pauli::letter(first as usize, Letter::of_number(second)?),
+                PRODUCT => {
+                    let (left, right) = (values.get(first as usize)?, values.get(third as usize)?);
+                    left.times(right).turned(second % 4 + fourth % 4)
+                }
+                _ => return None,
+            };
+            values.push(value);
+        }
+        Some(values)
+    }
+}
+
+/// A listing's line, columns of 8; -1, which stands in outcomes and targets only, is the mark for none.
+fn fields(line: &str) -> Vec<u32> {
+    let columns = line.as_bytes().chunks(8).map(|field| String::from_utf8_lossy(field));
+    columns.map(|field| field.trim_start().parse().unwrap_or(NONE)).collect()
+}
+
+fn record<const N: usize>(fields: Vec<u32>) -> [u32; N] {
+    fields.try_into().expect("Listing takes no other number of fields")
+}

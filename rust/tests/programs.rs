@@ -1,0 +1,128 @@
+//! Programs from Pauli strings, records and listings say the same.
+
+use werdutxa::{NONE, Operation, Options, Pauli, Program, Refusal, list, optimize, show};
+
+const EXAMPLE: &str = include_str!("../../oracle/listing/example.in");
+const EXAMPLE_OUT: &str = include_str!("../../oracle/listing/example.out");
+const LIMIT_11: &str = include_str!("../../oracle/listing/limit_11.in");
+const LIMIT_11_OUT: &str = include_str!("../../oracle/listing/limit_11.out");
+
+fn pauli(text: &str) -> Pauli {
+    text.parse().unwrap()
+}
+
+#[test]
+fn strings() {
+    for text in ["", "i", "x", "XA", "--X", "X0 Y0", "X-1", "A0", "XYZ I1"] {
+        assert!(text.parse::<Pauli>().is_err(), "{text:?}");
+    }
+    for (text, again) in [("+X", "X0"), ("-iIY", "-iY1"), ("iZIZ", "iZ0 Z2"), ("III", "I"), ("-Z5 X2", "-X2 Z5")] {
+        assert_eq!(pauli(text).to_string(), again);
+        assert_eq!(pauli(again), pauli(text));
+    }
+    assert_eq!(pauli("-X2").dense(2), "-IIX");
+}
+
+/// 01's starred products.
+#[test]
+fn products() {
+    for (p, q, product) in [("X", "Y", "iZ"), ("X", "Z", "-iY"), ("Z", "X", "iY"), ("XX", "ZZ", "-YY"), ("-X", "X", "-I")] {
+        assert_eq!(pauli(p).times(&pauli(q)), pauli(product), "{p} {q}");
+    }
+}
+
+/// "product (X, Z) with phase 1 is Y", through the call and through the view.
+#[test]
+fn nodes_are_worked_out() {
+    let nodes = vec![[0; 5], [1, 0, 1, 0, 0], [1, 0, 3, 0, 0], [2, 1, 0, 2, 1]];
+    let rows = vec![[0, 0, 1, 0], [0, 1, 2, 0]];
+    let program = Program::from_records(1, nodes, vec![[2, 3, 0, 0, 4, NONE]], rows);
+    let measured = [Operation::Measure { axis: pauli("Y"), outcome: 4, target: None }];
+    assert_eq!(program.view().unwrap().operations, measured);
+    assert_eq!(optimize(&program, &Options::default()).unwrap().operations, measured);
+}
+
+/// With no rounds what comes out is what was handed in: the call works axes out as the view does.
+#[test]
+fn views_agree_with_packing() {
+    let mut program = Program::new(70);
+    let axes = ["X0 Y1 Z69", "-Z64 Z65", "Y3", "-X0 Y1 Z69", "Y69 X0"];
+    for (outcome, axis) in axes.iter().enumerate() {
+        program.measure(axis, outcome as u16, Some(1)).unwrap();
+    }
+    let options = Options { rounds: 0, ..Options::default() };
+    let source = program.view().unwrap();
+    let rewritten = optimize(&program, &options).unwrap();
+    assert_eq!(rewritten.view(&source), source);
+    // four of these, and the two rows of each of the six qubits that are acted on
+    assert_eq!(rewritten.axes.len(), 4 + 2 * 6);
+}
+
+#[test]
+fn listings() {
+    assert_eq!(list(EXAMPLE).text, EXAMPLE_OUT);
+    assert_eq!(list(LIMIT_11).text, LIMIT_11_OUT);
+    assert_eq!(list(LIMIT_11).answer, Err(Refusal::ExpansionLimit));
+    let (listed, options) = Program::from_listing(EXAMPLE).unwrap();
+    assert_eq!(options.max_packed_words, 12);
+    let mut built = Program::new(1);
+    built.rotate("Z", 1).unwrap().rotate("Z", 1).unwrap().measure("X", 0, None).unwrap();
+    assert_eq!(listed.view(), built.view());
+    assert_eq!(Program::from_listing("no listing"), Err(Refusal::BadText));
+}
+
+/// rust/README.md has what `show` prints of 01's example.
+#[test]
+fn the_readme_shows_the_example() {
+    let (program, options) = Program::from_listing(EXAMPLE).unwrap();
+    let indented = |line: &str| if line.is_empty() { "\n".to_string() } else { format!("    {line}\n") };
+    let shown: String = show(&program, &options).lines().map(indented).collect();
+    assert!(include_str!("../README.md").contains(&shown), "{shown}");
+}
+
+/// What is shown where there is no result.
+#[test]
+fn refusals_are_shown() {
+    let (program, options) = Program::from_listing(LIMIT_11).unwrap();
+    let shown = show(&program, &options);
+    assert!(shown.starts_with("before\n") && shown.ends_with("refused by 10: The run needs more words than the word limit.\n"));
+    let bad = Program::from_records(1, vec![[9; 5]], vec![], vec![]);
+    assert!(show(&bad, &Options::default()).starts_with("refused by 3"));
+}
+
+/// The texts of the gate's list: a line with the number of bytes and five lengths, then the bytes and a newline.
+fn gate_listings() -> Vec<Vec<u8>> {
+    let mut rest: &[u8] = include_bytes!("../../crates/listings_main/stdin");
+    let mut texts = Vec::new();
+    while let Some(end) = rest.iter().position(|&byte| byte == b'\n') {
+        let line = std::str::from_utf8(&rest[..end]).unwrap();
+        let bytes: usize = line.split_whitespace().next().unwrap().parse().unwrap();
+        texts.push(rest[end + 1..][..bytes].to_vec());
+        rest = &rest[end + 1 + bytes + 1..];
+    }
+    texts
+}
+
+/// Rewriting on a listing's program answers and counts what Listing prints first.
+#[test]
+fn listings_and_rewriting_agree() {
+    let texts = gate_listings();
+    let mut accepted = 0;
+    for text in texts.iter().filter_map(|text| std::str::from_utf8(text).ok()) {
+        let Ok((program, options)) = Program::from_listing(text) else {
+            continue;
+        };
+        let listing = list(text);
+        let rewritten = optimize(&program, &options);
+        assert_eq!(rewritten.as_ref().err(), listing.answer.err().as_ref(), "{text}");
+        let Ok(rewritten) = rewritten else { continue };
+        let c = rewritten.counted;
+        let fields = [0, c.t_before, c.t_after, c.merges, c.swaps, c.cliffords_to_frame, c.operations, c.axes];
+        let first: String = fields.iter().map(|field| format!("{field:8}")).collect();
+        assert_eq!(listing.text.lines().next(), Some(&first[..]));
+        let letters: usize = rewritten.axes.iter().map(|axis| axis.letters().len()).sum();
+        assert_eq!(listing.text.lines().count(), 1 + c.operations + 2 * program.qubits() + letters);
+        accepted += 1;
+    }
+    assert!(texts.len() >= 300 && accepted >= 70, "{} texts, {accepted} accepted", texts.len());
+}

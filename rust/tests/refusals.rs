@@ -1,0 +1,233 @@
+//! Each refusal, with memory between sentinels: what it leaves; and docs/REFUSALS.md's table.
+
+mod lent;
+
+use lent::{Guarded, Lent};
+use werdutxa::{LISTING_BYTES, NONE, Options, Program, Records, Refusal, Sizes, check, list, list_into, optimize, rewrite};
+
+const IDENTITY: [u32; 5] = [0; 5];
+
+/// Refused by Checking and Rewriting alike; Rewriting leaves what 01 says.
+fn refused(records: &Records, options: &Options, sizes: Sizes, refusal: Refusal) {
+    let mut lent = Lent::new(sizes);
+    let checked = if refusal.number() <= 8 { Err(refusal) } else { Ok(()) };
+    assert_eq!(check(records, options, &lent.lend()), checked);
+    assert!(lent.sentinels_hold() && lent.results_unchanged() && lent.work_unchanged());
+    assert_eq!(rewrite(records, options, &mut lent.lend()), Err(refusal));
+    assert!(lent.sentinels_hold() && lent.results_unchanged());
+    assert!(if refusal.number() <= 8 { lent.work_unchanged() } else { lent.work_zero() });
+}
+
+fn program_refused(program: &Program, refusal: Refusal) {
+    let options = Options { max_packed_words: 256, ..Options::default() };
+    refused(&program.records(), &options, Sizes::of(&program.records(), &options), refusal);
+    assert_eq!(optimize(program, &options), Err(refusal));
+}
+
+fn of_nodes(qubits: usize, nodes: &[[u32; 5]]) -> Program {
+    let rows = (0..2 * qubits as u32).map(|i| [i / 2, i % 2, 0, 0]).collect();
+    Program::from_records(qubits, nodes.to_vec(), vec![], rows)
+}
+
+fn of_operations(operations: &[[u32; 6]]) -> Program {
+    let rows = vec![[0, 0, 0, 0], [0, 1, 0, 0]];
+    Program::from_records(1, vec![IDENTITY, [1, 0, 3, 0, 0]], operations.to_vec(), rows)
+}
+
+#[test]
+fn counts() {
+    let sizes = Sizes { words: 100, numbers: 1_000, operations: 100, rows: 100 };
+    let records = Program::new(1);
+    let records = records.records();
+    let options = Options { max_packed_words: 10, ..Options::default() };
+    let bad = [
+        Records { qubits: 4_097, ..records },
+        Records { qubits: usize::MAX, ..records },
+        Records { node_count: 0, ..records },
+        Records { node_count: 65_536, ..records },
+        Records { operation_count: 65_536, ..records },
+        Records { operation_count: usize::MAX, ..records },
+    ];
+    for records in bad {
+        refused(&records, &options, sizes, Refusal::CountOutside);
+    }
+    assert_eq!(optimize(&Program::new(4_097), &Options::default()), Err(Refusal::CountOutside));
+}
+
+#[test]
+fn options() {
+    let program = Program::new(1);
+    let sizes = Sizes { words: 100, numbers: 1_000, operations: 100, rows: 100 };
+    let above = (1 << 20) + 1;
+    let bad = [
+        Options { rounds: 256, ..Options::default() },
+        Options { lookback: above, ..Options::default() },
+        Options { window: above, ..Options::default() },
+        Options { candidates: above, ..Options::default() },
+        Options { max_packed_words: above, ..Options::default() },
+        Options { max_packed_words: usize::MAX, ..Options::default() },
+    ];
+    for options in bad {
+        refused(&program.records(), &options, sizes, Refusal::OptionOutside);
+        assert_eq!(optimize(&program, &options), Err(Refusal::OptionOutside));
+    }
+}
+
+#[test]
+fn slices() {
+    let mut program = Program::new(2);
+    program.rotate("ZZ", 1).unwrap();
+    let options = Options { max_packed_words: 40, ..Options::default() };
+    let records = program.records();
+    let sizes = Sizes::of(&records, &options);
+    let short = |field: fn(&mut Sizes) -> &mut usize| {
+        let mut sizes = sizes;
+        *field(&mut sizes) -= 1;
+        refused(&records, &options, sizes, Refusal::SliceShort);
+    };
+    short(|sizes| &mut sizes.words);
+    short(|sizes| &mut sizes.numbers);
+    short(|sizes| &mut sizes.operations);
+    short(|sizes| &mut sizes.rows);
+    fn cut(slice: &[u32]) -> &[u32] {
+        &slice[..slice.len() - 1]
+    }
+    refused(&Records { nodes: cut(records.nodes), ..records }, &options, sizes, Refusal::SliceShort);
+    refused(&Records { operations: cut(records.operations), ..records }, &options, sizes, Refusal::SliceShort);
+    refused(&Records { rows: cut(records.rows), ..records }, &options, sizes, Refusal::SliceShort);
+    assert!(rewrite(&records, &options, &mut Lent::new(sizes).lend()).is_ok());
+}
+
+#[test]
+fn nodes() {
+    let second = |record| of_nodes(1, &[IDENTITY, record]);
+    program_refused(&of_nodes(1, &[[1, 0, 1, 0, 0]]), Refusal::BadNode);
+    program_refused(&second([3, 0, 0, 0, 0]), Refusal::BadNode);
+    program_refused(&second([1, 0, 4, 0, 0]), Refusal::BadNode);
+    program_refused(&second([2, 0, 4, 0, 0]), Refusal::BadNode);
+    program_refused(&second([2, 0, 0, 0, 4]), Refusal::BadNode);
+    program_refused(&second([2, 1, 0, 0, 0]), Refusal::BadNode);
+    program_refused(&second([2, 0, 0, 1, 0]), Refusal::BadNode);
+    program_refused(&second([1, 1, 1, 0, 0]), Refusal::BadQubit);
+    program_refused(&of_nodes(0, &[IDENTITY, [1, 0, 0, 0, 0]]), Refusal::BadQubit);
+}
+
+#[test]
+fn references() {
+    program_refused(&of_operations(&[[1, 2, 0, 1, NONE, NONE]]), Refusal::BadReference);
+    program_refused(&of_operations(&[[1, 1, 4, 1, NONE, NONE]]), Refusal::BadReference);
+    let rows = |rows: [[u32; 4]; 2]| Program::from_records(1, vec![IDENTITY], vec![], rows.to_vec());
+    program_refused(&rows([[0, 0, 1, 0], [0, 1, 0, 0]]), Refusal::BadReference);
+    program_refused(&rows([[0, 0, 0, 0], [0, 1, 0, 4]]), Refusal::BadReference);
+    program_refused(&rows([[0, 1, 0, 0], [0, 0, 0, 0]]), Refusal::BadReference);
+    program_refused(&rows([[1, 0, 0, 0], [0, 1, 0, 0]]), Refusal::BadReference);
+}
+
+#[test]
+fn operations() {
+    let bad = [
+        [0, 1, 0, 1, 0, NONE],
+        [4, 1, 0, 1, 0, NONE],
+        [1, 1, 0, 8, 0, NONE],
+        [1, 1, 0, 1, 0, NONE + 1],
+        [2, 1, 0, 0, NONE, NONE],
+        [3, 1, 0, 1, NONE, NONE],
+    ];
+    for operation in bad {
+        program_refused(&of_operations(&[operation]), Refusal::BadOperation);
+    }
+}
+
+#[test]
+fn outcomes() {
+    let measure = [2, 1, 0, 0, 7, NONE];
+    program_refused(&of_operations(&[measure, measure]), Refusal::BadOutcome);
+    program_refused(&of_operations(&[[3, 1, 0, 1, 7, NONE], measure]), Refusal::BadOutcome);
+    let options = Options { max_packed_words: 256, ..Options::default() };
+    assert!(optimize(&of_operations(&[measure, [3, 1, 0, 1, 7, NONE]]), &options).is_ok());
+}
+
+#[test]
+fn runs() {
+    let mut program = Program::new(2);
+    program.rotate("iXX", 1).unwrap();
+    program_refused(&program, Refusal::NonHermitianAxis);
+    let mut program = Program::new(1);
+    program.rotate("Z", 1).unwrap().frame_row(0, werdutxa::Row::X, "-iX").unwrap();
+    program_refused(&program, Refusal::NonHermitianAxis);
+    let mut program = Program::new(1);
+    program.rotate("Z", 1).unwrap();
+    for limit in 0..4 {
+        let options = Options { max_packed_words: limit, ..Options::default() };
+        let sizes = Sizes::of(&program.records(), &options);
+        refused(&program.records(), &options, sizes, Refusal::ExpansionLimit);
+    }
+}
+
+/// Lines of fields in columns of 8.
+fn listing(lines: &[&[i64]]) -> String {
+    let line = |fields: &&[i64]| fields.iter().map(|field| format!("{field:8}")).collect::<String>() + "\n";
+    lines.iter().map(line).collect()
+}
+
+/// A listing of one qubit, with these nodes behind the identity and this one operation.
+fn one_operation(nodes: &[[i64; 5]], operation: [i64; 6], limit: i64) -> String {
+    let (first, rows) = ([1, 1 + nodes.len() as i64, 1, limit], [[0, 0, 0, 0], [0, 1, 0, 0]]);
+    let mut lines: Vec<&[i64]> = vec![&first, &[0; 5]];
+    lines.extend(nodes.iter().map(|node| &node[..]));
+    lines.extend([&operation[..], &rows[0], &rows[1]]);
+    listing(&lines)
+}
+
+#[test]
+fn listings() {
+    let z = [1, 0, 3, 0, 0];
+    let rotate = [1, 1, 0, 1, -1, -1];
+    let of = |text: String, refusal: Refusal| {
+        let listing = list(&text);
+        assert_eq!(listing.answer, Err(refusal), "{text}");
+        assert_eq!(listing.text, format!("{:8}{}\n", refusal.number(), "       0".repeat(7)));
+    };
+    assert_eq!(list(&one_operation(&[z], rotate, 4)).answer, Ok(()));
+    of(listing(&[&[0, 0, 0, 0]]), Refusal::CountOutside);
+    of(one_operation(&[[3, 0, 0, 0, 0]], rotate, 4), Refusal::BadNode);
+    of(one_operation(&[[1, 1, 3, 0, 0]], rotate, 4), Refusal::BadQubit);
+    of(one_operation(&[z], [1, 2, 0, 1, -1, -1], 4), Refusal::BadReference);
+    of(one_operation(&[z], [1, 1, 0, 8, -1, -1], 4), Refusal::BadOperation);
+    of(one_operation(&[z], [3, 1, 0, 1, 0, -1], 4), Refusal::BadOutcome);
+    of(one_operation(&[z], [1, 1, 1, 1, -1, -1], 4), Refusal::NonHermitianAxis);
+    of(one_operation(&[z], rotate, 3), Refusal::ExpansionLimit);
+    of(one_operation(&[z], rotate, 257), Refusal::BadText);
+    of(one_operation(&[z], [2, 1, 0, 0, -1, -1], 4), Refusal::BadText);
+    of(one_operation(&[z], rotate, 4) + "\n", Refusal::BadText);
+    of(one_operation(&[z], rotate, 4).trim_end().to_string(), Refusal::BadText);
+    of(listing(&[&[65, 1, 0, 0]]), Refusal::BadText);
+}
+
+/// A short output is refused by 3 before anything is printed; other short slices print their refusal.
+#[test]
+fn short_slices_of_listings() {
+    let text = one_operation(&[[1, 0, 3, 0, 0]], [1, 1, 0, 1, -1, -1], 4);
+    let call = |room: usize, words: usize| {
+        let mut output: Guarded<u8> = Guarded::new(room);
+        let mut lent = Lent::new(Sizes { words, ..Sizes::of_listing() });
+        let (answer, size) = list_into(text.as_bytes(), output.lend(), &mut lent.lend());
+        assert!(lent.sentinels_hold() && output.sentinels_hold() && output.unchanged_from(size));
+        (answer, size)
+    };
+    assert_eq!(call(LISTING_BYTES - 1, 20), (Err(Refusal::SliceShort), 0));
+    assert_eq!(call(LISTING_BYTES, 19), (Err(Refusal::SliceShort), 65));
+    assert_eq!(call(LISTING_BYTES, 20).0, Ok(()));
+    assert_eq!(call(LISTING_BYTES + 1, 20).0, Ok(()));
+}
+
+#[test]
+fn the_page_has_every_refusal() {
+    let page = include_str!("../../docs/REFUSALS.md");
+    for (refusal, number) in Refusal::ALL.into_iter().zip(1..) {
+        assert_eq!(refusal.number(), number);
+        let row = format!("| {number} | {refusal:?} | {} |", refusal.sentence());
+        assert!(page.contains(&row), "docs/REFUSALS.md lacks the row {row}");
+        assert!(page.contains(&format!("\n## {number}: ")), "docs/REFUSALS.md lacks a section on {number}");
+    }
+}
