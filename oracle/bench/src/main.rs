@@ -6,6 +6,8 @@ use std::time::Duration;
 use jobs::{Job, Memory, Seen};
 use ours::{Call, Counted, OPERATIONS};
 
+mod kinds;
+
 include!(concat!(env!("OUT_DIR"), "/src/root.rs"));
 
 const RUNS: usize = 5;
@@ -25,6 +27,44 @@ fn timed<T>(work: impl FnOnce() -> T) -> (Duration, T) {
 }
 
 fn main() {
+    let args: Vec<String> = std::env::args().skip(1).collect();
+    match args.first().map(String::as_str) {
+        None => programs(),
+        Some("--kinds") => compare_kinds(&args[1..]),
+        Some("--growth") => grow(),
+        Some(other) => panic!("{other}: bench [--kinds [NAME ..] | --growth]"),
+    }
+}
+
+/// A line of a table for each kind of work, or for those that are named.
+fn compare_kinds(names: &[String]) {
+    println!("| job | limit | Rust with a scan | Rust itself | ours | ours / scan | ours / Rust |");
+    println!("|---|---|---|---|---|---|---|");
+    for (name, job) in kinds::kinds() {
+        if names.is_empty() || names.iter().any(|n| n == name) {
+            let job = kinds::fitted(job);
+            let [hash, scan, ours] = measure(&job).0.map(|times| times[0].as_secs_f64() * 1e3);
+            println!(
+                "| {name} | {} | {scan:.1} | {hash:.1} | {ours:.1} | {:.2} | {:.2} |",
+                job.options.limit,
+                ours / scan,
+                ours / hash
+            );
+        }
+    }
+}
+
+/// Rotations, then milliseconds of the Rust with a scan, of the Rust itself and of ours, for a plot.
+fn grow() {
+    for job in kinds::growth() {
+        let job = kinds::fitted(job);
+        let [hash, scan, ours] = measure(&job).0.map(|times| times[0].as_secs_f64() * 1e3);
+        println!("{} {scan:.1} {hash:.1} {ours:.1}", job.operations.len());
+    }
+}
+
+/// Two programs with axes of all weights, at the largest limit.
+fn programs() {
     let narrow = generator::large::job(1, 64, 60_000, 20_000);
     let wide = generator::large::job(2, 1_000, 5_000, 2_000);
     for job in [narrow, wide] {
@@ -48,6 +88,12 @@ struct Given {
 
 /// Times all three on a job and prints it.
 fn compare(job: &Job) {
+    let (times, given) = measure(job);
+    print(job, &given, &times);
+}
+
+/// The sorted times of the Rust itself, of the Rust with a scan and of ours, and what came out.
+fn measure(job: &Job) -> ([Vec<Duration>; 3], Given) {
     let mut times: [Vec<Duration>; 3] = Default::default();
     let mut last = None;
     for _ in 0..RUNS {
@@ -64,8 +110,7 @@ fn compare(job: &Job) {
         last = runs.into_iter().next();
     }
     times.iter_mut().for_each(|times| times.sort());
-    let given = last.expect("there are runs").1;
-    print(job, &given, &times);
+    (times, last.expect("there are runs").1)
 }
 
 type Clock = fn(&mut dyn FnMut()) -> Duration;
