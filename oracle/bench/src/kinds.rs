@@ -46,6 +46,11 @@ pub fn growth() -> Vec<Job> {
         .into()
 }
 
+/// Next to no work, at the largest limit: what is left is zeroing of the number store, 24 rows, and of the word store.
+pub fn one_rotation() -> Job {
+    rotations(8, 64, 1, Axes::Weight(3))
+}
+
 /// The job with the least limit that does not refuse it.
 pub fn fitted(mut job: Job) -> Job {
     job.options.limit = shown::run(&job).1.peak();

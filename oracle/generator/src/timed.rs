@@ -22,7 +22,6 @@ pub enum Axes {
 /// So many words are made letter by letter for dense axes; the others are products of two.
 const DENSE_BEGUN: usize = 64;
 
-
 /// A program of plain rotations, each on an axis of its own.
 pub fn rotations(seed: u64, qubits: usize, count: usize, axes: Axes) -> Job {
     let mut rng = Rng::new(seed);
