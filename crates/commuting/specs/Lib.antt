@@ -1,1 +1,2 @@
 pub mod Commuting
+pub mod Blocking

@@ -1,10 +1,12 @@
-//! The time of Rewriting: ours through the static library, the original with a hash (the standard library's), and with a scan
-//! in its place. All three in one run, in turn; what they count and the operations that come out must be equal.
+//! The time of Rewriting: ours through the static library, the original with its hash, and with a scan in its place. All
+//! three in one run, in turn; what they count and the operations that come out must be equal.
 
 use std::time::Duration;
 
 use jobs::{Job, Memory, Seen};
 use ours::{Call, Counted, OPERATIONS};
+
+mod kinds;
 
 include!(concat!(env!("OUT_DIR"), "/src/root.rs"));
 
@@ -25,6 +27,55 @@ fn timed<T>(work: impl FnOnce() -> T) -> (Duration, T) {
 }
 
 fn main() {
+    let args: Vec<String> = std::env::args().skip(1).collect();
+    match args.first().map(String::as_str) {
+        None => programs(),
+        Some("--kinds") => compare_kinds(&args[1..]),
+        Some("--growth") => grow(),
+        Some(other) => panic!("{other}: bench [--kinds [NAME ..] | --growth]"),
+    }
+}
+
+/// A line of a table for each kind of work, or for those that are named.
+fn compare_kinds(names: &[String]) {
+    if names.is_empty() {
+        let zeroing = best(&kinds::one_rotation())[2];
+        println!(
+            "One rotation at the largest limit, nearly all of it zeroing: ours {zeroing:.1} ms\n"
+        );
+    }
+    println!("| job | limit | Rust with a scan | Rust itself | ours | ours / scan | ours / Rust |");
+    println!("|---|---|---|---|---|---|---|");
+    for (name, job) in kinds::kinds() {
+        if names.is_empty() || names.iter().any(|n| n == name) {
+            let job = kinds::fitted(job);
+            let [hash, scan, ours] = best(&job);
+            println!(
+                "| {name} | {} | {scan:.1} | {hash:.1} | {ours:.1} | {:.2} | {:.2} |",
+                job.options.limit,
+                ours / scan,
+                ours / hash
+            );
+        }
+    }
+}
+
+/// Rotations, then milliseconds of the Rust with a scan, of the Rust itself and of ours, for a plot.
+fn grow() {
+    for job in kinds::growth() {
+        let job = kinds::fitted(job);
+        let [hash, scan, ours] = best(&job);
+        println!("{} {scan:.1} {hash:.1} {ours:.1}", job.operations.len());
+    }
+}
+
+/// The least milliseconds of the Rust itself, of the Rust with a scan and of ours.
+fn best(job: &Job) -> [f64; 3] {
+    measure(job).0.map(|times| times[0].as_secs_f64() * 1e3)
+}
+
+/// Two programs with axes of all weights, at the largest limit.
+fn programs() {
     let narrow = generator::large::job(1, 64, 60_000, 20_000);
     let wide = generator::large::job(2, 1_000, 5_000, 2_000);
     for job in [narrow, wide] {
@@ -48,6 +99,12 @@ struct Given {
 
 /// Times all three on a job and prints it.
 fn compare(job: &Job) {
+    let (times, given) = measure(job);
+    print(job, &given, &times);
+}
+
+/// The sorted times of the Rust itself, of the Rust with a scan and of ours, and what came out.
+fn measure(job: &Job) -> ([Vec<Duration>; 3], Given) {
     let mut times: [Vec<Duration>; 3] = Default::default();
     let mut last = None;
     for _ in 0..RUNS {
@@ -64,8 +121,7 @@ fn compare(job: &Job) {
         last = runs.into_iter().next();
     }
     times.iter_mut().for_each(|times| times.sort());
-    let given = last.expect("there are runs").1;
-    print(job, &given, &times);
+    (times, last.expect("there are runs").1)
 }
 
 type Clock = fn(&mut dyn FnMut()) -> Duration;

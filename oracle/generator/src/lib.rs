@@ -19,3 +19,4 @@ mod program;
 pub mod random;
 pub mod rewriting;
 pub mod rng;
+pub mod timed;

@@ -1,0 +1,64 @@
+//! The jobs of `bench --kinds`, one kind of work each, at word limits that fit.
+
+use generator::timed::{Axes, repeated, rotations};
+use jobs::{Job, Options};
+
+/// A name and a job.
+pub type Kind = (&'static str, Job);
+
+/// All kinds.
+pub fn kinds() -> Vec<Kind> {
+    let narrow = rotations(1, 64, 20_000, Axes::Weight(3));
+    let wide = rotations(3, 1_000, 5_000, Axes::Weight(8));
+    // Were all qubits acted on, rows and images would not fit the largest limit.
+    let spaced = Axes::Spaced {
+        weight: 3,
+        apart: 8,
+    };
+    let sparse = repeated(6, 1_000, 20_000, &[Axes::Weight(2); 4_000], 0);
+    vec![
+        ("weight 3", narrow.clone()),
+        ("dense", rotations(2, 64, 20_000, Axes::Dense)),
+        ("lazy", with(&narrow, |o| o.lazy_cliffords = true)),
+        (
+            "absorption off",
+            with(&narrow, |o| o.clifford_to_frame = false),
+        ),
+        ("window 4", with(&narrow, |o| o.window = 4)),
+        ("Litinski", with(&narrow, |o| o.litinski = true)),
+        ("T-depth", with(&narrow, |o| o.measure_depth = true)),
+        ("1,000 qubits", wide.clone()),
+        ("1,000 qubits Litinski", with(&wide, |o| o.litinski = true)),
+        ("4,096 qubits", rotations(4, 4_096, 1_000, spaced)),
+        (
+            "mixed",
+            repeated(5, 64, 60_000, &[Axes::Weight(3); 30_000], 5),
+        ),
+        ("sparse", sparse.clone()),
+        ("sparse lazy", with(&sparse, |o| o.lazy_cliffords = true)),
+    ]
+}
+
+/// The first kind with 5,000 to 40,000 rotations.
+pub fn growth() -> Vec<Job> {
+    [5_000, 10_000, 20_000, 40_000]
+        .map(|count| rotations(1, 64, count, Axes::Weight(3)))
+        .into()
+}
+
+/// Next to no work, at the largest limit: what is left is zeroing of the number store, 24 rows, and of the word store.
+pub fn one_rotation() -> Job {
+    rotations(8, 64, 1, Axes::Weight(3))
+}
+
+/// The job with the least limit that does not refuse it.
+pub fn fitted(mut job: Job) -> Job {
+    job.options.limit = shown::run(&job).1.peak();
+    job
+}
+
+fn with(job: &Job, change: impl FnOnce(&mut Options)) -> Job {
+    let mut job = job.clone();
+    change(&mut job.options);
+    job
+}

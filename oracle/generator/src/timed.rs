@@ -1,0 +1,156 @@
+//! Large programs of one kind each, to be timed: rotations on axes of one weight or on dense ones, and a mix of operations.
+
+use std::collections::HashMap;
+
+use jobs::{Job, MAX_LIMIT, Options};
+
+use super::frame;
+use super::program::Program;
+use super::rng::Rng;
+
+/// What an axis is.
+#[derive(Clone, Copy)]
+pub enum Axes {
+    /// So many letters on distinct qubits.
+    Weight(usize),
+    /// The same on qubits of which any two are a multiple of so many apart.
+    Spaced { weight: usize, apart: usize },
+    /// I, X, Y or Z on every qubit, each as likely.
+    Dense,
+}
+
+/// So many words are made letter by letter for dense axes; the others are products of two.
+const DENSE_BEGUN: usize = 64;
+
+/// A program of plain rotations, each on an axis of its own.
+pub fn rotations(seed: u64, qubits: usize, count: usize, axes: Axes) -> Job {
+    let mut rng = Rng::new(seed);
+    let mut start = Start::new(qubits);
+    let operations = (0..count)
+        .map(|_| {
+            let node = start.axis(&mut rng, axes);
+            rotation(&mut rng, &start.program, node)
+        })
+        .collect();
+    start.job(operations)
+}
+
+/// Operations on any of these axes. Of a hundred, `barriers` are measurements and as many conditional rotations.
+pub fn repeated(seed: u64, qubits: usize, count: usize, axes: &[Axes], barriers: usize) -> Job {
+    let mut rng = Rng::new(seed);
+    let mut start = Start::new(qubits);
+    let nodes: Vec<i64> = axes
+        .iter()
+        .map(|&axis| start.axis(&mut rng, axis))
+        .collect();
+    let mut outcomes = 0;
+    let operations = (0..count)
+        .map(|_| {
+            let node = rng.pick(&nodes);
+            let mut operation = rotation(&mut rng, &start.program, node);
+            let kind = rng.below(100);
+            if kind < barriers {
+                operation = [2, operation[1], operation[2], 0, outcomes as i64, -1];
+                outcomes += 1;
+            } else if kind < 2 * barriers && outcomes > 0 {
+                operation[0] = 3;
+                operation[4] = rng.below(outcomes) as i64;
+                operation[5] = -1;
+            }
+            operation
+        })
+        .collect();
+    start.job(operations)
+}
+
+fn rotation(rng: &mut Rng, program: &Program, node: i64) -> [i64; 6] {
+    let (node, phase) = program.signed(node, rng.chance(50));
+    [1, node, phase, rng.between(1, 7) as i64, 0, 0]
+}
+
+/// A program with its letters and an identity frame, before its operations.
+struct Start {
+    program: Program,
+    rows: Vec<[i64; 4]>,
+    /// X, Y and Z of each qubit.
+    leaves: Vec<i64>,
+    /// Products of letters, each made once: a program has at most 65,535 nodes.
+    products: HashMap<(i64, i64), i64>,
+    dense: Vec<i64>,
+}
+
+impl Start {
+    fn new(qubits: usize) -> Self {
+        let mut program = Program::new(qubits);
+        let rows = frame::identity(&mut program);
+        let leaves = (0..3 * qubits).map(|i| program.leaf(i / 3, i as u8 % 3 + 1));
+        let leaves = leaves.collect();
+        Self {
+            program,
+            rows,
+            leaves,
+            products: HashMap::new(),
+            dense: Vec::new(),
+        }
+    }
+
+    fn axis(&mut self, rng: &mut Rng, axes: Axes) -> i64 {
+        match axes {
+            Axes::Weight(weight) => self.letters(rng, weight, 1),
+            Axes::Spaced { weight, apart } => self.letters(rng, weight, apart),
+            Axes::Dense => self.dense(rng),
+        }
+    }
+
+    fn letters(&mut self, rng: &mut Rng, weight: usize, apart: usize) -> i64 {
+        let mut qubits: Vec<usize> = Vec::new();
+        while qubits.len() < weight {
+            let qubit = apart * rng.below(self.program.qubits / apart);
+            if !qubits.contains(&qubit) {
+                qubits.push(qubit);
+            }
+        }
+        qubits.sort();
+        let leaves: Vec<i64> = qubits
+            .iter()
+            .map(|q| self.leaves[3 * q + rng.below(3)])
+            .collect();
+        self.product_of(leaves)
+    }
+
+    fn dense(&mut self, rng: &mut Rng) -> i64 {
+        let node = if self.dense.len() < DENSE_BEGUN {
+            let letters: Vec<i64> = (0..self.program.qubits)
+                .map(|q| (q, rng.below(4)))
+                .filter(|&(_, letter)| letter > 0)
+                .map(|(q, letter)| self.leaves[3 * q + letter - 1])
+                .collect();
+            self.product_of(letters)
+        } else {
+            let (a, b) = (rng.pick(&self.dense), rng.pick(&self.dense));
+            self.program.product((a, 0), (b, 0))
+        };
+        self.dense.push(node);
+        node
+    }
+
+    fn product_of(&mut self, nodes: Vec<i64>) -> i64 {
+        let (program, products) = (&mut self.program, &mut self.products);
+        let product = |a, b| {
+            let made = products.entry((a, b));
+            *made.or_insert_with(|| program.product((a, 0), (b, 0)))
+        };
+        nodes.into_iter().reduce(product).unwrap_or(0)
+    }
+
+    fn job(self, operations: Vec<[i64; 6]>) -> Job {
+        Job {
+            qubits: self.program.qubits,
+            options: Options::with_limit(MAX_LIMIT),
+            slack: [1000; 4],
+            nodes: self.program.nodes,
+            operations,
+            rows: self.rows,
+        }
+    }
+}
