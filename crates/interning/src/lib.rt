@@ -46,7 +46,7 @@ fn none_of_four(words: &[u64], p: usize, n: usize, v: u64) -> bool
     none_of_two(words, p, n, v) & none_of_two(words, p + 2 * n, n, v)
 }
 
-// Whether none of eight is. All are compared before anything is asked: this takes a third of the time of a question for each.
+// Whether none of eight is. All are compared before the one branch, so that a scan has an eighth of the branches.
 fn none_of_eight(words: &[u64], p: usize, n: usize, v: u64) -> bool
     requires { ⌜ p + 7 * n < length (now words) ⌝ }
     ensures { λ r. ⌜ (r ≡ true → NoneOf 8 p n (now (words .entry)) v) ⌝ }
