@@ -57,7 +57,8 @@ module _ (o : Options) (merging : Bool) (st : State) {z : Shape} {ws xs : List �
       stream-few s = call (s .p) (s .w) (rulesOf o) (stream-at (s .at)) .few d e
 
       pub stream-done : (i : ℕ) (p : Program) (w : Work) → RunAt z i st ws xs p w
-          → EndedAs z (i + 1) (Next (withAbsorbed (st .absorbed + d .absorbed) (withSwaps (st .swaps) (withMerges (st .merges + d .merges) d)))) ws′ xs′ p (streamPass (z .l) (rulesOf o) merging w)
+          → EndedAs z (i + 1) (Next (withAbsorbed (st .absorbed + d .absorbed) (withSwaps (st .swaps) (withMerges (st .merges + d .merges) d))))
+          ws′ xs′ p (streamPass (z .l) (rulesOf o) merging w)
       stream-done i p w h =
           let a = call p w (rulesOf o) (stream-at h) in
           ended-at {i = i + 1} (omega arith) (record {

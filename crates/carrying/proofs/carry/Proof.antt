@@ -93,7 +93,8 @@ returns-2 c =
 
 count-with-requires : tie.Need-count-with-requires
 count-with-requires c κs =
-    let start = c .before .before .before .before .before .before .before .before .before .before .before .before .before .before .before .before .before .before .before .before .before .before .before .before .before .before in
+    let middle = c .before .before .before .before .before .before .before .before .before .before .before .before .before in
+    let start = middle .before .before .before .before .before .before .before .before .before .before .before .before .before in
     omega (arith, carry-numbers (start .pre .it))
 
 with-image-requires-2 : tie.Need-with-image-requires-2
