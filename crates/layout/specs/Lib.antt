@@ -4,3 +4,4 @@ pub mod Words
 pub mod Bounds
 pub mod Shape
 pub mod Cleared
+pub mod Wide

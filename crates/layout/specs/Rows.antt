@@ -2,7 +2,7 @@
 use mathlib.Core.Path.{_≡_, ap, _∙_}
 use mathlib.Core.Logic.{_≢_}
 use mathlib.Core.List.{List, [], _∷_}
-use Prim.Native.Nat.{ℕ, _*_, _≤_, _<_}
+use Prim.Native.Nat.{ℕ, _+_, _*_, _≤_, _<_}
 use native.Mathlib.Omega.{arith}
 use lib.ListN.{length, getD, set, take, drop, replicate, length-replicate}
 use lib.Seq.{length-take-le, getD-take, getD-set-same, getD-set-other, take-take}
@@ -90,9 +90,19 @@ layerEnd = 17
 abbrev pub sweptEnd : ℕ
 sweptEnd = 18
 
--- kept for what stands beside the axes, by axis: written only where an axis is stored
+-- signatures of F's images, in a stream
+abbrev pub imageSignature : ℕ
+imageSignature = 9
+
+-- what stands beside the axes, by axis: written only where an axis is stored
+abbrev pub signatureRow : ℕ
+signatureRow = 21
+
+abbrev pub keyRow : ℕ
+keyRow = 23
+
 abbrev pub axesRows : List ℕ
-axesRows = 21 ∷ 22 ∷ []
+axesRows = signatureRow ∷ (signatureRow + 1) ∷ keyRow ∷ []
 
 -- what stands for the axis of a row that is no root
 abbrev pub noAxis : ℕ

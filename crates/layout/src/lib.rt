@@ -75,6 +75,15 @@ pub const F_SLOT: usize = 19;
 // The phases of F's images, three a slot.
 pub const F_PHASE: usize = 20;
 
+// Where words are longer than one number: numbers of 64 bits within which the supports of F's images lie, in two rows.
+pub const IMAGE_SIGNATURE: usize = 9;
+
+// The same of the axes, by axis.
+pub const SIGNATURE: usize = 21;
+
+// A number worked out from an axis's word, by axis.
+pub const KEY: usize = 23;
+
 // T-depth: a rotation's level, and the depth of its segment up to it. By item.
 pub const LEVEL: usize = 18;
 

@@ -1,21 +1,25 @@
--- What a signature's bits say, that words with disjoint signatures commute, and how a loop over set bits builds one. Assumes nothing.
+-- What a signature's bits say, supports within signatures, that words with disjoint ones commute, and how a loop over set bits
+-- builds one. Assumes nothing.
 use mathlib.Core.Path.{_≡_, refl, sym, ap, _∙_}
-use mathlib.Core.Logic.{_⊎_, ⊎-elim}
+use mathlib.Core.Bool.{false}
+use mathlib.Core.Logic.{_⊎_, inl, inr, ⊎-elim}
 use mathlib.Core.List.{List}
 use Prim.Native.Nat.{ℕ, zero, suc, _+_, _-_, _*_, _/_, _^_, _≤_, _<_, max}
 use native.Mathlib.Nat.{zero-mul, one-mul, add-zero, add-suc, eq-or-lt-of-le, div-lt-iff-lt-mul}
+use native.Mathlib.Decide.{ℕ-discrete}
 use native.Mathlib.Omega.{arith}
 use lib.Bits.{bitAnd, bitOr, or-comm, or-zero-r, or-self}
 use lib.Count.{trailingZeros}
+use lib.Dec.{eqb}
 use Rattle.bits.specs.Remainder.{lt-or-ge}
 use Rattle.bits.specs.Digit.{Digit, off, on, max-one, min-none}
 use Rattle.bits.specs.Bit.{bit, bit-digit, bit-lt, bit-and, bit-or, bit-ext, bit-high, zero-bit, or-assoc, or-swap, pow-bit, pow-only, pow-other}
 use Rattle.bits.specs.LowestBit.{lowest-bit, trailing-lt}
-use Rattle.pauli.specs.Word.{xWord, zWord, IsWord, common, symplectic}
-use Rattle.pauli.specs.Letter.{letterAt, other, acts}
+use Rattle.pauli.specs.Word.{xWord, zWord, IsWord, common, xorWords, symplectic, anticommutes}
+use Rattle.pauli.specs.Letter.{letterAt, single, other, acts}
 use Rattle.pauli.specs.Support.{bucket, signatureTo, signature}
 use Rattle.pauli.specs.ProductLaws.{common-comm, common-none}
-use Rattle.pauli.specs.LetterLaws.{acts-bit}
+use Rattle.pauli.specs.LetterLaws.{acts-bit, letterMul, letter-xor, single-word, single-elsewhere, xorWords-word}
 
 pub bucket-lt : (l q : ℕ) → 0 < l → q < 64 * l → bucket l q < 64
 bucket-lt l q h b = div-lt-iff-lt-mul h .1 b
@@ -67,37 +71,71 @@ x-acts l p j t h e = acts-bit l p j t h ∙ bit-or (xWord p j) (zWord l p j) t �
 z-acts : (l : ℕ) (p : List ℕ) (j t : ℕ) → t < 64 → bit (zWord l p j) t ≡ 1 → acts l p (64 * j + t) ≡ 1
 z-acts l p j t h e = acts-bit l p j t h ∙ bit-or (xWord p j) (zWord l p j) t ∙ omega (arith, bit-lt (xWord p j) t)
 
-module _ (l : ℕ) (p q : List ℕ) (word : IsWord l p) (apart : bitAnd (signature l p) (signature l q) ≡ 0) where
-  -- no qubit is acted on by both
-  never : (i : ℕ) → i < 64 * l → acts l p i ≡ 1 → acts l q i ≡ 1 → ⊥
-  unfolding signature
-  never i h a b =
-      let e : bit (bitAnd (signature l p) (signature l q)) (i / l) ≡ 0 = ap (λ (n : ℕ). bit n (i / l)) apart ∙ zero-bit (i / l) in
-      omega (
-        arith,
-        sym (bit-and (signature l p) (signature l q) (i / l)) ∙ e,
-        signature-set l p (64 * l) i h a,
-        signature-set l q (64 * l) i h b,
-      )
+-- p is a word, and its support lies within s: each qubit that is acted on has its bucket's bit there
+pub record SupportWithin (l s : ℕ) (p : List ℕ) : Type 0 where
+  pub word : IsWord l p
+  pub buckets : (q : ℕ) → q < 64 * l → acts l p q ≡ 1 → bit s (bucket l q) ≡ 1
 
-  -- two planes whose set bits are acted on have no bit in common
-  plane-none : (f g : ℕ → ℕ) → ((j : ℕ) → f j < 2 ^ 64)
-      → ((j t : ℕ) → t < 64 → bit (f j) t ≡ 1 → acts l p (64 * j + t) ≡ 1)
-      → ((j t : ℕ) → t < 64 → bit (g j) t ≡ 1 → acts l q (64 * j + t) ≡ 1) → common f g l ≡ 0
-  plane-none f g fit af ag =
-      common-none f g l (λ j b. bit-ext _ 0 (λ t. bit-and (f j) (g j) t ∙ ⊎-elim
-      (λ (lt : t < 64). min-none (bit-digit _ t) (bit-digit _ t) (λ u v. never (64 * j + t) (omega arith) (af j t lt u) (ag j t lt v)))
-      (λ (ge : 64 ≤ t). omega (arith, bit-high (f j) 64 t (fit j) ge))
-      (lt-or-ge t 64) ∙ sym (zero-bit t)))
+pub signature-within : (l : ℕ) (p : List ℕ) → IsWord l p → SupportWithin l (signature l p) p
+unfolding signature
+signature-within l p w = record { word = w; buckets = λ q h a. signature-set l p (64 * l) q h a }
 
-  pub disjoint-commute : symplectic l p q ≡ 0
-  unfolding symplectic
-  disjoint-commute =
-      omega (
-        arith,
-        plane-none (zWord l p) (xWord q) (λ j. word .fits (l + j)) (z-acts l p) (x-acts l q),
-        common-comm (zWord l q) (xWord p) l ∙ plane-none (xWord p) (zWord l q) (word .fits) (x-acts l p) (z-acts l q),
-      )
+-- the letter of one qubit lies within the bit of its bucket
+pub single-within : (l q c : ℕ) → q < 64 * l → SupportWithin l (2 ^ bucket l q) (single l q c)
+single-within l q c h = record { word = single-word l q c h; buckets = λ i b a. here i b a (ℕ-discrete i q) }
+  where
+    here : (i : ℕ) → i < 64 * l → acts l (single l q c) i ≡ 1 → Dec (i ≡ q) → bit (2 ^ bucket l q) (bucket l i) ≡ 1
+    here i b a (yes e) = rw e (pow-bit (bucket l q))
+    here i b a (no n) = absurd (omega (arith, sym (ap other (single-elsewhere l q c h i b n)) ∙ a))
+
+-- a product acts where a factor does
+acts-product : (a b : ℕ) → other (letterMul a b) ≡ 1 → (other a ≡ 1) ⊎ (other b ≡ 1)
+acts-product zero b e = inr e
+acts-product (suc a) b e = inl refl
+
+either-set : (s t k : ℕ) → (bit s k ≡ 1) ⊎ (bit t k ≡ 1) → bit (bitOr s t) k ≡ 1
+either-set s t k (inl e) = bit-or s t k ∙ omega (arith, bit-lt t k)
+either-set s t k (inr e) = bit-or s t k ∙ omega (arith, bit-lt s k)
+
+module _ {l s t : ℕ} {p q : List ℕ} (a : SupportWithin l s p) (b : SupportWithin l t q) where
+  pub product-within : SupportWithin l (bitOr s t) (xorWords p q)
+  product-within = record {
+    word = xorWords-word l p q (a .word) (b .word);
+    buckets = λ i h e. either-set s t (bucket l i)
+        (⊎-elim (λ (x : acts l p i ≡ 1). inl (a .buckets i h x)) (λ (y : acts l q i ≡ 1). inr (b .buckets i h y))
+        (acts-product (letterAt l p i) (letterAt l q i) (sym (ap other (letter-xor l p q i)) ∙ e)));
+  }
+
+  module _ (apart : bitAnd s t ≡ 0) where
+    -- no qubit is acted on by both
+    never : (i : ℕ) → i < 64 * l → acts l p i ≡ 1 → acts l q i ≡ 1 → ⊥
+    never i h x y =
+        let e : bit (bitAnd s t) (i / l) ≡ 0 = ap (λ (n : ℕ). bit n (i / l)) apart ∙ zero-bit (i / l) in
+        omega (arith, sym (bit-and s t (i / l)) ∙ e, a .buckets i h x, b .buckets i h y)
+
+    -- two planes whose set bits are acted on have no bit in common
+    plane-none : (f g : ℕ → ℕ) → ((j : ℕ) → f j < 2 ^ 64)
+        → ((j t : ℕ) → t < 64 → bit (f j) t ≡ 1 → acts l p (64 * j + t) ≡ 1)
+        → ((j t : ℕ) → t < 64 → bit (g j) t ≡ 1 → acts l q (64 * j + t) ≡ 1) → common f g l ≡ 0
+    plane-none f g fit af ag =
+        common-none f g l (λ j b. bit-ext _ 0 (λ t. bit-and (f j) (g j) t ∙ ⊎-elim
+        (λ (lt : t < 64). min-none (bit-digit _ t) (bit-digit _ t) (λ u v. never (64 * j + t) (omega arith) (af j t lt u) (ag j t lt v)))
+        (λ (ge : 64 ≤ t). omega (arith, bit-high (f j) 64 t (fit j) ge))
+        (lt-or-ge t 64) ∙ sym (zero-bit t)))
+
+    disjoint-commute : symplectic l p q ≡ 0
+    unfolding symplectic
+    disjoint-commute =
+        omega (
+          arith,
+          plane-none (zWord l p) (xWord q) (λ j. a .word .fits (l + j)) (z-acts l p) (x-acts l q),
+          common-comm (zWord l q) (xWord p) l ∙ plane-none (xWord p) (zWord l q) (a .word .fits) (x-acts l p) (z-acts l q),
+        )
+
+    -- words within disjoint signatures commute
+    pub apart-commute : anticommutes l p q ≡ false
+    unfolding anticommutes
+    apart-commute = ap (λ (n : ℕ). eqb n 1) disjoint-commute
 
 -- ---- a word's part of a signature, by its set bits
 

@@ -6,3 +6,4 @@ pub mod Equal
 pub mod Copy
 pub mod Table
 pub mod From
+pub mod Wide

@@ -3,13 +3,14 @@ ghost use mathlib.Core.Path.{_≡_};
 ghost use Prim.Native.Nat.{_+_, _*_, _^_, _<_, _≤_};
 ghost use lib.Bits.{bitOr};
 ghost use lib.ListN.{length};
+ghost use Rattle.pauli.specs.Word.{IsWord};
 ghost use Rattle.pauli.specs.Support.{signature};
 ghost use Rattle.pauli.specs.SupportLaws.{bucketsOf};
 
-// The buckets of the set bits of w, the j-th number of a plane, or-ed to sig.
+// The buckets of the set bits of w, the j-th number of a plane, or-ed to sig; w has 64 bits, which its caller cannot see.
 fn add_buckets(sig: u64, w: u64, j: usize, l: usize) -> u64
     requires { ⌜ (j < l) × (l ≤ 2 ^ 32) ⌝ }
-    ensures { λ r. ⌜ r ≡ bitOr sig (bucketsOf l j w 64) ⌝ }
+    ensures { λ r. ⌜ (r ≡ bitOr sig (bucketsOf l j w 64)) × (w < 2 ^ 64) ⌝ }
 {
     let mut s = sig;
     let mut rest = w;
@@ -21,10 +22,10 @@ fn add_buckets(sig: u64, w: u64, j: usize, l: usize) -> u64
     s
 }
 
-// A bit for each bucket of qubits that the word acts on.
+// A bit for each bucket of qubits that the word acts on; what is lent is a word.
 pub fn support_signature(words: &[u64], l: usize) -> u64
     requires { ⌜ (length (now words) ≡ 2 * l) × (l ≤ 2 ^ 32) ⌝ }
-    ensures { λ r. ⌜ r ≡ signature l (now (words .entry)) ⌝ }
+    ensures { λ r. ⌜ (r ≡ signature l (now (words .entry))) × IsWord l (now (words .entry)) ⌝ }
 {
     let mut sig: u64 = 0;
     for j in 0..l {
