@@ -1,19 +1,26 @@
 -- What both stores hold of the axes: the one thing that packing and the passes carry of them. Assumes nothing.
 use mathlib.Core.Path.{_≡_, refl, sym, ap, _∙_, subst}
-use mathlib.Core.Bool.{false}
+use mathlib.Core.Bool.{Bool, true, false}
 use mathlib.Core.List.{List, []}
 use Prim.Native.Nat.{ℕ, _+_, _*_, _≤_, _<_}
 use native.Mathlib.Omega.{arith}
+use lib.Bits.{bitAnd}
+use lib.Dec.{eqb}
 use lib.ListN.{length}
+use borrow.Author.Tests.{eqb-true}
 use Rattle.store.specs.Chunk.{chunks}
+use Rattle.store.specs.Wide.{wideAt}
+use Rattle.pauli.specs.SupportLaws.{apart-commute}
 use Rattle.model.specs.Lists.{anyOf, member}
+use Rattle.model.specs.Words.{wordOf, anticommute}
 use Rattle.layout.specs.declared.Shape.{Shape}
-use Rattle.layout.specs.Rows.{rowCount, axesRows}
+use Rattle.layout.specs.Rows.{rowCount, axesRows, signatureRow}
 use Rattle.layout.specs.Only.{Only}
 use Rattle.layout.specs.Words.{axisPlace, slots-le, OnlyWords}
 use Rattle.layout.specs.Shape.{Granted}
 use Rattle.axes.specs.declared.Sizes.{Sizes}
 use Rattle.axes.specs.View.{axesOf, axes-length, axes-words}
+use Rattle.axes.specs.Beside.{Beside, SameBeside, same-beside, only-beside}
 
 -- a run's sizes with n axes
 abbrev pub sizesOf : Shape → ℕ → Sizes
@@ -27,20 +34,31 @@ withAxes n z = record { u = z .u; l = z .l; limit = z .limit; axes = n }
 abbrev pub storedAxes : Sizes → List ℕ → List (List ℕ)
 storedAxes z ws = axesOf (z .l) (z .axes) ws
 
+-- a row has an entry for each word that the limit has room for, and signatures can be worked out
+pub record SizesFit (z : Sizes) : Type 0 where
+  pub rows : (n : ℕ) → axisPlace (z .l) n ≤ z .limit → n < z .u
+  pub narrow : z .l ≤ 64
+
 -- the stores hold these axes, as many as z counts, within the limit
 pub record HoldsAxes (z : Sizes) (ws xs : List ℕ) (axes : List (List ℕ)) : Type 0 where
   pub are : storedAxes z ws ≡ axes
   pub within : axisPlace (z .l) (z .axes) ≤ z .limit
   pub words-long : z .limit ≤ length ws
   pub numbers-long : rowCount * z .u ≤ length xs
+  pub fit : SizesFit z
+  pub beside : (a : ℕ) → a < z .axes → Beside (z .l) (z .u) xs a (wordOf axes a)
 
 -- the stores hold some axes: those that are stored
 abbrev pub Stored : Sizes → List ℕ → List ℕ → Type 0
 Stored z ws xs = HoldsAxes z ws xs (storedAxes z ws)
 
 module _ {z : Sizes} {ws xs : List ℕ} {axes : List (List ℕ)} (h : HoldsAxes z ws xs axes) where
+  -- the same axes by another name
+  pub held-as : {others : List (List ℕ)} → axes ≡ others → HoldsAxes z ws xs others
+  held-as e = subst (HoldsAxes z ws xs) e h
+
   pub held-stored : Stored z ws xs
-  held-stored = record { are = refl; within = h .within; words-long = h .words-long; numbers-long = h .numbers-long }
+  held-stored = held-as (sym (h .are))
 
   pub held-count : length axes ≡ z .axes
   held-count = ap length (sym (h .are)) ∙ axes-length (z .l) (z .axes) ws
@@ -49,14 +67,24 @@ module _ {z : Sizes} {ws xs : List ℕ} {axes : List (List ℕ)} (h : HoldsAxes 
   pub held-axis : (a : ℕ) → a < z .axes → axisPlace (z .l) a + 2 * z .l ≤ length ws
   held-axis a b = omega (arith, h .within, h .words-long, slots-le (z .l) a (z .axes) b)
 
-  -- other rows of the number store are written
-  pub held-rows : {rs ys : List ℕ} → Only rs (z .u) xs ys → anyOf (λ r. member r rs) axesRows ≡ false → HoldsAxes z ws ys axes
-  held-rows o e = record {
+  -- and its entry in a row
+  pub held-entry : (a : ℕ) → a < z .axes → a < z .u
+  held-entry a b = omega (arith, h .fit .rows (z .axes) (h .within))
+
+  -- rows of the number store are written, beside no axis
+  pub held-same : {ys : List ℕ} → length ys ≡ length xs → ((a : ℕ) → a < z .axes → SameBeside (z .u) xs ys a) → HoldsAxes z ws ys axes
+  held-same long s = record {
     are = h .are;
     within = h .within;
     words-long = h .words-long;
-    numbers-long = omega (arith, h .numbers-long, o .long);
+    numbers-long = omega (arith, h .numbers-long);
+    fit = h .fit;
+    beside = λ a b. same-beside (s a b) (h .beside a b);
   }
+
+  -- other rows of the number store are written
+  pub held-rows : {rs ys : List ℕ} → Only rs (z .u) xs ys → anyOf (λ r. member r rs) axesRows ≡ false → HoldsAxes z ws ys axes
+  held-rows o e = held-same (o .long) (λ a b. only-beside o e a)
 
   -- words behind the axes are written
   pub held-words : {a b : ℕ} {vs : List ℕ} → OnlyWords a b ws vs → axisPlace (z .l) (z .axes) ≤ a → HoldsAxes z vs xs axes
@@ -65,22 +93,26 @@ module _ {z : Sizes} {ws xs : List ℕ} {axes : List (List ℕ)} (h : HoldsAxes 
     within = h .within;
     words-long = omega (arith, h .words-long, o .long);
     numbers-long = h .numbers-long;
+    fit = h .fit;
+    beside = h .beside;
   }
 
-  -- the same axes by another name
-  pub held-as : {others : List (List ℕ)} → axes ≡ others → HoldsAxes z ws xs others
-  held-as e = subst (HoldsAxes z ws xs) e h
+-- what the code answers from the signatures of two axes that are apart
+pub apart-answer : {z : Sizes} {ws xs : List ℕ} (h : Stored z ws xs) (a b : ℕ) → a < z .axes → b < z .axes → 1 < z .l → {r : Bool}
+    → r ≡ eqb (bitAnd (wideAt xs (z .u) signatureRow a) (wideAt xs (z .u) signatureRow b)) 0 → r ≡ true
+    → false ≡ anticommute (z .l) (storedAxes z ws) a b
+unfolding anticommute
+apart-answer h a b c d k e t =
+    sym (apart-commute (h .beside a c .signature k) (h .beside b d .signature k) (eqb-true _ _ (sym e ∙ t)))
 
--- stores as long as granted, with n axes within the limit
-pub granted-held : {z : Shape} {ws xs : List ℕ} → Granted z ws xs → (n : ℕ) → axisPlace (z .l) n ≤ z .limit → Stored (sizesOf z n) ws xs
-granted-held g n h = record {
-  are = refl;
-  within = h;
-  words-long = omega (arith, g .words-long);
-  numbers-long = g .numbers-long;
-}
-
--- with none, whatever is in them
+-- stores as long as granted hold no axes, whatever is in them
 pub held-none : {z : Shape} {ws xs : List ℕ} → Granted z ws xs → HoldsAxes (sizesOf z 0) ws xs []
 unfolding axesOf chunks
-held-none g = granted-held g 0 (omega arith)
+held-none g = record {
+  are = refl;
+  within = omega arith;
+  words-long = omega (arith, g .words-long);
+  numbers-long = g .numbers-long;
+  fit = record { rows = g .sized .words-row; narrow = g .sized .few };
+  beside = λ a b. absurd (omega arith);
+}

@@ -1,0 +1,52 @@
+-- What stands beside an axis in the number store: a key, so that a scan for a word compares one number, and where words are longer
+-- than one number a signature within which its support lies. Assumes nothing.
+use mathlib.Core.Path.{_≡_, refl, sym, ap, _∙_, subst}
+use mathlib.Core.Bool.{false}
+use mathlib.Core.List.{List, [], _∷_}
+use Prim.Native.Nat.{ℕ, zero, suc, _+_, _*_, _%_, _^_, _≤_, _<_}
+use native.Mathlib.Omega.{arith}
+use lib.ListN.{length, getD}
+use Rattle.store.specs.Row.{row}
+use Rattle.store.specs.Wide.{wideAt}
+use Rattle.pauli.specs.SupportLaws.{SupportWithin}
+use Rattle.model.specs.Lists.{anyOf, member}
+use Rattle.theory.specs.Cases.{neither}
+use Rattle.layout.specs.Rows.{axesRows, signatureRow, keyRow}
+use Rattle.layout.specs.Only.{Only}
+use Rattle.layout.specs.Wide.{wide-kept}
+
+-- the first n numbers of a word, added modulo 2^64
+unfoldable pub totalTo : List ℕ → ℕ → ℕ
+totalTo w zero = 0
+totalTo w (suc n) = (totalTo w n + getD w n 0) % 2 ^ 64
+
+-- a word's key, below 2^32: the remainder by the largest prime there is
+unfoldable pub keyOf : List ℕ → ℕ
+keyOf w = totalTo w (length w) % 4294967291
+
+-- beside axis a, whose word is w
+pub record Beside (l u : ℕ) (xs : List ℕ) (a : ℕ) (w : List ℕ) : Type 0 where
+  pub key : getD (row xs u keyRow) a 0 ≡ keyOf w
+  pub signature : 1 < l → SupportWithin l (wideAt xs u signatureRow a) w
+
+-- beside axis a nothing changes
+pub record SameBeside (u : ℕ) (xs ys : List ℕ) (a : ℕ) : Type 0 where
+  pub key : getD (row ys u keyRow) a 0 ≡ getD (row xs u keyRow) a 0
+  pub signature : wideAt ys u signatureRow a ≡ wideAt xs u signatureRow a
+
+pub same-beside : {l u a : ℕ} {xs ys w : List ℕ} → SameBeside u xs ys a → Beside l u xs a w → Beside l u ys a w
+same-beside {l} {w = w} s b = record {
+  key = s .key ∙ b .key;
+  signature = λ h. subst (λ (n : ℕ). SupportWithin l n w) (sym (s .signature)) (b .signature h);
+}
+
+-- other rows are written
+pub only-beside : {rs xs ys : List ℕ} {u : ℕ} → Only rs u xs ys → anyOf (λ r. member r rs) axesRows ≡ false → (a : ℕ) → SameBeside u xs ys a
+unfolding anyOf
+only-beside {rs} {u = u} o e a =
+    let low = neither (member signatureRow rs) _ e in
+    let high = neither (member (signatureRow + 1) rs) _ (low .1) in
+    record {
+      key = ap (λ (r : List ℕ). getD r a 0) (o .rows keyRow (omega arith) (neither (member keyRow rs) _ (high .1) .0));
+      signature = wide-kept signatureRow o (omega arith) (low .0) (high .0) a;
+    }
