@@ -4,6 +4,7 @@ use mathlib.Core.Path.{_≡_, refl, sym, ap, _∙_, subst}
 use mathlib.Core.Bool.{false}
 use mathlib.Core.List.{List, [], _∷_}
 use Prim.Native.Nat.{ℕ, zero, suc, _+_, _*_, _%_, _^_, _≤_, _<_}
+use native.Mathlib.Numerals.{add-one}
 use native.Mathlib.Omega.{arith}
 use lib.ListN.{length, getD}
 use Rattle.store.specs.Row.{row}
@@ -19,6 +20,11 @@ use Rattle.layout.specs.Wide.{wide-kept}
 unfoldable pub totalTo : List ℕ → ℕ → ℕ
 totalTo w zero = 0
 totalTo w (suc n) = (totalTo w n + getD w n 0) % 2 ^ 64
+
+-- one more
+pub total-more : (w : List ℕ) (n : ℕ) {s r : ℕ} → s ≡ totalTo w n → r ≡ (s + getD w n 0) % 2 ^ 64 → r ≡ totalTo w (n + 1)
+unfolding totalTo
+total-more w n e f = f ∙ ap (λ (k : ℕ). (k + getD w n 0) % 2 ^ 64) e ∙ ap (totalTo w) (sym (add-one n))
 
 -- a word's key, below 2^32: the remainder by the largest prime there is
 unfoldable pub keyOf : List ℕ → ℕ

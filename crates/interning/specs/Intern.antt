@@ -1,5 +1,5 @@
 -- What storing a word answers and leaves, by the model's `intern`. Assumes nothing.
-use mathlib.Core.Path.{_≡_, refl, sym, ap, _∙_}
+use mathlib.Core.Path.{_≡_, refl, sym, ap, _∙_, subst}
 use mathlib.Core.List.{List, [], _∷_, _++_}
 use Prim.Native.Nat.{ℕ, _+_, _*_, _≤_, _<_, max}
 use native.Mathlib.Nat.{zero-max}
@@ -7,7 +7,7 @@ use native.Mathlib.Omega.{arith}
 use lib.Dec.{ltb, eqb}
 use lib.ListN.{length}
 use borrow.Author.Tests.{lt-ltb, le-ltb, eq-eqb, ne-eqb}
-use Rattle.store.specs.Part.{put}
+use Rattle.store.specs.Part.{put, part-length}
 use Rattle.model.specs.Lists.{if_then_else_}
 use Rattle.model.specs.Words.{idOf, Store, intern}
 use Rattle.theory.specs.Cases.{if-true, if-false}
@@ -15,8 +15,10 @@ use Rattle.layout.specs.Rows.{axesRows}
 use Rattle.layout.specs.Only.{Only, only-none}
 use Rattle.layout.specs.Words.{axisPlace}
 use Rattle.axes.specs.View.{axesOf, wordAt, axes-length}
+use Rattle.axes.specs.Beside.{Beside, SameBeside}
 use Rattle.axes.specs.declared.Sizes.{Sizes}
 use Rattle.axes.specs.Held.{storedAxes, Stored}
+use Rattle.interning.specs.Beside.{BesidePre, BesidePut}
 use Rattle.interning.specs.declared.Interned.{Interned}
 use Rattle.interning.specs.declared.Interned.the-variants.{Id, Full}
 
@@ -44,11 +46,17 @@ unfoldable pub laidBy : Interned → ℕ → ℕ → List ℕ → List ℕ → L
 laidBy (Id id) l n s w = if ltb id n then s else put s (axisPlace l n) w
 laidBy Full l n s w = s
 
--- answer and word store are the model's; of the number store only rows that are kept for axes may change
-pub record Stores (z : Sizes) (others : ℕ) (ws xs : List ℕ) (at : ℕ) (r : Interned) (ws′ xs′ : List ℕ) : Type 0 where
+-- answer and word store are the model's
+pub record Answered (z : Sizes) (others : ℕ) (ws : List ℕ) (at : ℕ) (r : Interned) (ws′ : List ℕ) : Type 0 where
   pub answer : r ≡ internAnswer (z .l) others (z .limit) (storedAxes z ws) (wordAt (z .l) ws at)
   pub words : ws′ ≡ laidBy r (z .l) (z .axes) ws (wordAt (z .l) ws at)
+
+-- of the number store only what stands beside a new axis changes
+pub record Stores (z : Sizes) (others : ℕ) (ws xs : List ℕ) (at : ℕ) (r : Interned) (ws′ xs′ : List ℕ) : Type 0 where
+  pub answered : Answered z others ws at r ws′
   pub numbers : Only axesRows (z .u) xs xs′
+  pub kept : (a : ℕ) → a < z .axes → SameBeside (z .u) xs xs′ a
+  pub new : (id : ℕ) → r ≡ Id id → z .axes ≤ id → Beside (z .l) (z .u) xs′ (z .axes) (wordAt (z .l) ws at)
 
 -- ---- the model's `intern`, case by case
 
@@ -92,49 +100,86 @@ module _ (l others limit n : ℕ) (s w : List ℕ) where
 
 -- ---- what the code answers, from the id that it found of the word that it read
 
-module _ (z : Sizes) (others : ℕ) (ws xs : List ℕ) (at id : ℕ) {p : List ℕ} (found : id ≡ idOf (storedAxes z ws) p)
+module _ (z : Sizes) (others : ℕ) (ws : List ℕ) (at id : ℕ) {p : List ℕ} (found : id ≡ idOf (storedAxes z ws) p)
     (read : p ≡ wordAt (z .l) ws at) where
   id-of : id ≡ idOf (storedAxes z ws) (wordAt (z .l) ws at)
   id-of = found ∙ ap (idOf (storedAxes z ws)) read
 
-  pub stores-old : id < z .axes → Stores z others ws xs at (Id id) ws xs
-  stores-old h = record {
+  pub answered-old : id < z .axes → Answered z others ws at (Id id) ws
+  answered-old h = record {
     answer =
         ap Id id-of
         ∙ answer-id (z .l) others (z .limit) (z .axes) ws _
         (omega (arith, tested-old (z .l) others (z .limit) (z .axes) ws (wordAt (z .l) ws at) (omega (arith, id-of))));
     words = sym (laid-old (z .l) others (z .limit) (z .axes) ws _ id h);
-    numbers = only-none axesRows (z .u) xs;
   }
 
   -- a new word, behind the axes, which end at b
   module _ {b : ℕ} (end : b ≡ axisPlace (z .l) (z .axes)) (new : z .axes ≤ id) where
-    pub stores-limit : z .limit < b + 2 * z .l + others → Stores z others ws xs at Full ws xs
+    pub answered-limit : z .limit < b + 2 * z .l + others → Answered z others ws at Full ws
     unfolding laidBy
-    stores-limit k = record {
+    answered-limit k = record {
       answer =
           answer-limit (z .l) others (z .limit) (z .axes) ws _
           (omega (arith, end, tested-new (z .l) others (z .limit) (z .axes) ws (wordAt (z .l) ws at) (omega (arith, id-of))));
       words = refl;
-      numbers = only-none axesRows (z .u) xs;
     }
 
-    pub stores-new : (t : List ℕ) → b + 2 * z .l + others ≤ z .limit → t ≡ put ws b (wordAt (z .l) ws at) → Stores z others ws xs at (Id id) t xs
-    stores-new t k e = record {
+    pub answered-new : (t : List ℕ) → b + 2 * z .l + others ≤ z .limit → t ≡ put ws b (wordAt (z .l) ws at) → Answered z others ws at (Id id) t
+    answered-new t k e = record {
       answer =
           ap Id id-of
           ∙ answer-id (z .l) others (z .limit) (z .axes) ws _
           (omega (arith, end, tested-new (z .l) others (z .limit) (z .axes) ws (wordAt (z .l) ws at) (omega (arith, id-of))));
       words = e ∙ ap (λ (m : ℕ). put ws m (wordAt (z .l) ws at)) end ∙ sym (laid-new (z .l) others (z .limit) (z .axes) ws _ id new);
-      numbers = only-none axesRows (z .u) xs;
     }
 
+-- nothing is written beside the axes
+stores-same : {z : Sizes} {others : ℕ} {ws xs : List ℕ} {at : ℕ} {r : Interned} {ws′ : List ℕ} → Answered z others ws at r ws′
+    → ((id : ℕ) → r ≡ Id id → id < z .axes) → Stores z others ws xs at r ws′ xs
+stores-same {z} {xs = xs} a old = record {
+  answered = a;
+  numbers = only-none axesRows (z .u) xs;
+  kept = λ i h. record { key = refl; signature = refl };
+  new = λ id e h. absurd (omega (arith, old id e));
+}
+
+-- the word is stored
+pub stores-old : {z : Sizes} {others : ℕ} {ws xs : List ℕ} {at id : ℕ} {ws′ : List ℕ} → Answered z others ws at (Id id) ws′ → id < z .axes
+    → Stores z others ws xs at (Id id) ws′ xs
+stores-old {z} {id = id} a h = stores-same a (λ i e. let f : id ≡ i = cc in omega arith)
+
+-- it is refused
+pub stores-limit : {z : Sizes} {others : ℕ} {ws xs : List ℕ} {at : ℕ} {ws′ : List ℕ} → Answered z others ws at Full ws′
+    → Stores z others ws xs at Full ws′ xs
+stores-limit a = stores-same a (λ i e. let f : _≡_ {A = ℕ} 0 1 = cc in absurd (omega arith))
+
+-- its own, beside a new axis
+pub stores-beside : {z : Sizes} {others : ℕ} {ws xs : List ℕ} {at : ℕ} {r : Interned} {ws′ xs′ p : List ℕ} → Answered z others ws at r ws′
+    → p ≡ wordAt (z .l) ws at → BesidePut z xs p xs′ → Stores z others ws xs at r ws′ xs′
+stores-beside {z} {xs′ = xs′} a read put = record {
+  answered = a;
+  numbers = put .numbers;
+  kept = λ i h. put .others i (omega arith);
+  new = λ id e h. subst (Beside (z .l) (z .u) xs′ (z .axes)) read (put .own);
+}
+
 -- there is one answer, and one word store
-pub stores-one : {z : Sizes} {others : ℕ} {ws xs : List ℕ} {at : ℕ} {r q : Interned} {ws₁ xs₁ ws₂ xs₂ : List ℕ}
-    → Stores z others ws xs at r ws₁ xs₁ → Stores z others ws xs at q ws₂ xs₂ → (r ≡ q) × (ws₁ ≡ ws₂)
-stores-one {z} {others} {ws} {xs} {at} a b =
+pub answered-one : {z : Sizes} {others : ℕ} {ws : List ℕ} {at : ℕ} {r q : Interned} {ws₁ ws₂ : List ℕ}
+    → Answered z others ws at r ws₁ → Answered z others ws at q ws₂ → (r ≡ q) × (ws₁ ≡ ws₂)
+answered-one {z} {others} {ws} {at} a b =
     let e = a .answer ∙ sym (b .answer) in
     (e, a .words ∙ ap (λ (x : Interned). laidBy x (z .l) (z .axes) ws (wordAt (z .l) ws at)) e ∙ sym (b .words))
+
+-- the next axis has its entry, and the word that was read is a word
+pub beside-there : {z : Sizes} {others : ℕ} {ws xs : List ℕ} {at b : ℕ} {p : List ℕ} → InternPre z others ws xs at
+    → b ≡ axisPlace (z .l) (z .axes) → b + 2 * z .l + others ≤ z .limit → p ≡ wordAt (z .l) ws at → BesidePre z xs p
+beside-there {z} {ws = ws} {at = at} pre end fits read = record {
+  numbers-long = pre .held .numbers-long;
+  entry = pre .held .fit .rows (z .axes) (pre .held .within);
+  word = ap length read ∙ part-length ws at (2 * z .l) (pre .word-in);
+  narrow = pre .held .fit .narrow;
+}
 
 -- ---- the count
 

@@ -1,3 +1,4 @@
 pub mod Find
+pub mod Beside
 pub mod Intern
 pub mod Stored

@@ -6,17 +6,20 @@ use native.Mathlib.Nat.{suc-mul}
 use native.Mathlib.Numerals.{add-one}
 use native.Mathlib.Decide.{decLt}
 use native.Mathlib.Omega.{arith}
-use lib.ListN.{length}
+use lib.ListN.{length, List·getD-append}
+use lib.Seq.{getD-at}
 use Rattle.store.specs.Part.{put, put-length, part-length}
-use Rattle.model.specs.Words.{idOf, Store, intern}
+use Rattle.model.specs.Words.{idOf, wordOf, Store, intern}
 use Rattle.theory.specs.Ids.{id-le}
 use Rattle.layout.specs.Rows.{axesRows}
 use Rattle.layout.specs.Only.{Only}
 use Rattle.layout.specs.Words.{axisPlace, KeptFrom, kept-none, kept-put}
 use Rattle.axes.specs.View.{axesOf, wordAt, axes-length, axes-put}
+use Rattle.axes.specs.Beside.{Beside, SameBeside, same-beside}
 use Rattle.axes.specs.declared.Sizes.{Sizes}
 use Rattle.axes.specs.Held.{withAxes, storedAxes, HoldsAxes, held-count}
-use Rattle.interning.specs.Intern.{sumWith, InternPre, Stores, intern-old, intern-new, stores-old, stores-limit, stores-new, stores-one}
+use Rattle.interning.specs.Intern.{sumWith, InternPre, Stores, Answered, answered-old, answered-limit}
+use Rattle.interning.specs.Intern.{intern-old, intern-new, answered-new, answered-one}
 use Rattle.interning.specs.Intern.{countWith, count-new, count-old}
 use Rattle.interning.specs.declared.Interned.{Interned}
 use Rattle.interning.specs.declared.Interned.the-variants.{Id, Full}
@@ -50,7 +53,22 @@ module _ (z : Sizes) (others : ℕ) (ws xs : List ℕ) (at : ℕ) (pre : InternP
   found : idOf (st .axes) (wordAt (z .l) ws at) ≡ idOf (storedAxes z ws) (wordAt (z .l) ws at)
   found = ap (λ (axes : List (List ℕ)). idOf axes (wordAt (z .l) ws at)) (sym (h .are))
 
-  module _ {xs′ : List ℕ} (o : Only axesRows (z .u) xs xs′) where
+  module _ {xs′ : List ℕ} (o : Only axesRows (z .u) xs xs′) (same : (a : ℕ) → a < z .axes → SameBeside (z .u) xs xs′ a) where
+    -- beside the axes that there were
+    beside-old : (a : ℕ) → a < z .axes → Beside (z .l) (z .u) xs′ a (wordOf (st .axes) a)
+    beside-old a b = same-beside (same a b) (h .beside a b)
+
+    -- and beside the new one
+    beside-more : Beside (z .l) (z .u) xs′ (z .axes) (wordAt (z .l) ws at) → (a : ℕ) → a < z .axes + 1 → Dec (a < z .axes)
+        → Beside (z .l) (z .u) xs′ a (wordOf (st .axes ++ (wordAt (z .l) ws at ∷ [])) a)
+    beside-more own a i (yes b) =
+        let e = List·getD-append (st .axes) (wordAt (z .l) ws at ∷ []) [] a (omega (arith, held-count h)) in
+        subst (Beside (z .l) (z .u) xs′ a) (sym e) (beside-old a b)
+    beside-more own a i (no b) =
+        let e : a ≡ z .axes = omega arith in
+        let f = getD-at (st .axes) (wordAt (z .l) ws at) [] [] (z .axes) (held-count h) in
+        rw e (subst (Beside (z .l) (z .u) xs′ (z .axes)) (sym f) own)
+
     old : st .peak ≤ z .limit → (id : ℕ) → id ≡ idOf (storedAxes z ws) (wordAt (z .l) ws at) → id < z .axes
         → HasId z others ws xs st (wordAt (z .l) ws at) id ws xs′
     old p id e b =
@@ -63,6 +81,8 @@ module _ (z : Sizes) (others : ℕ) (ws xs : List ℕ) (at : ℕ) (pre : InternP
             within = subst (λ (n : ℕ). axisPlace (z .l) n ≤ z .limit) c (h .within);
             words-long = h .words-long;
             numbers-long = omega (arith, h .numbers-long, o .long);
+            fit = record { rows = h .fit .rows; narrow = h .fit .narrow };
+            beside = λ a i. subst (λ (x : Store). Beside (z .l) (z .u) xs′ a (wordOf (x .axes) a)) (sym k) (beside-old a (omega arith));
           };
           fits = omega (arith, ap (λ (x : Store). x .peak) k);
           room = subst (λ (n : ℕ). axisPlace (z .l) n + others ≤ z .limit) c;
@@ -70,10 +90,10 @@ module _ (z : Sizes) (others : ℕ) (ws xs : List ℕ) (at : ℕ) (pre : InternP
           numbers = o;
         }
 
-    new : st .peak ≤ z .limit → (id : ℕ) → id ≡ idOf (storedAxes z ws) (wordAt (z .l) ws at) → id ≡ z .axes
+    new : Beside (z .l) (z .u) xs′ (z .axes) (wordAt (z .l) ws at) → st .peak ≤ z .limit → (id : ℕ) → id ≡ idOf (storedAxes z ws) (wordAt (z .l) ws at) → id ≡ z .axes
         → sumWith (z .l) others (z .axes) ≤ z .limit
         → HasId z others ws xs st (wordAt (z .l) ws at) id (put ws (axisPlace (z .l) (z .axes)) (wordAt (z .l) ws at)) xs′
-    new p id e f b =
+    new own p id e f b =
         let k = intern-new (z .l) others st (wordAt (z .l) ws at) (omega (arith, held-count h, found)) in
         let g : length (wordAt (z .l) ws at) ≡ 2 * z .l = part-length ws at (2 * z .l) (pre .word-in) in
         let sum : sumWith (z .l) others (length (st .axes)) ≡ sumWith (z .l) others (z .axes) = ap (sumWith (z .l) others) (held-count h) in
@@ -90,6 +110,9 @@ module _ (z : Sizes) (others : ℕ) (ws xs : List ℕ) (at : ℕ) (pre : InternP
             words-long =
                 omega (arith, h .words-long, put-length ws (axisPlace (z .l) (z .axes)) (wordAt (z .l) ws at) (omega (arith, h .words-long)));
             numbers-long = omega (arith, h .numbers-long, o .long);
+            fit = record { rows = h .fit .rows; narrow = h .fit .narrow };
+            beside = λ a i. subst (λ (x : Store). Beside (z .l) (z .u) xs′ a (wordOf (x .axes) a)) (sym k)
+                (beside-more own a (omega arith) (decLt a (z .axes)));
           };
           fits = omega (arith, ap (λ (x : Store). x .peak) k, sum);
           room = λ _. subst (λ (n : ℕ). axisPlace (z .l) n + others ≤ z .limit) c (omega (arith, one-more (z .l) (z .axes)));
@@ -111,16 +134,18 @@ module _ (z : Sizes) (others : ℕ) (ws xs : List ℕ) (at : ℕ) (pre : InternP
       go (decLt (idOf (storedAxes z ws) (wordAt (z .l) ws at)) (z .axes)) (decLt (z .limit) (sumWith (z .l) others (z .axes)))
     where
       -- there is one answer
-      so : {q : Interned} {vs : List ℕ} → Stores z others ws xs at q vs xs → InternedAs z others ws xs st (wordAt (z .l) ws at) q vs xs′
+      so : {q : Interned} {vs : List ℕ} → Answered z others ws at q vs
+          → (r ≡ q → InternedAs z others ws xs st (wordAt (z .l) ws at) q vs xs′)
           → InternedAs z others ws xs st (wordAt (z .l) ws at) r ws′ xs′
-      so k m = let e = stores-one s k in rw (e .0, e .1) m
+      so k m = let e = answered-one (s .answered) k in rw (e .0, e .1) (m (e .0))
 
       last : (idOf (storedAxes z ws) (wordAt (z .l) ws at) < z .axes → ⊥) → idOf (storedAxes z ws) (wordAt (z .l) ws at) ≡ z .axes
       last a = omega (arith, id-le (storedAxes z ws) (wordAt (z .l) ws at), axes-length (z .l) (z .axes) ws)
 
       go : Dec (idOf (storedAxes z ws) (wordAt (z .l) ws at) < z .axes) → Dec (z .limit < sumWith (z .l) others (z .axes))
           → InternedAs z others ws xs st (wordAt (z .l) ws at) r ws′ xs′
-      go (yes a) d = so (stores-old z others ws xs at _ refl refl a) (old (s .numbers) p _ refl a)
-      go (no a) (yes b) = so (stores-limit z others ws xs at _ refl refl refl (omega arith) b) (none (s .numbers) (last a) b)
+      go (yes a) d = so (answered-old z others ws at _ refl refl a) (λ e. old (s .numbers) (s .kept) p _ refl a)
+      go (no a) (yes b) = so (answered-limit z others ws at _ refl refl refl (omega arith) b) (λ e. none (s .numbers) (s .kept) (last a) b)
       go (no a) (no b) =
-          so (stores-new z others ws xs at _ refl refl refl (omega arith) _ (omega arith) refl) (new (s .numbers) p _ refl (last a) (omega arith))
+          so (answered-new z others ws at _ refl refl refl (omega arith) _ (omega arith) refl)
+          (λ e. new (s .numbers) (s .kept) (s .new _ e (omega arith)) p _ refl (last a) (omega arith))

@@ -1,16 +1,18 @@
 // Axes found and stored: a word's id among the stored axes, or a new one behind them.
 ghost use mathlib.Core.Path.{_≡_};
 ghost use mathlib.Core.Bool.{true};
-ghost use Prim.Native.Nat.{_+_, _*_, _^_, _<_};
+ghost use Prim.Native.Nat.{_+_, _^_, _<_};
 ghost use lib.ListN.{length};
-ghost use Rattle.store.specs.Equal.{sameList};
 ghost use Rattle.model.specs.Words.{idOf};
+ghost use Rattle.axes.specs.Beside.{totalTo, keyOf};
 ghost use Rattle.axes.specs.Held.{storedAxes, Stored};
-ghost use Rattle.interning.specs.Find.{firstNonzero, NoneOf, PassPre, Passed};
+ghost use Rattle.interning.specs.Find.{NoneOf, PassPre, Passed};
+ghost use Rattle.interning.specs.Beside.{BesidePre, BesidePut};
 ghost use Rattle.interning.specs.Intern.{InternPre, Stores, countWith};
 use axes::Sizes;
+use layout::KEY;
+use layout::SIGNATURE;
 use pauli::same;
-use store::copy_within;
 
 // The id of a word, or the word store is full: the limit leaves no room for a new word.
 pub enum Interned {
@@ -18,52 +20,66 @@ pub enum Interned {
     Full,
 }
 
-// The place of the first number of w that is not 0; its length if there is none. Only the time of `find` depends on it.
-fn first_nonzero(w: &[u64]) -> usize
-    ensures { λ r. ⌜ r ≡ firstNonzero (now (w .entry)) ⌝ }
+// The numbers of w, added modulo 2^64.
+fn total(w: &[u64]) -> u64
+    ensures { λ r. ⌜ r ≡ totalTo (now (w .entry)) (length (now (w .entry))) ⌝ }
 {
+    let mut sum: u64 = 0;
     for k in 0..w.len() {
-        if w[k] != 0 {
-            return k;
-        }
+        sum = std::num::wrapping_add_u64(sum, w[k]);
     }
-    w.len()
+    sum
 }
 
-// Whether neither of two numbers, n apart from p on, is v.
-fn none_of_two(words: &[u64], p: usize, n: usize, v: u64) -> bool
-    requires { ⌜ p + n < length (now words) ⌝ }
-    ensures { λ r. ⌜ (r ≡ true → NoneOf 2 p n (now (words .entry)) v) ⌝ }
+// The key of w: words with other keys are other words.
+fn key(w: &[u64]) -> u32
+    ensures { λ r. ⌜ r ≡ keyOf (now (w .entry)) ⌝ }
 {
-    (words[p] != v) & (words[p + n] != v)
+    (total(w) % 4294967291) as u32
+}
+
+// Whether neither of two numbers from p on is v.
+fn none_of_two(numbers: &[u32], p: usize, v: u32) -> bool
+    requires { ⌜ p + 1 < length (now numbers) ⌝ }
+    ensures { λ r. ⌜ (r ≡ true → NoneOf 2 p (now (numbers .entry)) v) ⌝ }
+{
+    (numbers[p] != v) & (numbers[p + 1] != v)
 }
 
 // Whether none of four is.
-fn none_of_four(words: &[u64], p: usize, n: usize, v: u64) -> bool
-    requires { ⌜ p + 3 * n < length (now words) ⌝ }
-    ensures { λ r. ⌜ (r ≡ true → NoneOf 4 p n (now (words .entry)) v) ⌝ }
+fn none_of_four(numbers: &[u32], p: usize, v: u32) -> bool
+    requires { ⌜ p + 3 < length (now numbers) ⌝ }
+    ensures { λ r. ⌜ (r ≡ true → NoneOf 4 p (now (numbers .entry)) v) ⌝ }
 {
-    none_of_two(words, p, n, v) & none_of_two(words, p + 2 * n, n, v)
+    none_of_two(numbers, p, v) & none_of_two(numbers, p + 2, v)
 }
 
-// Whether none of eight is. All are compared before the one branch, so that a scan has an eighth of the branches.
-fn none_of_eight(words: &[u64], p: usize, n: usize, v: u64) -> bool
-    requires { ⌜ p + 7 * n < length (now words) ⌝ }
-    ensures { λ r. ⌜ (r ≡ true → NoneOf 8 p n (now (words .entry)) v) ⌝ }
+// Whether none of eight is.
+fn none_of_eight(numbers: &[u32], p: usize, v: u32) -> bool
+    requires { ⌜ p + 7 < length (now numbers) ⌝ }
+    ensures { λ r. ⌜ (r ≡ true → NoneOf 8 p (now (numbers .entry)) v) ⌝ }
 {
-    none_of_four(words, p, n, v) & none_of_four(words, p + 4 * n, n, v)
+    none_of_four(numbers, p, v) & none_of_four(numbers, p + 4, v)
 }
 
-// The next axis that may be w, behind eight or one that differ at k; id itself, if it is w.
-fn pass(words: &[u64], numbers: &[u32], z: Sizes, w: &[u64], k: usize, id: usize) -> usize
+// Whether none of sixteen is. All are compared before the one branch, and side by side.
+fn none_of_sixteen(numbers: &[u32], p: usize, v: u32) -> bool
+    requires { ⌜ p + 15 < length (now numbers) ⌝ }
+    ensures { λ r. ⌜ (r ≡ true → NoneOf 16 p (now (numbers .entry)) v) ⌝ }
+{
+    none_of_eight(numbers, p, v) & none_of_eight(numbers, p + 8, v)
+}
+
+// The next axis that may be w, whose key is k, behind sixteen or one with other keys; id itself, if it is w.
+fn pass(words: &[u64], numbers: &[u32], z: Sizes, w: &[u64], k: u32, id: usize) -> usize
     requires { ⌜ PassPre z k id (now words) (now numbers) (now w) ⌝ }
     ensures { λ r. ⌜ Passed z id (now (words .entry)) (now (w .entry)) r ⌝ }
 {
-    let p = layout::axis_at(z.l, id) + k;
-    if z.axes - id >= 8 && none_of_eight(words, p, 2 * z.l, w[k]) {
-        return id + 8;
+    let p = KEY * z.u + id;
+    if z.axes - id >= 16 && none_of_sixteen(numbers, p, k) {
+        return id + 16;
     }
-    if words[p] != w[k] {
+    if numbers[p] != k {
         return id + 1;
     }
     if same(axes::axis(words, id, z.l), w) {
@@ -72,11 +88,12 @@ fn pass(words: &[u64], numbers: &[u32], z: Sizes, w: &[u64], k: usize, id: usize
     id + 1
 }
 
-// The id of w by its number at k.
-fn find_by(words: &[u64], numbers: &[u32], z: Sizes, w: &[u64], k: usize) -> usize
-    requires { ⌜ PassPre z k 0 (now words) (now numbers) (now w) ⌝ }
+// The id of w among the axes; their number if it is none of them.
+pub fn find(words: &[u64], numbers: &[u32], z: Sizes, w: &[u64]) -> usize
+    requires { ⌜ Stored z (now words) (now numbers) ⌝ }
     ensures { λ r. ⌜ r ≡ idOf (storedAxes z (now (words .entry))) (now (w .entry)) ⌝ }
 {
+    let k = key(w);
     let count = z.axes;
     let mut id = 0;
     while id < count {
@@ -89,30 +106,17 @@ fn find_by(words: &[u64], numbers: &[u32], z: Sizes, w: &[u64], k: usize) -> usi
     count
 }
 
-// The id of w, whatever it is.
-fn find_any(words: &[u64], numbers: &[u32], z: Sizes, w: &[u64]) -> usize
-    requires { ⌜ Stored z (now words) (now numbers) ⌝ }
-    ensures { λ r. ⌜ r ≡ idOf (storedAxes z (now (words .entry))) (now (w .entry)) ⌝ }
+// Beside the next axis stand the key of its word w and, where words are longer than one number, its signature.
+fn put_beside(numbers: &mut [u32], z: Sizes, w: &[u64])
+    requires { ⌜ BesidePre z (now numbers) (now w) ⌝ }
+    ensures { λ _. ⌜ BesidePut z (now (numbers .entry)) (now (w .entry)) (now (numbers .exit)) ⌝ }
 {
-    let count = z.axes;
-    for a in 0..count {
-        if same(axes::axis(words, a, z.l), w) {
-            return a;
-        }
+    store::write(numbers, z.u, KEY, z.axes, key(w));
+    if z.l == 1 {
+        return;
     }
-    count
-}
-
-// The id of w among the axes; their number if it is none of them.
-pub fn find(words: &[u64], numbers: &[u32], z: Sizes, w: &[u64]) -> usize
-    requires { ⌜ Stored z (now words) (now numbers) ⌝ }
-    ensures { λ r. ⌜ r ≡ idOf (storedAxes z (now (words .entry))) (now (w .entry)) ⌝ }
-{
-    let k = first_nonzero(w);
-    if z.axes > 0 && k < w.len() && k < 2 * z.l {
-        return find_by(words, numbers, z, w, k);
-    }
-    find_any(words, numbers, z, w)
+    let signature = support::support_signature(w, z.l);
+    store::write_wide(numbers, z.u, SIGNATURE, z.axes, signature);
 }
 
 // The id of the word at a place, stored behind the axes if it is new. The limit is tested with the other words counted besides the axes.
@@ -140,7 +144,8 @@ pub fn intern(
     if z.limit < end + n + others {
         return Interned::Full;
     }
-    copy_within(words, at, end, n);
+    put_beside(numbers, z, axes::word_at(&words[..], at, z.l));
+    store::copy_within(words, at, end, n);
     Interned::Id(id)
 }
 

@@ -5,11 +5,13 @@ use mathlib.Core.List.{List}
 use Prim.Native.Nat.{ℕ, suc, _+_, _-_, _*_, _≤_, _<_}
 use native.Mathlib.Nat.{lt-of-lt-of-le}
 use native.Mathlib.Omega.{arith}
+use lib.Dec.{eqb}
+use borrow.Author.Tests.{eq-eqb, ne-eqb}
 use Rattle.model.specs.declared.Options.{Options}
 use Rattle.model.specs.Lists.{if_then_else_}
 use Rattle.model.specs.Program.{Program}
 use Rattle.model.specs.Rules.{rulesOf}
-use Rattle.model.specs.Rounds.{Work, litinskiFrom, litinskiRounds}
+use Rattle.model.specs.Rounds.{Work, streamPass, layeringPass, litinskiFrom, litinskiRounds}
 use Rattle.theory.specs.Cases.{if-true, if-false}
 use Rattle.theory.specs.Peak.{litinskiFrom-rises}
 use Rattle.layout.specs.declared.Shape.{Shape}
@@ -17,9 +19,14 @@ use Rattle.steps.specs.declared.State.{State}
 use Rattle.steps.specs.declared.Step.{Step}
 use Rattle.steps.specs.declared.Step.the-variants.{Next, ExpansionLimit}
 use Rattle.points.specs.Points.{RunAt, SomeRun, OptionsIn, SameLong, long-same, long-then, EndedAs, later, ended-at, ended-limit}
-use Rattle.litinski.specs.declared.Round.{Round}
-use Rattle.litinski.specs.declared.Round.the-variants as round
-use Rattle.litinski.specs.LayerRound.{layersOf, streamOf, nothingMerged, RoundAs, RoundCall}
+
+-- "each round layers every segment .."
+abbrev pub layersOf : Shape → Work → Work
+layersOf z w = layeringPass (z .l) w
+
+-- "Streams here do not merge."
+abbrev pub streamOf : Shape → Options → Work → Work
+streamOf z o w = streamPass (z .l) (rulesOf o) false w
 
 -- the work after k more rounds
 abbrev pub roundsOf : Shape → Options → ℕ → Work → Work
@@ -51,63 +58,81 @@ rounds-first z o st ws xs = record {
 
 -- ---- one round more
 
-one-more : (z : Shape) (o : Options) (k : ℕ) (w : Work) (b : Bool) → nothingMerged z w ≡ b
+-- what layers promise, and what a stream does
+abbrev pub LayersCall : Shape → State → List ℕ → List ℕ → State → List ℕ → List ℕ → Type 0
+LayersCall z st ws xs s ws₁ xs₁ =
+    SameLong ws xs ws₁ xs₁
+    × ((i : ℕ) (p : Program) (w : Work) → RunAt z i st ws xs p w → RunAt z (i + 1) s ws₁ xs₁ p (layersOf z w))
+
+abbrev pub StreamCall : Shape → Options → State → List ℕ → List ℕ → Step → List ℕ → List ℕ → Type 0
+StreamCall z o st ws xs r ws₁ xs₁ =
+    SameLong ws xs ws₁ xs₁
+    × ((i : ℕ) (p : Program) (w : Work) → RunAt z i st ws xs p w → EndedAs z (i + 1) r ws₁ xs₁ p (streamOf z o w))
+
+-- ".. ends the work if nothing merged .."
+one-more : (z : Shape) (o : Options) (k : ℕ) (w : Work) (b : Bool) → eqb (layersOf z w .merges) (w .merges) ≡ b
     → roundsOf z o (k + 1) w ≡ (if b then layersOf z w else roundsOf z o k (streamOf z o (layersOf z w)))
-unfolding litinskiFrom nothingMerged
+unfolding litinskiFrom
 one-more z o k w b e =
     ap (λ (n : ℕ). roundsOf z o n w) (let f : k + 1 ≡ suc k = omega arith in f)
     ∙ ap (λ (x : Bool). if x then layersOf z w else roundsOf z o k (streamOf z o (layersOf z w))) e
 
 module _ {z : Shape} {o : Options} {st₀ : State} {ws₀ xs₀ ws xs : List ℕ} {st : State} {j : ℕ}
     (b : RoundsDone z o st₀ ws₀ xs₀ ws xs st j) (more : j < o .rounds) where
-  pub rounds-some : SomeRun z 1 st₀ ws₀ xs₀ → OptionsIn o → SomeRun z 510 st ws xs
+  pub rounds-some : SomeRun z 1 st₀ ws₀ xs₀ → OptionsIn o → SomeRun z 511 st ws xs
   rounds-some f k =
       let n = b .at (f .p) (f .w) (f .at) in
       record { p = f .p; w = n .now; at = later (omega (arith, k .rounds)) (n .at) }
 
-  module _ {r : Round} {ws′ xs′ : List ℕ} (call : RoundCall z o st ws xs r ws′ xs′) where
-    pub rounds-long : SameLong ws₀ xs₀ ws′ xs′
-    rounds-long = long-then (b .long) (call .0)
-
+  module _ {s : State} {ws₁ xs₁ : List ℕ} (layers : LayersCall z st ws xs s ws₁ xs₁) where
     module _ {p : Program} {w : Work} (h : RunAt z 1 st₀ ws₀ xs₀ p w) where
       here : RoundsNow z o ws xs st j p w
       here = b .at p w h
 
-      step : RoundAs z (1 + 2 * j + 2) o r ws′ xs′ p (here .now)
-      step = call .1 (1 + 2 * j) p (here .now) (here .at)
+      layered : RunAt z (1 + 2 * j + 1) s ws₁ xs₁ p (layersOf z (here .now))
+      layered = layers .1 (1 + 2 * j) p (here .now) (here .at)
 
-      rest : (x : Bool) → nothingMerged z (here .now) ≡ x → roundsOf z o (o .rounds) w
+      pub layered-some : OptionsIn o → SomeRun z 511 s ws₁ xs₁
+      layered-some k = record { p = p; w = layersOf z (here .now); at = later (omega (arith, k .rounds)) layered }
+
+      -- what all rounds come to, by the code's test on states
+      rest : (x : Bool) → eqb (s .merges) (st .merges) ≡ x → roundsOf z o (o .rounds) w
           ≡ (if x then layersOf z (here .now) else roundsOf z o (o .rounds - (j + 1)) (streamOf z o (layersOf z (here .now))))
       rest x e =
           here .same
           ∙ ap (λ (k : ℕ). roundsOf z o k (here .now)) (let f : o .rounds - j ≡ (o .rounds - (j + 1)) + 1 = omega arith in f)
-          ∙ one-more z o (o .rounds - (j + 1)) (here .now) x e
+          ∙ one-more z o (o .rounds - (j + 1)) (here .now) x (cc (layered .merges, here .at .merges, e))
 
-      rest-last : nothingMerged z (here .now) ≡ true → roundsOf z o (o .rounds) w ≡ layersOf z (here .now)
-      rest-last e = rest true e ∙ if-true _ _ refl
+      pub rounds-stop : s .merges ≡ st .merges → OptionsIn o → EndedAs z 511 (Next s) ws₁ xs₁ p (roundsOf z o (o .rounds) w)
+      rounds-stop e k =
+          let last = rest true (eq-eqb (s .merges) (st .merges) e) ∙ if-true _ _ refl in
+          ended-at (omega (arith, k .rounds)) (subst (RunAt z (1 + 2 * j + 1) s ws₁ xs₁ p) (sym last) layered)
 
-      rest-on : nothingMerged z (here .now) ≡ false
-          → roundsOf z o (o .rounds) w ≡ roundsOf z o (o .rounds - (j + 1)) (streamOf z o (layersOf z (here .now)))
-      rest-on e = rest false e ∙ if-false _ _ refl
+    module _ (n : s .merges ≡ st .merges → ⊥) {r : Step} {ws₂ xs₂ : List ℕ} (stream : StreamCall z o s ws₁ xs₁ r ws₂ xs₂) where
+      module _ {p : Program} {w : Work} (h : RunAt z 1 st₀ ws₀ xs₀ p w) where
+        abbrev next : Work
+        next = streamOf z o (layersOf z (here h .now))
 
-      pub rounds-limit : r ≡ round.ExpansionLimit → EndedAs z 511 ExpansionLimit ws′ xs′ p (roundsOf z o (o .rounds) w)
-      rounds-limit e =
-          let a = step .refused e in
-          ended-limit (subst (λ (v : Work). z .limit < v .store .peak) (sym (rest-on (a .1)))
-          (lt-of-lt-of-le (a .0) (litinskiFrom-rises (z .l) (rulesOf o) (o .rounds - (j + 1)) _)))
+        streamed : EndedAs z (1 + 2 * j + 1 + 1) r ws₂ xs₂ p (streamOf z o (layersOf z (here h .now)))
+        streamed = stream .1 (1 + 2 * j + 1) p (layersOf z (here h .now)) (layered h)
 
-      pub rounds-stop : OptionsIn o → (s : State) → r ≡ round.Stop s → EndedAs z 511 (Next s) ws′ xs′ p (roundsOf z o (o .rounds) w)
-      rounds-stop k s e =
-          let a = step .stop s e in
-          ended-at (omega (arith, k .rounds)) (subst (RunAt z (1 + 2 * j + 2) s ws′ xs′ p) (sym (rest-last (a .1))) (a .0))
+        rest-on : roundsOf z o (o .rounds) w ≡ roundsOf z o (o .rounds - (j + 1)) (streamOf z o (layersOf z (here h .now)))
+        rest-on = rest h false (ne-eqb (s .merges) (st .merges) n) ∙ if-false _ _ refl
 
-      rounds-now : (s : State) → r ≡ round.Again s → RoundsNow z o ws′ xs′ s (j + 1) p w
-      rounds-now s e =
-          let a = step .again s e in
-          record { now = streamOf z o (layersOf z (here .now)); same = rest-on (a .1); at = later (omega arith) (a .0) }
+        pub rounds-limit : r ≡ ExpansionLimit → EndedAs z 511 ExpansionLimit ws₂ xs₂ p (roundsOf z o (o .rounds) w)
+        rounds-limit e =
+            ended-limit (subst (λ (v : Work). z .limit < v .store .peak) (sym rest-on)
+            (lt-of-lt-of-le (streamed .refused e) (litinskiFrom-rises (z .l) (rulesOf o) (o .rounds - (j + 1)) _)))
 
-    pub rounds-next : (s : State) → r ≡ round.Again s → RoundsDone z o st₀ ws₀ xs₀ ws′ xs′ s (j + 1)
-    rounds-next s e = record { index = omega arith; long = rounds-long; at = λ p w h. rounds-now h s e }
+        rounds-now : (q : State) → r ≡ Next q → RoundsNow z o ws₂ xs₂ q (j + 1) p w
+        rounds-now q e = record { now = next; same = rest-on; at = later (omega arith) (streamed .done q e) }
+
+      pub rounds-next : (q : State) → r ≡ Next q → RoundsDone z o st₀ ws₀ xs₀ ws₂ xs₂ q (j + 1)
+      rounds-next q e = record {
+        index = omega arith;
+        long = long-then (long-then (b .long) (layers .0)) (stream .0);
+        at = λ p w h. rounds-now h q e;
+      }
 
 pub rounds-end : {z : Shape} {o : Options} {st₀ : State} {ws₀ xs₀ ws xs : List ℕ} {st : State} {j : ℕ}
     → RoundsDone z o st₀ ws₀ xs₀ ws xs st j → o .rounds ≤ j → OptionsIn o

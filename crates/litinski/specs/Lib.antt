@@ -1,2 +1,1 @@
-pub mod LayerRound
 pub mod LayerRounds

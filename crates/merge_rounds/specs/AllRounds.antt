@@ -16,13 +16,15 @@ use Rattle.model.specs.Items.{Item, tCount}
 use Rattle.model.specs.Rounds.{Work, RoundBefore, noRound, tCountWas, notLower, goesOn, roundsFrom}
 use Rattle.theory.specs.Peak.{roundsFrom-rises}
 use Rattle.layout.specs.declared.Shape.{Shape}
+use Rattle.layout.specs.Rows.{itemsRow}
+use Rattle.items.specs.View.{itemsIn}
+use Rattle.item_lists.specs.Count.{RunPre}
 use Rattle.steps.specs.declared.State.{State}
+use Rattle.steps.specs.declared.Step.{Step}
 use Rattle.steps.specs.declared.Step.the-variants.{Next, ExpansionLimit}
 use Rattle.points.specs.Demands.{items-count}
 use Rattle.points.specs.Points.{RunAt, SomeRun, OptionsIn, SameLong, long-same, long-then, EndedAs, later, ended-at, ended-limit}
-use Rattle.merge_rounds.specs.declared.Round.{Round}
-use Rattle.merge_rounds.specs.declared.Round.the-variants as round
-use Rattle.merge_rounds.specs.OneRound.{roundOf, isLast, RoundAs, RoundCall}
+use Rattle.merge_rounds.specs.OneRound.{roundOf, RoundCall, count-pre, items-are}
 
 -- the work after k more rounds
 abbrev pub roundsOf : Shape → Options → ℕ → Bool → RoundBefore → Work → Work
@@ -96,10 +98,7 @@ module _ {z : Shape} {o : Options} {st₀ : State} {ws₀ xs₀ ws xs : List ℕ
       let n = b .at (f .p) (f .w) (f .at) in
       record { p = f .p; w = n .now; at = later (omega (arith, k .rounds)) (n .at) }
 
-  module _ {r : Round} {ws′ xs′ : List ℕ} (call : RoundCall z o st t ws xs r ws′ xs′) where
-    pub rounds-long : SameLong ws₀ xs₀ ws′ xs′
-    rounds-long = long-then (b .long) (call .0)
-
+  module _ {r : Step} {ws′ xs′ : List ℕ} (call : RoundCall z o st ws xs r ws′ xs′) where
     module _ {p : Program} {w : Work} (h : RunAt z 0 st₀ ws₀ xs₀ p w) where
       here : RoundsNow z o ws xs st t j p w
       here = b .at p w h
@@ -107,10 +106,10 @@ module _ {z : Shape} {o : Options} {st₀ : State} {ws₀ xs₀ ws xs : List ℕ
       abbrev next : Work
       next = roundOf z o (here .now)
 
-      abbrev left : RoundBefore
-      left = tCountWas (tCount (roundOf z o (here .now) .items))
+      abbrev was : RoundBefore
+      was = tCountWas (tCount (roundOf z o (here .now) .items))
 
-      step : RoundAs z (2 * j + 2) t r ws′ xs′ p (here .now) (roundOf z o (here .now))
+      step : EndedAs z (2 * j + 2) r ws′ xs′ p (roundOf z o (here .now))
       step = call .1 (2 * j) p (here .now) (here .at)
 
       rest : allRounds z o w
@@ -122,41 +121,56 @@ module _ {z : Shape} {o : Options} {st₀ : State} {ws₀ xs₀ ws xs : List ℕ
           (let e : o .rounds - j ≡ (o .rounds - (j + 1)) + 1 = omega arith in e)
           ∙ one-more z o (o .rounds - (j + 1)) (here .before) (here .now)
 
-      goes : {s : State} → RunAt z (2 * j + 2) s ws′ xs′ p (roundOf z o (here .now))
-          → goesOn (here .before) (here .now) (roundOf z o (here .now)) ≡ not (isLast t (here .now) (roundOf z o (here .now)))
-      unfolding goesOn isLast
-      goes a =
-          ap (λ (x : Bool). not (eqb (next .swaps) (here .now .swaps) && x))
-          (here .compares (tCount (next .items))
-          (omega (arith, count-few (next .items), items-count (a .granted) (a .work) (a .well), a .work .fits)))
-
-      pub rounds-limit : r ≡ round.ExpansionLimit → EndedAs z 510 ExpansionLimit ws′ xs′ p (allRounds z o w)
+      pub rounds-limit : r ≡ ExpansionLimit → EndedAs z 510 ExpansionLimit ws′ xs′ p (allRounds z o w)
       rounds-limit e =
           ended-limit (subst (λ (v : Work). z .limit < v .store .peak) (sym rest)
           (lt-of-lt-of-le (step .refused e) (roundsFrom-rises (z .l) (rulesOf o) (o .rounds - (j + 1)) _ _ next)))
 
-      pub rounds-stop : OptionsIn o → (s : State) → r ≡ round.Stop s → EndedAs z 510 (Next s) ws′ xs′ p (allRounds z o w)
-      rounds-stop k s e =
-          let a = step .stop s e in
-          let last : allRounds z o w ≡ next =
-          rest
-          ∙ ap (λ (x : Bool). roundsOf z o (o .rounds - (j + 1)) x left next) (goes (a .0) ∙ ap not (a .1))
-          ∙ stopped (z .l) (rulesOf o) (o .rounds - (j + 1)) left next in
-          ended-at (omega (arith, k .rounds)) (subst (RunAt z (2 * j + 2) s ws′ xs′ p) (sym last) (a .0))
+      pub rounds-count : (s : State) → r ≡ Next s → RunPre xs′ (z .u) itemsRow 0 (s .out)
+      rounds-count s e = count-pre (step .done s e)
 
-      rounds-now : (s : State) (m : ℕ) → r ≡ round.Again s m → RoundsNow z o ws′ xs′ s m (j + 1) p w
-      rounds-now s m e =
-          let a = step .again s m e in
-          record {
-            now = next;
-            before = left;
-            same = rest ∙ ap (λ (x : Bool). roundsOf z o (o .rounds - (j + 1)) x left next) (goes (a .0) ∙ ap not (a .2));
-            at = later (omega arith) (a .0);
-            compares = λ n f. ap (λ (x : ℕ). leb x n) (sym (a .1));
-          }
+      module _ (s : State) (e : r ≡ Next s) (left : ℕ) (count : left ≡ tCount (itemsIn xs′ (z .u) itemsRow 0 (s .out - 0))) where
+        at-next : RunAt z (2 * j + 2) s ws′ xs′ p (roundOf z o (here .now))
+        at-next = step .done s e
 
-    pub rounds-next : (s : State) (m : ℕ) → r ≡ round.Again s m → RoundsDone z o st₀ ws₀ xs₀ ws′ xs′ s m (j + 1)
-    rounds-next s m e = record { index = omega arith; long = rounds-long; at = λ p w h. rounds-now h s m e }
+        left-is : left ≡ tCount (roundOf z o (here .now) .items)
+        left-is = count ∙ ap tCount (items-are at-next)
+
+        -- "a round has no exchange and no lower T-count than the round before": the code's test, by states and the count, is the model's
+        goes : goesOn (here .before) (here .now) (roundOf z o (here .now)) ≡ not (eqb (s .swaps) (st .swaps) && leb t left)
+        unfolding goesOn
+        goes =
+            ap (λ (x : Bool). not (eqb (next .swaps) (here .now .swaps) && x))
+            (here .compares (tCount (next .items))
+            (omega (arith, count-few (next .items), items-count (at-next .granted) (at-next .work) (at-next .well), at-next .work .fits)))
+            ∙ (cc (at-next .swaps, here .at .swaps, left-is))
+
+        rest-by : (x : Bool) → eqb (s .swaps) (st .swaps) && leb t left ≡ x
+            → allRounds z o w ≡ roundsOf z o (o .rounds - (j + 1)) (not x) was next
+        rest-by x f = rest ∙ ap (λ (y : Bool). roundsOf z o (o .rounds - (j + 1)) y was next) (goes ∙ ap not f)
+
+        pub rounds-stop : OptionsIn o → eqb (s .swaps) (st .swaps) && leb t left ≡ true
+            → EndedAs z 510 (Next s) ws′ xs′ p (allRounds z o w)
+        rounds-stop k f =
+            let last : allRounds z o w ≡ next = rest-by true f ∙ stopped (z .l) (rulesOf o) (o .rounds - (j + 1)) was next in
+            ended-at (omega (arith, k .rounds)) (subst (RunAt z (2 * j + 2) s ws′ xs′ p) (sym last) at-next)
+
+        rounds-now : eqb (s .swaps) (st .swaps) && leb t left ≡ false → RoundsNow z o ws′ xs′ s left (j + 1) p w
+        rounds-now f = record {
+          now = next;
+          before = was;
+          same = rest-by false f;
+          at = later (omega arith) at-next;
+          compares = λ n g. ap (λ (x : ℕ). leb x n) (sym left-is);
+        }
+
+    pub rounds-next : (s : State) → r ≡ Next s → (left : ℕ) → left ≡ tCount (itemsIn xs′ (z .u) itemsRow 0 (s .out - 0))
+        → eqb (s .swaps) (st .swaps) && leb t left ≡ false → RoundsDone z o st₀ ws₀ xs₀ ws′ xs′ s left (j + 1)
+    rounds-next s e left count f = record {
+      index = omega arith;
+      long = long-then (b .long) (call .0);
+      at = λ p w h. rounds-now h s e left count f;
+    }
 
 pub rounds-end : {z : Shape} {o : Options} {st₀ : State} {ws₀ xs₀ ws xs : List ℕ} {st : State} {t j : ℕ}
     → RoundsDone z o st₀ ws₀ xs₀ ws xs st t j → o .rounds ≤ j → OptionsIn o

@@ -5,19 +5,11 @@ ghost use Rattle.model.specs.Rules.{rulesOf};
 ghost use Rattle.model.specs.Rounds.{Work, mergeRound, roundsFrom, noRound, closingStream, mergeRounds};
 ghost use mathlib.Core.Bool.{true};
 ghost use Rattle.points.specs.Points.{SomeRun, OptionsIn, SameLong, RunAt, EndedAs};
-ghost use Rattle.merge_rounds.specs.OneRound.{RoundAs};
 use layout::ITEMS;
 use layout::Shape;
 use model::Options;
 use steps::State;
 use steps::Step;
-
-// How a round ends: with the T-count that it left; as the last; refused by the limit.
-pub enum Round {
-    Again(State, usize),
-    Stop(State),
-    ExpansionLimit,
-}
 
 // A stream, and exchanges behind it.
 fn merge_round(
@@ -39,32 +31,7 @@ fn merge_round(
     Step::Next(points::exchange_pass(&words[..], numbers, shape, options, s))
 }
 
-// A round, the one before having left T-count t: the last if it has no exchange and no lower T-count.
-fn one_round(
-    words: &mut [u64],
-    numbers: &mut [u32],
-    shape: Shape,
-    options: Options,
-    run: State,
-    t: usize,
-) -> Round
-    requires { ⌜ SomeRun shape 510 run (now words) (now numbers) × OptionsIn options ⌝ }
-    ensures { λ r. ⌜ SameLong (now (words .entry)) (now (numbers .entry)) (now (words .exit)) (now (numbers .exit))
-        × ((i : ℕ) (p : Program) (w : Work) → RunAt shape i run (now (words .entry)) (now (numbers .entry)) p w
-        → RoundAs shape (i + 2) t r (now (words .exit)) (now (numbers .exit)) p w (mergeRound (shape .l) (rulesOf options) w)) ⌝ }
-{
-    let e = merge_round(words, numbers, shape, options, run);
-    let Step::Next(s) = e else {
-        return Round::ExpansionLimit;
-    };
-    let left = item_lists::t_count(&numbers[..], shape.u, ITEMS, 0, s.out);
-    if (s.swaps == run.swaps) & (t <= left) {
-        return Round::Stop(s);
-    }
-    Round::Again(s, left)
-}
-
-// Rounds until one is the last.
+// Rounds until one has no exchange and no lower T-count than the one before, which left t.
 fn rounds_from(
     words: &mut [u64],
     numbers: &mut [u32],
@@ -82,15 +49,16 @@ fn rounds_from(
     // above every T-count, so that the first round is not the last
     let mut t = shape.operations + 1;
     for j in 0..options.rounds {
-        let r = one_round(words, numbers, shape, options, run, t);
-        match r {
-            Round::Again(s, left) => {
-                run = s;
-                t = left;
-            }
-            Round::Stop(s) => return Step::Next(s),
-            Round::ExpansionLimit => return Step::ExpansionLimit,
+        let e = merge_round(words, numbers, shape, options, run);
+        let Step::Next(s) = e else {
+            return Step::ExpansionLimit;
+        };
+        let left = item_lists::t_count(&numbers[..], shape.u, ITEMS, 0, s.out);
+        if (s.swaps == run.swaps) & (t <= left) {
+            return Step::Next(s);
         }
+        run = s;
+        t = left;
     }
     Step::Next(run)
 }

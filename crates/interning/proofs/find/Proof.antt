@@ -1,41 +1,55 @@
--- Where w has a number that is not 0 it is looked for by it. Assumes nothing.
-use Rattle.axes.specs.Held.{held-axis}
-use borrow.Author.Tests.{ltb-true}
+-- The loop's invariant: none of the first id axes is w. Assumes nothing.
+use mathlib.Core.Path.{_∙_}
+use Prim.Native.Nat.{_≤_, _-_}
+use Rattle.model.specs.Words.{idOf}
+use Rattle.axes.specs.Held.{storedAxes}
+use Rattle.interning.specs.Find.{id-none}
 use native.Mathlib.Omega.{arith}
 use borrow.Author.Needs.{needs}
 use Rattle.interning.proofs.find.Statement.{statement}
 use Rattle.interning.proofs.find.Tie as tie
 
-first-nonzero-requires : tie.Need-first-nonzero-requires
-first-nonzero-requires c κs = search needs
+abbrev Inv-loop : tie.InvT-loop
+Inv-loop words numbers z w k count id₀ id = (id ≤ z .axes) × (id ≤ idOf (storedAxes z words) w)
 
-mul-if3 : tie.Need-mul-if3
-mul-if3 c = omega (arith, held-axis (c .before .before .before .before .before .before .before .before .pre) 0 (omega arith))
+abbrev μ-loop : tie.MeasureT-loop
+μ-loop words numbers z w k count id₀ id = z .axes - id
 
-find-by-requires : tie.Need-find-by-requires
-find-by-requires c κs =
-    let test = c .before .before in
-    let test′ = test .before in
-    let start = test′ .before .before .before .before .before .before in
-    record {
-      stored = start .pre;
-      low = test′ .if1 .taken;
-      before = omega arith;
-      here = ltb-true _ _ (c .if3 .taken);
-      long = ltb-true _ _
-          (test .if2 .taken);
-    }
+key-requires : tie.Need-key-requires Inv-loop μ-loop
+key-requires c κs = search needs
 
-returns : tie.Need-returns
-returns c = search needs
+loop-holds : tie.Need-loop-holds Inv-loop μ-loop
+loop-holds c = omega arith
 
-find-any-requires : tie.Need-find-any-requires
-find-any-requires c κs = search needs
+pass-requires : tie.Need-pass-requires Inv-loop μ-loop
+pass-requires c κs =
+    let head = c .before in
+    let key′ = head .before in
+    let start = key′ .before .before .before .before in
+    record { stored = start .pre; low = omega arith; before = head .loop .inv .1; key = key′ .key .ensures }
 
-returns-2 : tie.Need-returns-2
-returns-2 c = search needs
+returns : tie.Need-returns Inv-loop μ-loop
+returns c = c .if1 .taken ∙ c .before .pass .ensures .stops (c .if1 .taken)
+
+loop-less : tie.Need-loop-less Inv-loop μ-loop
+loop-less c = omega (arith, c .before .pass .ensures .low, c .before .pass .ensures .high)
+
+loop-again : tie.Need-loop-again Inv-loop μ-loop
+loop-again c = (c .before .pass .ensures .high, c .before .pass .ensures .before)
+
+returns-2 : tie.Need-returns-2 Inv-loop μ-loop
+returns-2 c = id-none _ _ _ _ (omega arith)
 
 pub find-spec : {M : Type 1} → statement M
 find-spec =
     tie.close
-    (tie.spec first-nonzero-requires mul-if3 find-by-requires returns find-any-requires returns-2)
+    (tie.spec
+    Inv-loop
+    μ-loop
+    key-requires
+    loop-holds
+    pass-requires
+    returns
+    loop-less
+    loop-again
+    returns-2)

@@ -1,6 +1,6 @@
 -- Three cases: the word is stored, the limit refuses it, or it is laid behind the axes. Assumes nothing.
 use mathlib.Core.Logic.{inr}
-use Rattle.interning.specs.Intern.{stores-old, stores-limit, stores-new}
+use Rattle.interning.specs.Intern.{answered-old, answered-limit, answered-new, stores-old, stores-limit, stores-beside, beside-there}
 use native.Mathlib.Omega.{arith}
 use borrow.Author.Needs.{needs}
 use Rattle.interning.proofs.intern.Statement.{statement}
@@ -19,7 +19,10 @@ same-length-2 : tie.Need-same-length-2
 same-length-2 c = search needs
 
 returns : tie.Need-returns
-returns c = stores-old _ _ _ _ _ _ (c .before .before .find .ensures) (c .before .before .before .word-at .ensures) (c .if1 .taken)
+returns c =
+    let find = c .before .before in
+    let word-at = find .before in
+    stores-old (answered-old _ _ _ _ _ (find .find .ensures) (word-at .word-at .ensures) (c .if1 .taken)) (c .if1 .taken)
 
 mul-n : tie.Need-mul-n
 mul-n c = search needs
@@ -45,7 +48,18 @@ returns-2 c =
     let test = axis-at .before .before in
     let find = test .before .before in
     let word-at = find .before in
-    stores-limit _ _ _ _ _ _ (find .find .ensures) (word-at .word-at .ensures) (axis-at .axis-at .ensures) (test .if1 .left) (c .if2 .taken)
+    stores-limit (answered-limit _ _ _ _ _ (find .find .ensures) (word-at .word-at .ensures) (axis-at .axis-at .ensures) (test .if1 .left)
+    (c .if2 .taken))
+
+word-at-requires-2 : tie.Need-word-at-requires-2
+word-at-requires-2 c κs = search needs
+
+put-beside-requires : tie.Need-put-beside-requires
+put-beside-requires c κs =
+    let test = c .before .before .before in
+    let axis-at = test .before .before in
+    let start = axis-at .before .before .before .before .before .before .before .before .before .before in
+    beside-there (start .pre) (axis-at .axis-at .ensures) (test .if2 .left) (c .word-at2 .ensures)
 
 copy-within-requires : tie.Need-copy-within-requires
 copy-within-requires c κs = record { source = omega arith; target = omega arith; apart = inr (omega arith) }
@@ -59,13 +73,15 @@ same-length-6 c = search needs
 returns-3 : tie.Need-returns-3
 returns-3 c =
     let copy-within = c .before .before in
-    let test = copy-within .before .before in
+    let put-beside = copy-within .before .before .before .before in
+    let word-at2 = put-beside .before in
+    let test = word-at2 .before .before .before in
     let axis-at = test .before .before in
     let test′ = axis-at .before .before in
     let find = test′ .before .before in
     let word-at = find .before in
-    stores-new _ _ _ _ _ _ (find .find .ensures) (word-at .word-at .ensures) (axis-at .axis-at .ensures) (test′ .if1 .left) _
-    (test .if2 .left) (copy-within .copy-within .ensures)
+    stores-beside (answered-new _ _ _ _ _ (find .find .ensures) (word-at .word-at .ensures) (axis-at .axis-at .ensures) (test′ .if1 .left) _
+    (test .if2 .left) (copy-within .copy-within .ensures)) (word-at2 .word-at2 .ensures) (put-beside .put-beside .ensures)
 
 pub intern-spec : {M : Type 1} → statement M
 intern-spec =
@@ -83,6 +99,8 @@ intern-spec =
     same-length-3
     same-length-4
     returns-2
+    word-at-requires-2
+    put-beside-requires
     copy-within-requires
     same-length-5
     same-length-6

@@ -20,7 +20,7 @@ shared-slice-read-result-2 : tie.Need-shared-slice-read-result-2
 shared-slice-read-result-2 c = search needs
 
 returns : tie.Need-returns
-returns c = none-of-two _ _ _ _
+returns c = none-of-two _ _ _
 
 pub none-of-two-spec : {M : Type 1} → statement M
 none-of-two-spec =

@@ -1,6 +1,7 @@
 -- Round by round, the rounds that are left come to the same. Assumes nothing.
 use Prim.Native.Nat.{_-_}
-use Rattle.merge_rounds.specs.AllRounds.{RoundsDone, rounds-first, rounds-some, rounds-long, rounds-stop, rounds-limit}
+use Rattle.points.specs.Points.{long-then}
+use Rattle.merge_rounds.specs.AllRounds.{RoundsDone, rounds-first, rounds-some, rounds-limit, rounds-count, rounds-stop}
 use Rattle.merge_rounds.specs.AllRounds.{rounds-next, rounds-end}
 use native.Mathlib.Omega.{arith}
 use borrow.Author.Needs.{needs}
@@ -19,88 +20,98 @@ add-t c = omega (arith, c .before .before .before .pre .0 .at .granted .sized .o
 loop-holds : tie.Need-loop-holds Inv-loop μ-loop
 loop-holds c = rounds-first _ _ _ _ _
 
-one-round-requires : tie.Need-one-round-requires Inv-loop μ-loop
-one-round-requires c κs =
+merge-round-requires : tie.Need-merge-round-requires Inv-loop μ-loop
+merge-round-requires c κs =
     let turn = c .before .before in
     let head = turn .before in
     let start = head .before .before .before .before in
     (rounds-some (head .loop .inv) (turn .loop-test .taken) (start .pre .0) (start .pre .1), start .pre .1)
 
-enum-known-r : tie.Need-enum-known-r Inv-loop μ-loop
-enum-known-r c = search needs
-
-enum-known-r-2 : tie.Need-enum-known-r-2 Inv-loop μ-loop
-enum-known-r-2 c = search needs
-
-same-length : tie.Need-same-length Inv-loop μ-loop
-same-length c =
-    let one-round = c .before .before .before .before .before .before .before in
-    let turn = one-round .before .before .before in
-    let head = turn .before in
-    rounds-long (head .loop .inv) (turn .loop-test .taken) (one-round .one-round .ensures) .words
-
-same-length-2 : tie.Need-same-length-2 Inv-loop μ-loop
-same-length-2 c =
-    let one-round = c .before .before .before .before .before .before .before in
-    let turn = one-round .before .before .before in
-    let head = turn .before in
-    rounds-long (head .loop .inv) (turn .loop-test .taken) (one-round .one-round .ensures) .numbers
-
-returns : tie.Need-returns Inv-loop μ-loop
-returns c =
-    let r2 = c .before in
-    let one-round = r2 .before .before .before .before .before .before in
-    let turn = one-round .before .before .before in
-    let head = turn .before in
-    let start = head .before .before .before .before in (
-      rounds-long (head .loop .inv) (turn .loop-test .taken) (one-round .one-round .ensures),
-      λ p w h. rounds-stop (head .loop .inv)
-          (turn .loop-test .taken) (one-round .one-round .ensures) h (start .pre .1) _ (r2 .r2 .given .1),
-    )
+enum-known-e : tie.Need-enum-known-e Inv-loop μ-loop
+enum-known-e c = search needs
 
 enum-told : tie.Need-enum-told Inv-loop μ-loop
 enum-told c = search needs
 
+same-length : tie.Need-same-length Inv-loop μ-loop
+same-length c =
+    let merge-round = c .before .before .before .before .before .before in
+    let head = merge-round .before .before .before .before in
+    long-then (head .loop .inv .long) (merge-round .merge-round .ensures .0) .words
+
+same-length-2 : tie.Need-same-length-2 Inv-loop μ-loop
+same-length-2 c =
+    let merge-round = c .before .before .before .before .before .before in
+    let head = merge-round .before .before .before .before in
+    long-then (head .loop .inv .long) (merge-round .merge-round .ensures .0) .numbers
+
+returns : tie.Need-returns Inv-loop μ-loop
+returns c =
+    let merge-round = c .before .before .before .before .before .before in
+    let turn = merge-round .before .before .before in
+    let head = turn .before in (
+      long-then (head .loop .inv .long) (merge-round .merge-round .ensures .0),
+      λ p w h. rounds-limit (head .loop .inv)
+          (turn .loop-test .taken) (merge-round .merge-round .ensures) h (c .enum-told .given .1),
+    )
+
+t-count-requires : tie.Need-t-count-requires Inv-loop μ-loop
+t-count-requires c κs =
+    let e = c .before .before in
+    let merge-round = e .before .before .before .before .before .before in
+    let turn = merge-round .before .before .before in
+    let head = turn .before in
+    let start = head .before .before .before .before in
+    rounds-count (head .loop .inv) (turn .loop-test .taken) (merge-round .merge-round .ensures) (start .pre .0 .at) _ (e .e .given .1)
+
 same-length-3 : tie.Need-same-length-3 Inv-loop μ-loop
 same-length-3 c =
-    let one-round = c .before .before .before .before .before .before in
-    let turn = one-round .before .before .before in
-    let head = turn .before in
-    rounds-long (head .loop .inv) (turn .loop-test .taken) (one-round .one-round .ensures) .words
+    let merge-round = c .before .before .before .before .before .before .before .before .before .before .before .before in
+    let head = merge-round .before .before .before .before in
+    long-then (head .loop .inv .long) (merge-round .merge-round .ensures .0) .words
 
 same-length-4 : tie.Need-same-length-4 Inv-loop μ-loop
 same-length-4 c =
-    let one-round = c .before .before .before .before .before .before in
-    let turn = one-round .before .before .before in
-    let head = turn .before in
-    rounds-long (head .loop .inv) (turn .loop-test .taken) (one-round .one-round .ensures) .numbers
+    let merge-round = c .before .before .before .before .before .before .before .before .before .before .before .before in
+    let head = merge-round .before .before .before .before in
+    long-then (head .loop .inv .long) (merge-round .merge-round .ensures .0) .numbers
 
 returns-2 : tie.Need-returns-2 Inv-loop μ-loop
 returns-2 c =
-    let one-round = c .before .before .before .before .before .before in
-    let turn = one-round .before .before .before in
-    let head = turn .before in (
-      rounds-long (head .loop .inv) (turn .loop-test .taken) (one-round .one-round .ensures),
-      λ p w h. rounds-limit (head .loop .inv)
-          (turn .loop-test .taken) (one-round .one-round .ensures) h (c .enum-told .given .1),
+    let t-count = c .before .before .before in
+    let e = t-count .before .before .before in
+    let merge-round = e .before .before .before .before .before .before in
+    let turn = merge-round .before .before .before in
+    let head = turn .before in
+    let start = head .before .before .before .before in (
+      long-then (head .loop .inv .long) (merge-round .merge-round .ensures .0),
+      λ p w h. rounds-stop (head .loop .inv)
+          (turn .loop-test .taken) (merge-round .merge-round .ensures) h _ (e .e .given .1)
+          _ (t-count .t-count .ensures) (start .pre .1) (c .if1 .taken),
     )
 
 add-j : tie.Need-add-j Inv-loop μ-loop
 add-j c =
-    let turn = c .before .before .before .before .before .before .before .before .before .before in
+    let merge-round = c .before .before .before .before .before .before .before .before .before .before .before .before in
+    let turn = merge-round .before .before .before in
     let start = turn .before .before .before .before .before in
     omega (arith, start .pre .1 .rounds, turn .loop-test .taken)
 
 loop-less : tie.Need-loop-less Inv-loop μ-loop
-loop-less c = omega (arith, c .before .before .before .before .before .before .before .before .before .before .loop-test .taken)
+loop-less c =
+    let merge-round = c .before .before .before .before .before .before .before .before .before .before .before .before in
+    let turn = merge-round .before .before .before in
+    omega (arith, turn .loop-test .taken)
 
 loop-again : tie.Need-loop-again Inv-loop μ-loop
 loop-again c =
-    let r = c .before in
-    let one-round = r .before .before .before .before .before .before in
-    let turn = one-round .before .before .before in
+    let t-count = c .before .before .before in
+    let e = t-count .before .before .before in
+    let merge-round = e .before .before .before .before .before .before in
+    let turn = merge-round .before .before .before in
     let head = turn .before in
-    rounds-next (head .loop .inv) (turn .loop-test .taken) (one-round .one-round .ensures) _ _ (r .r .given .1)
+    rounds-next (head .loop .inv) (turn .loop-test .taken) (merge-round .merge-round .ensures) _ (e .e .given .1) _
+    (t-count .t-count .ensures) (c .if1 .left)
 
 same-length-5 : tie.Need-same-length-5 Inv-loop μ-loop
 same-length-5 c = c .before .loop .inv .long .words
@@ -122,13 +133,13 @@ rounds-from-spec =
     μ-loop
     add-t
     loop-holds
-    one-round-requires
-    enum-known-r
-    enum-known-r-2
+    merge-round-requires
+    enum-known-e
+    enum-told
     same-length
     same-length-2
     returns
-    enum-told
+    t-count-requires
     same-length-3
     same-length-4
     returns-2
