@@ -1,20 +1,22 @@
 -- Absorbing: the axis's qubits are touched, then every image changes, as the model's `absorbWord` has it. Assumes nothing.
-use mathlib.Core.Path.{_≡_, refl, sym, ap, _∙_}
+use mathlib.Core.Path.{_≡_, subst₂, refl, sym, ap, _∙_}
 use mathlib.Core.List.{List, map}
-use Prim.Native.Nat.{ℕ, _*_, _%_, _≤_, _<_, _-_}
+use Prim.Native.Nat.{ℕ, _+_, _*_, _%_, _≤_, _<_, _-_}
 use native.Mathlib.Omega.{arith}
-use lib.ListN.{getD, length-map}
+use lib.ListN.{length, getD, length-map}
 use Rattle.bits.specs.Bit.{bit}
+use Rattle.store.specs.Wide.{wideAt}
+use Rattle.pauli.specs.SupportLaws.{SupportWithin}
 use Rattle.model.specs.Words.{wordOf, support}
 use Rattle.model.specs.Clifford.{Touched, absorbImage, touchAll, absorbImages, absorbWord}
 use Rattle.model.specs.Lists.{allOf, anyOf, member}
 use Rattle.layout.specs.declared.Shape.{Shape}
-use Rattle.layout.specs.Rows.{fSlot}
+use Rattle.layout.specs.Rows.{rowCount, fSlot, signatureRow}
 use Rattle.layout.specs.Only.{only-of}
 use Rattle.layout.specs.Words.{axisPlace, slots-le, kept-later, words-kept}
 use Rattle.layout.specs.Shape.{Granted}
 use Rattle.axes.specs.View.{wordAt, axis-word}
-use Rattle.axes.specs.Held.{held-rows, held-words}
+use Rattle.axes.specs.Held.{held-entry, held-rows, held-words}
 use Rattle.words_wellformed.specs.HeldImages.{IsQuarters}
 use Rattle.steps.specs.declared.State.{State}
 use Rattle.steps.specs.declared.Step.{Step}
@@ -56,6 +58,7 @@ module _ {z : Shape} {n m b k : ℕ} {ws xs ws′ xs′ : List ℕ} {t : Touched
     images = λ i c.
         turned .done i c ∙ ap (absorbImage (z .l) (wordAt (z .l) ws b) k) (h .images i c)
         ∙ sym (image-absorbed (z .l) (wordAt (z .l) ws b) k (t .held) i (omega (arith, h .count)));
+    supports = turned .supported;
     mask = λ q c e.
         ap (λ (x : ℕ). bit x (q % 64)) (turned .words .above _ (omega arith))
         ∙ h .mask q c (λ f. e (slot-absorbed 1 q (z .l) (wordAt (z .l) ws b) k (t .held) ∙ f));
@@ -76,7 +79,7 @@ module _ {z : Shape} {st : State} {id k : ℕ} {ws xs ws₁ xs₁ : List ℕ} {r
   unfolding absorbWord
   absorb-limit e t h = as-limit (touched .1 t (h .axis) .refused e)
 
-  module _ {s : State} {a : ℕ} (e : r ≡ Next s) (place : a ≡ axisPlace (z .l) id) where
+  module _ {s : State} (e : r ≡ Next s) where
     module _ {t : Touched} (h : AbsorbAt z (st .axes) (st .slots) id k ws xs t) where
       now-granted : Granted z ws₁ xs₁
       now-granted = granted-left (h .axis .at .granted) (touched .0)
@@ -91,34 +94,48 @@ module _ {z : Shape} {st : State} {id k : ℕ} {ws xs ws₁ xs₁ : List ℕ} {r
       images-entry : 3 * s .slots < z .u
       images-entry = now-granted .sized .words-row (3 * s .slots) (omega (arith, now-holds .room))
 
-      pub turns-there : TurnsPre z (3 * s .slots) a k ws₁ xs₁
-      turns-there = record {
-        slots = omega (arith, now-holds .room);
-        words-long = omega (arith, now-granted .words-long);
-        numbers-long = now-granted .numbers-long;
-        entry = omega (arith, images-entry);
-        small = now-granted .sized .u-small;
-        word = omega (arith, place, now-holds .room, slots-le (z .l) id (s .axes) id-in);
-        quarters = h .quarters;
-      }
-
-      same-axis : wordAt (z .l) ws₁ a ≡ wordOf (t .store .axes) id
-      same-axis =
-          ap (wordAt (z .l) ws₁) place ∙ sym (axis-word (z .l) (s .axes) ws₁ id id-in)
-          ∙ ap (λ (axes : List (List ℕ)). wordOf axes id) (now-holds .axes .are
-          ∙ touchAll-axes (z .l) t (support (z .l) (wordOf (t .store .axes) id)))
-
-      pub absorb-holds : {ws₂ xs₂ : List ℕ} → ImagesTurned z (3 * s .slots) a k ws₁ xs₁ ws₂ xs₂
-          → TouchedAs z st (Next s) ws₂ xs₂ (absorbWord (z .l) t (wordOf (t .store .axes) id) k)
-      unfolding absorbWord
-      absorb-holds turned = as-next (touched .1 t (h .axis) .kept s e) (rw same-axis at (turned-holds now-holds turned))
-
-    pub absorb-turns : SomeTouched (λ (t : Touched). AbsorbAt z (st .axes) (st .slots) id k ws xs t) → TurnsPre z (3 * s .slots) a k ws₁ xs₁
-    absorb-turns s = turns-there (s .it)
+    pub absorb-reads : SomeTouched (λ (t : Touched). AbsorbAt z (st .axes) (st .slots) id k ws xs t)
+        → (rowCount * z .u ≤ length xs₁) × (signatureRow + 1 < rowCount) × (id < z .u)
+    absorb-reads s = (now-granted (s .it) .numbers-long, omega arith, held-entry (now-holds (s .it) .axes) id (id-in (s .it)))
 
     pub absorb-small : SomeTouched (λ (t : Touched). AbsorbAt z (st .axes) (st .slots) id k ws xs t) → 3 * s .slots < 1187839
     absorb-small s = omega (arith, images-entry (s .it), now-granted (s .it) .sized .u-small)
 
-    pub absorb-left : SomeTouched (λ (t : Touched). AbsorbAt z (st .axes) (st .slots) id k ws xs t) → {ws₂ xs₂ : List ℕ}
+    pub absorb-left : SomeTouched (λ (t : Touched). AbsorbAt z (st .axes) (st .slots) id k ws xs t) → {a : ℕ} {ws₂ xs₂ : List ℕ}
         → ImagesTurned z (3 * s .slots) a k ws₁ xs₁ ws₂ xs₂ → LeftF z ws xs ws₂ xs₂
     absorb-left s turned = left-then (touched .0) (turned-left (now-holds (s .it)) turned)
+
+    module _ {a : ℕ} (place : a ≡ axisPlace (z .l) id) where
+      module _ {t : Touched} (h : AbsorbAt z (st .axes) (st .slots) id k ws xs t) where
+        -- the axis is where it was
+        now-axis : wordAt (z .l) ws₁ a ≡ wordOf (touchAll (z .l) t (support (z .l) (wordOf (t .store .axes) id)) .store .axes) id
+        now-axis =
+            ap (wordAt (z .l) ws₁) place ∙ sym (axis-word (z .l) (s .axes) ws₁ id (id-in h))
+            ∙ ap (λ (axes : List (List ℕ)). wordOf axes id) (now-holds h .axes .are)
+
+        same-axis : wordAt (z .l) ws₁ a ≡ wordOf (t .store .axes) id
+        same-axis =
+            now-axis
+            ∙ ap (λ (axes : List (List ℕ)). wordOf axes id) (touchAll-axes (z .l) t (support (z .l) (wordOf (t .store .axes) id)))
+
+        pub turns-there : {v : ℕ} → v ≡ wideAt xs₁ (z .u) signatureRow id → TurnsPre z (3 * s .slots) a v k ws₁ xs₁
+        turns-there read = record {
+          slots = omega (arith, now-holds h .room);
+          words-long = omega (arith, now-granted h .words-long);
+          numbers-long = now-granted h .numbers-long;
+          entry = omega (arith, images-entry h);
+          small = now-granted h .sized .u-small;
+          word = omega (arith, place, now-holds h .room, slots-le (z .l) id (s .axes) (id-in h));
+          quarters = h .quarters;
+          supported = now-holds h .supports;
+          within = λ m. subst₂ (SupportWithin (z .l)) (sym read) (sym now-axis) (now-holds h .axes .beside id (id-in h) .signature m);
+        }
+
+        pub absorb-holds : {ws₂ xs₂ : List ℕ} → ImagesTurned z (3 * s .slots) a k ws₁ xs₁ ws₂ xs₂
+            → TouchedAs z st (Next s) ws₂ xs₂ (absorbWord (z .l) t (wordOf (t .store .axes) id) k)
+        unfolding absorbWord
+        absorb-holds turned = as-next (touched .1 t (h .axis) .kept s e) (rw same-axis at (turned-holds (now-holds h) turned))
+
+      pub absorb-turns : SomeTouched (λ (t : Touched). AbsorbAt z (st .axes) (st .slots) id k ws xs t)
+          → {v : ℕ} → v ≡ wideAt xs₁ (z .u) signatureRow id → TurnsPre z (3 * s .slots) a v k ws₁ xs₁
+      absorb-turns s read = turns-there (s .it) read

@@ -2,20 +2,23 @@
 use mathlib.Core.Path.{_≡_, subst, refl, sym, ap, ap₂, _∙_}
 use mathlib.Core.List.{List, [], _∷_}
 use mathlib.Core.Logic.{inl, inr, _≢_}
-use mathlib.Core.Bool.{Bool, true, false, not}
+use mathlib.Core.Bool.{Bool, true, false, not, _&&_}
 use Prim.Native.Nat.{ℕ, _+_, _*_, _/_, _%_, _≤_, _<_, _-_}
 use native.Mathlib.Omega.{arith}
 use native.Mathlib.Decide.{ℕ-discrete}
+use lib.Bits.{bitAnd, bitOr}
+use lib.Dec.{eqb, ltb}
 use lib.ListN.{length, getD}
-use borrow.Author.Tests.{eq-eqb, ne-eqb}
+use borrow.Author.Tests.{eq-eqb, ne-eqb, eqb-true, ltb-true, le-ltb, lt-ltb}
 use Rattle.store.specs.Part.{put, part-length}
 use Rattle.store.specs.Row.{row, Written}
 use Rattle.pauli.specs.Word.{anticommutes, xorWords, phase}
 use Rattle.pauli.specs.ProductLaws.{xorWords-length, phase-lt}
+use Rattle.pauli.specs.SupportLaws.{SupportWithin, product-within, apart-commute}
 use Rattle.product.specs.Product.{StoredPre, StoredProduct}
 use Rattle.model.specs.Words.{Value, asValue, scaled, multiply}
 use Rattle.model.specs.Clifford.{absorbImage}
-use Rattle.theory.specs.Cases.{if-true, if-false}
+use Rattle.theory.specs.Cases.{if-true, if-false, and-left, and-right}
 use Rattle.layout.specs.declared.Shape.{Shape}
 use Rattle.layout.specs.Rows.{fPhase, rowCount}
 use Rattle.layout.specs.Only.{Only, only-none, only-then}
@@ -25,8 +28,9 @@ use Rattle.layout.specs.Shape.{longestRow}
 use Rattle.axes.specs.View.{wordAt}
 use Rattle.words_wellformed.specs.HeldImages.{IsQuarters}
 use Rattle.words_wellformed.specs.Conjugation.{value-eq}
-use Rattle.clifford.specs.Holds.{imageIn}
-use Rattle.clifford.specs.Images.{ImageThere, ImageSet, image-other, image-put, image-phase, image-stays}
+use Rattle.clifford.specs.Holds.{imageIn, signatureIn, Supported, supported-same}
+use Rattle.clifford.specs.Images.{SignaturePut, ImageThere, imageRows, ImageSet, image-other, signature-kept, image-put, image-phase}
+use Rattle.clifford.specs.Images.{image-stays}
 
 -- e more quarter turns, as the code adds them
 pub phase-added : {s t : List ℕ} {u i : ℕ} (e : ℕ) {old : ℕ} → old ≡ getD (row s u fPhase) i 0 → Written s u fPhase i ((old % 4 + e) % 4) t
@@ -34,13 +38,36 @@ pub phase-added : {s t : List ℕ} {u i : ℕ} (e : ℕ) {old : ℕ} → old ≡
 phase-added {s} {t} {u} {i} e {old} f w =
     subst (λ (v : ℕ). Written s u fPhase i v t) (let g : (old % 4 + e) % 4 ≡ (getD (row s u fPhase) i 0 + e) % 4 = omega arith in g) w
 
+-- ---- signatures
+
+-- where words are longer than one number: signature s and that of image i have no bit in common
+unfoldable pub isApart : Shape → List ℕ → ℕ → ℕ → Bool
+isApart z xs i s = ltb 1 (z .l) && eqb (bitAnd s (signatureIn z xs i)) 0
+
+pub apart-narrow : (z : Shape) (xs : List ℕ) (i s : ℕ) → z .l ≤ 1 → false ≡ isApart z xs i s
+unfolding isApart
+apart-narrow z xs i s h = sym (ap (λ (b : Bool). b && eqb (bitAnd s (signatureIn z xs i)) 0) (le-ltb 1 (z .l) h))
+
+pub apart-wide : (z : Shape) (xs : List ℕ) (i s : ℕ) {v : ℕ} → 1 < z .l → v ≡ signatureIn z xs i → eqb (bitAnd s v) 0 ≡ isApart z xs i s
+unfolding isApart
+apart-wide z xs i s h e =
+    ap (λ (x : ℕ). eqb (bitAnd s x) 0) e
+    ∙ sym (ap (λ (b : Bool). b && eqb (bitAnd s (signatureIn z xs i)) 0) (lt-ltb 1 (z .l) h))
+
+-- the signature of image i takes in s
+pub widened : {z : Shape} {i v : ℕ} {xs xs′ : List ℕ} (s : ℕ) → v ≡ signatureIn z xs i → SignaturePut z i (bitOr s v) xs xs′
+    → SignaturePut z i (bitOr s (signatureIn z xs i)) xs xs′
+widened s e p = rw e at p
+
 -- ---- one image, by the word at b
 
-pub record TurnPre (z : Shape) (i b k : ℕ) (ws xs : List ℕ) : Type 0 where
+pub record TurnPre (z : Shape) (i b s k : ℕ) (ws xs : List ℕ) : Type 0 where
   pub there : ImageThere z i xs
   pub words-long : z .limit ≤ length ws
   pub word : b + 2 * z .l ≤ slotPlace (z .limit) (z .l) i
   pub quarters : IsQuarters k
+  pub supported : Supported z ws xs i
+  pub within : 1 < z .l → SupportWithin (z .l) s (wordAt (z .l) ws b)
 
 abbrev pub ImageTurned : Shape → ℕ → ℕ → ℕ → List ℕ → List ℕ → List ℕ → List ℕ → Type 0
 ImageTurned z i b k ws xs ws′ xs′ = ImageSet z i (absorbImage (z .l) (wordAt (z .l) ws b) k (imageIn z ws xs i)) ws xs ws′ xs′
@@ -48,7 +75,7 @@ ImageTurned z i b k ws xs ws′ xs′ = ImageSet z i (absorbImage (z .l) (wordAt
 quarter-turns : (t e f c : ℕ) → e ≡ f → ((0 + t + f) % 4 + c) % 4 ≡ (t + (e + c)) % 4
 quarter-turns t e f c h = omega arith
 
-module _ {z : Shape} {i b k : ℕ} {ws xs : List ℕ} (pre : TurnPre z i b k ws xs) where
+module _ {z : Shape} {i b s k : ℕ} {ws xs : List ℕ} (pre : TurnPre z i b s k ws xs) where
   -- the words are there
   slot-in-words : slotPlace (z .limit) (z .l) i + 2 * z .l ≤ length ws
   slot-in-words = omega (arith, slot-ends (z .limit) (z .l) i (pre .there .slot), pre .words-long)
@@ -79,6 +106,19 @@ module _ {z : Shape} {i b k : ℕ} {ws xs : List ℕ} (pre : TurnPre z i b k ws 
   pub turn-small : {at e : ℕ} {ws′ : List ℕ} → StoredProduct (z .l) ws b at at ws′ e → e < 4
   turn-small {at} s = omega (arith, s .turns, phase-lt (z .l) (wordAt (z .l) ws b) (wordAt (z .l) ws at))
 
+  -- an image that commutes stays
+  stays : anticommutes (z .l) (wordAt (z .l) ws b) (imageIn z ws xs i .word) ≡ false → ImageTurned z i b k ws xs ws xs
+  unfolding absorbImage
+  stays e = rw (if-true {A = Value} _ _ (ap not e)) (image-stays z i ws xs (pre .supported))
+
+  -- the signatures are apart
+  pub turned-apart : {r : Bool} → r ≡ isApart z xs i s → r ≡ true → ImageTurned z i b k ws xs ws xs
+  unfolding isApart
+  turned-apart e t =
+      let both : (ltb 1 (z .l) && eqb (bitAnd s (signatureIn z xs i)) 0) ≡ true = sym e ∙ t in
+      let more : 1 < z .l = ltb-true 1 (z .l) (and-left _ _ both) in
+      stays (apart-commute (pre .within more) (pre .supported .within more) (eqb-true _ _ (and-right (ltb 1 (z .l)) _ both)))
+
   -- whether it changes: said of the words that were read
   module _ {r : Bool} {p q : List ℕ} {at : ℕ} (place : at ≡ slotPlace (z .limit) (z .l) i)
       (said : r ≡ anticommutes (z .l) p q) (b-read : p ≡ wordAt (z .l) ws b) (i-read : q ≡ wordAt (z .l) ws at) where
@@ -88,8 +128,7 @@ module _ {z : Shape} {i b k : ℕ} {ws xs : List ℕ} (pre : TurnPre z i b k ws 
 
     -- it commutes
     pub turned-not : r ≡ false → ImageTurned z i b k ws xs ws xs
-    unfolding absorbImage
-    turned-not e = rw (if-true {A = Value} _ _ (ap not (sym as-read ∙ e))) (image-stays z i ws xs)
+    turned-not e = stays (sym as-read ∙ e)
 
     -- "k = 4 gives -P"
     pub turned-half : {xs′ : List ℕ} → r ≡ true → k ≡ 4 → Written xs (z .u) fPhase i ((getD (row xs (z .u) fPhase) i 0 + 2) % 4) xs′
@@ -97,22 +136,29 @@ module _ {z : Shape} {i b k : ℕ} {ws xs : List ℕ} (pre : TurnPre z i b k ws 
     unfolding absorbImage
     turned-half e f w =
         rw (if-false {A = Value} _ _ (ap not (sym as-read ∙ e)), if-true {A = Value} _ _ (eq-eqb k 4 f))
-        (unfold scaled imageIn in (image-phase (pre .there) _ w))
+        (unfold scaled imageIn in (image-phase (pre .there) _ (pre .supported) w))
 
     -- "k = 2 gives iBP, k = -2 gives -iBP"
-    pub turned-quarter : {ws′ xs′ : List ℕ} {e : ℕ} → r ≡ true → (k ≡ 4 → ⊥) → StoredProduct (z .l) ws b at at ws′ e
-        → Written xs (z .u) fPhase i ((getD (row xs (z .u) fPhase) i 0 + (e + k / 2)) % 4) xs′ → ImageTurned z i b k ws xs ws′ xs′
+    pub turned-quarter : {ws′ xs₁ xs′ : List ℕ} {e : ℕ} → r ≡ true → (k ≡ 4 → ⊥) → StoredProduct (z .l) ws b at at ws′ e
+        → Written xs (z .u) fPhase i ((getD (row xs (z .u) fPhase) i 0 + (e + k / 2)) % 4) xs₁
+        → SignaturePut z i (bitOr s (signatureIn z xs₁ i)) xs₁ xs′ → ImageTurned z i b k ws xs ws′ xs′
     unfolding absorbImage
-    turned-quarter {ws′} {xs′} {e} t f s w =
+    turned-quarter {ws′} {xs₁} {xs′} {e} t f p w signed =
         rw (if-false {A = Value} _ _ (ap not (sym as-read ∙ t)), if-false {A = Value} _ _ (ne-eqb k 4 f))
-        (subst (λ (v : Value). ImageSet z i v ws xs ws′ xs′) (sym value) (image-put (pre .there) _ _ (pre .words-long) long laid w))
+        (subst (λ (v : Value). ImageSet z i v ws xs ws′ xs′) (sym value)
+        (image-put (pre .there) _ _ _ (pre .words-long) long laid w signed product))
       where
+        product : 1 < z .l → SupportWithin (z .l) (bitOr s (signatureIn z xs₁ i))
+            (xorWords (wordAt (z .l) ws b) (wordAt (z .l) ws (slotPlace (z .limit) (z .l) i)))
+        product m =
+            rw (signature-kept (pre .there) w i) (unfold imageIn in (product-within (pre .within m) (pre .supported .within m)))
+
         laid : ws′ ≡ put ws (slotPlace (z .limit) (z .l) i)
             (xorWords (wordAt (z .l) ws b) (wordAt (z .l) ws (slotPlace (z .limit) (z .l) i)))
-        laid = rw place at (s .store)
+        laid = rw place at (p .store)
 
         its-phase : e ≡ phase (z .l) (wordAt (z .l) ws b) (wordAt (z .l) ws (slotPlace (z .limit) (z .l) i))
-        its-phase = rw place at (s .turns)
+        its-phase = rw place at (p .turns)
 
         value : scaled (k / 2) (multiply (z .l) (asValue (wordAt (z .l) ws b)) (imageIn z ws xs i))
             ≡ record {
@@ -135,7 +181,7 @@ module _ {z : Shape} {i b k : ℕ} {ws xs : List ℕ} (pre : TurnPre z i b k ws 
 
 -- ---- all images
 
-pub record TurnsPre (z : Shape) (n b k : ℕ) (ws xs : List ℕ) : Type 0 where
+pub record TurnsPre (z : Shape) (n b s k : ℕ) (ws xs : List ℕ) : Type 0 where
   pub slots : n * (2 * z .l) ≤ z .limit
   pub words-long : z .limit ≤ length ws
   pub numbers-long : rowCount * z .u ≤ length xs
@@ -143,28 +189,36 @@ pub record TurnsPre (z : Shape) (n b k : ℕ) (ws xs : List ℕ) : Type 0 where
   pub small : z .u ≤ longestRow
   pub word : b + 2 * z .l + n * (2 * z .l) ≤ z .limit
   pub quarters : IsQuarters k
+  pub supported : (i : ℕ) → i < n → Supported z ws xs i
+  pub within : 1 < z .l → SupportWithin (z .l) s (wordAt (z .l) ws b)
 
 -- the first i images are changed
 pub record TurnedTo (z : Shape) (n b k : ℕ) (ws xs ws′ xs′ : List ℕ) (i : ℕ) : Type 0 where
   pub done : (j : ℕ) → j < i → imageIn z ws′ xs′ j ≡ absorbImage (z .l) (wordAt (z .l) ws b) k (imageIn z ws xs j)
   pub left : (j : ℕ) → i ≤ j → j < n → imageIn z ws′ xs′ j ≡ imageIn z ws xs j
+  pub supported : (j : ℕ) → j < n → Supported z ws′ xs′ j
   pub words : OnlyWords (z .limit - n * (2 * z .l)) (z .limit) ws ws′
-  pub numbers : Only (fPhase ∷ []) (z .u) xs xs′
+  pub numbers : Only imageRows (z .u) xs xs′
 
 abbrev pub ImagesTurned : Shape → ℕ → ℕ → ℕ → List ℕ → List ℕ → List ℕ → List ℕ → Type 0
 ImagesTurned z n b k ws xs ws′ xs′ = TurnedTo z n b k ws xs ws′ xs′ n
 
-pub turned-none : (z : Shape) (n b k : ℕ) (ws xs : List ℕ) → TurnedTo z n b k ws xs ws xs 0
-turned-none z n b k ws xs = record {
+pub turned-none : {z : Shape} {n b s k : ℕ} {ws xs : List ℕ} → TurnsPre z n b s k ws xs → TurnedTo z n b k ws xs ws xs 0
+turned-none {z} {ws = ws} {xs} pre = record {
   done = λ j h. absurd (omega arith);
   left = λ j h m. refl;
+  supported = pre .supported;
   words = words-none _ _ ws;
   numbers = only-none _ (z .u) xs;
 }
 
-module _ {z : Shape} {n b k : ℕ} {ws xs ws₁ xs₁ : List ℕ} {i : ℕ} (pre : TurnsPre z n b k ws xs)
+module _ {z : Shape} {n b s k : ℕ} {ws xs ws₁ xs₁ : List ℕ} {i : ℕ} (pre : TurnsPre z n b s k ws xs)
     (to : TurnedTo z n b k ws xs ws₁ xs₁ i) (h : i < n) where
-  pub turn-pre : TurnPre z i b k ws₁ xs₁
+  -- the word at b is as it was
+  same-word : wordAt (z .l) ws₁ b ≡ wordAt (z .l) ws b
+  same-word = words-part (to .words) b (2 * z .l) (omega (arith, pre .word, pre .words-long)) (inl (omega (arith, pre .word)))
+
+  pub turn-pre : TurnPre z i b s k ws₁ xs₁
   turn-pre = record {
     there = record {
       slot = omega (arith, pre .slots, slots-le (z .l) i n h);
@@ -174,28 +228,31 @@ module _ {z : Shape} {n b k : ℕ} {ws xs ws₁ xs₁ : List ℕ} {i : ℕ} (pre
     words-long = omega (arith, pre .words-long, to .words .long);
     word = slot-behind (z .limit) (z .l) n (pre .slots) i _ h (pre .word);
     quarters = pre .quarters;
+    supported = to .supported i h;
+    within = λ m. rw same-word (pre .within m);
   }
 
-  -- the word at b is as it was
-  same-word : wordAt (z .l) ws₁ b ≡ wordAt (z .l) ws b
-  same-word = words-part (to .words) b (2 * z .l) (omega (arith, pre .word, pre .words-long)) (inl (omega (arith, pre .word)))
-
   pub turned-more : {ws₂ xs₂ : List ℕ} → ImageTurned z i b k ws₁ xs₁ ws₂ xs₂ → TurnedTo z n b k ws xs ws₂ xs₂ (i + 1)
-  turned-more {ws₂} {xs₂} s = record {
+  turned-more {ws₂} {xs₂} t = record {
     done = λ j m. now j (ℕ-discrete j i) m;
     left = λ j m e. other j (omega arith) e ∙ to .left j (omega arith) e;
+    supported = λ j m. within j m (ℕ-discrete j i);
     words = words-then (to .words) (words-in _ _ (slot-behind (z .limit) (z .l) n (pre .slots) i _ h (omega (arith, pre .slots)))
-        (slot-in (z .limit) (z .l) n (pre .slots) i h) (s .words));
-    numbers = only-then (to .numbers) (s .numbers);
+        (slot-in (z .limit) (z .l) n (pre .slots) i h) (t .words));
+    numbers = only-then (to .numbers) (t .numbers);
   }
     where
       other : (j : ℕ) → j ≢ i → j < n → imageIn z ws₂ xs₂ j ≡ imageIn z ws₁ xs₁ j
-      other j ne m = image-other s (omega (arith, pre .words-long, to .words .long)) n j (pre .slots) h m ne
+      other j ne m = image-other t (omega (arith, pre .words-long, to .words .long)) n j (pre .slots) h m ne
 
       now : (j : ℕ) → Dec (j ≡ i) → j < i + 1 → imageIn z ws₂ xs₂ j ≡ absorbImage (z .l) (wordAt (z .l) ws b) k (imageIn z ws xs j)
       now j (yes e) m =
-          rw e (s .image ∙ ap₂ (λ (w : List ℕ) (v : Value). absorbImage (z .l) w k v) same-word (to .left i (omega arith) h))
+          rw e (t .image ∙ ap₂ (λ (w : List ℕ) (v : Value). absorbImage (z .l) w k v) same-word (to .left i (omega arith) h))
       now j (no ne) m = other j ne (omega arith) ∙ to .done j (omega arith)
+
+      within : (j : ℕ) → j < n → Dec (j ≡ i) → Supported z ws₂ xs₂ j
+      within j m (yes e) = rw e (t .supported)
+      within j m (no ne) = supported-same (other j ne m) (t .signatures j ne) (to .supported j m)
 
 pub turned-all : {z : Shape} {n b k : ℕ} {ws xs ws′ xs′ : List ℕ} {i : ℕ} → TurnedTo z n b k ws xs ws′ xs′ i → n ≤ i → i ≤ n
     → ImagesTurned z n b k ws xs ws′ xs′

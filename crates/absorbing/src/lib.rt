@@ -1,16 +1,20 @@
 // F takes in a quarter, half or three quarter turn about an axis: the axis's qubits are touched, then the images change.
 ghost use mathlib.Core.Path.{_≡_};
 ghost use Prim.Native.Nat.{_+_, _*_, _%_, _<_, _≤_};
+ghost use lib.Bits.{bitOr};
 ghost use lib.ListN.{length, getD};
 ghost use Rattle.store.specs.Row.{row, Written};
 ghost use Rattle.model.specs.Words.{setBits, support, wordOf};
 ghost use Rattle.model.specs.Clifford.{Touched, touchAll, absorbWord};
 ghost use Rattle.layout.specs.Rows.{fPhase};
-ghost use Rattle.clifford.specs.Holds.{SomeTouched, LeftF, TouchedAs, AxisAt};
-ghost use Rattle.absorbing.specs.Turning.{TurnPre, ImageTurned, TurnsPre, ImagesTurned};
+ghost use Rattle.clifford.specs.Holds.{signatureIn, SomeTouched, LeftF, TouchedAs, AxisAt};
+ghost use Rattle.clifford.specs.Images.{SignaturePut};
+ghost use Rattle.absorbing.specs.Turning.{isApart, TurnPre, ImageTurned, TurnsPre, ImagesTurned};
 ghost use Rattle.absorbing.specs.AxisQubits.{BitsAt};
 ghost use Rattle.absorbing.specs.Absorbing.{AbsorbAt};
 use layout::F_PHASE;
+use layout::IMAGE_SIGNATURE;
+use layout::SIGNATURE;
 use layout::Shape;
 use steps::State;
 use steps::Step;
@@ -74,11 +78,43 @@ fn add_phase(numbers: &mut [u32], u: usize, i: usize, e: u32)
     store::write(numbers, u, F_PHASE, i, (old % 4 + e) % 4);
 }
 
-// Image i, if it anticommutes with the word B at b: iBP for angle 2, -iBP for 6, -P for 4.
-fn turn_image(words: &mut [u64], numbers: &mut [u32], shape: Shape, i: usize, b: usize, k: u32)
-    requires { ⌜ TurnPre shape i b k (now words) (now numbers) ⌝ }
+// Whether a signature and that of image i tell, where words are longer than one number, that the words commute.
+fn apart(numbers: &[u32], shape: Shape, i: usize, signature: u64) -> bool
+    requires { ⌜ (24 * shape .u ≤ length (now numbers)) × (i < shape .u) ⌝ }
+    ensures { λ r. ⌜ r ≡ isApart shape (now (numbers .entry)) i signature ⌝ }
+{
+    if shape.l <= 1 {
+        return false;
+    }
+    signature & store::read_wide(numbers, shape.u, IMAGE_SIGNATURE, i) == 0
+}
+
+// The signature of image i, where words are longer than one number, takes in another.
+fn widen(numbers: &mut [u32], shape: Shape, i: usize, signature: u64)
+    requires { ⌜ (24 * shape .u ≤ length (now numbers)) × (i < shape .u) ⌝ }
+    ensures { λ _. ⌜ SignaturePut shape i (bitOr signature (signatureIn shape (now (numbers .entry)) i))
+        (now (numbers .entry)) (now (numbers .exit)) ⌝ }
+{
+    let old = store::read_wide(&numbers[..], shape.u, IMAGE_SIGNATURE, i);
+    clifford::put_signature(numbers, shape, i, signature | old);
+}
+
+// Image i, if it anticommutes with the word B at b, whose support lies within the signature: iBP for angle 2, -iBP for 6, -P for 4.
+fn turn_image(
+    words: &mut [u64],
+    numbers: &mut [u32],
+    shape: Shape,
+    i: usize,
+    b: usize,
+    signature: u64,
+    k: u32,
+)
+    requires { ⌜ TurnPre shape i b signature k (now words) (now numbers) ⌝ }
     ensures { λ _. ⌜ ImageTurned shape i b k (now (words .entry)) (now (numbers .entry)) (now (words .exit)) (now (numbers .exit)) ⌝ }
 {
+    if apart(&numbers[..], shape, i, signature) {
+        return;
+    }
     let l = shape.l;
     let at = layout::slot_at(shape.limit, l, i);
     if !pauli::anticommutes(
@@ -94,22 +130,24 @@ fn turn_image(words: &mut [u64], numbers: &mut [u32], shape: Shape, i: usize, b:
     }
     let e = product::product_in(words, b, at, at, l);
     add_phase(numbers, shape.u, i, e.0 as u32 + k / 2);
+    widen(numbers, shape, i, signature);
 }
 
-// All images, by the word at b.
+// All images, by the word at b, whose support lies within the signature.
 fn turn_images(
     words: &mut [u64],
     numbers: &mut [u32],
     shape: Shape,
     images: usize,
     b: usize,
+    signature: u64,
     k: u32,
 )
-    requires { ⌜ TurnsPre shape images b k (now words) (now numbers) ⌝ }
+    requires { ⌜ TurnsPre shape images b signature k (now words) (now numbers) ⌝ }
     ensures { λ _. ⌜ ImagesTurned shape images b k (now (words .entry)) (now (numbers .entry)) (now (words .exit)) (now (numbers .exit)) ⌝ }
 {
     for i in 0..images {
-        turn_image(words, numbers, shape, i, b, k);
+        turn_image(words, numbers, shape, i, b, signature, k);
     }
 }
 
@@ -131,7 +169,8 @@ pub fn absorb(
     let Step::Next(s) = t else {
         return Step::ExpansionLimit;
     };
+    let signature = store::read_wide(&numbers[..], shape.u, SIGNATURE, id);
     let at = layout::axis_at(shape.l, id);
-    turn_images(words, numbers, shape, 3 * s.slots, at, k);
+    turn_images(words, numbers, shape, 3 * s.slots, at, signature, k);
     Step::Next(s)
 }

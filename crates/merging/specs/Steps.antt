@@ -16,7 +16,7 @@ use Rattle.model.specs.Clifford.{Touched, absorbWord}
 use Rattle.model.specs.Stream.{Pass, leaveZero, putOutRotation, absorb}
 use Rattle.theory.specs.Cases.{if-true, if-false, and-left, and-right}
 use Rattle.layout.specs.declared.Shape.{Shape}
-use Rattle.layout.specs.Rows.{rowCount, outRow, lastRow, waitingRow, fSlot, fPhase}
+use Rattle.layout.specs.Rows.{rowCount, outRow, lastRow, waitingRow}
 use Rattle.layout.specs.Only.{Only, only-none, only-of, only-then, only-written}
 use Rattle.layout.specs.Words.{KeptFrom}
 use Rattle.layout.specs.Shape.{longestRow}
@@ -26,7 +26,7 @@ use Rattle.items.specs.Put.{ItemPut, taggedRotation}
 use Rattle.waiting.specs.Places.{placeIn, Named}
 use Rattle.waiting.specs.Inserting.{InsertPre, Inserted}
 use Rattle.words_wellformed.specs.HeldImages.{IsQuarters}
-use Rattle.clifford.specs.Holds.{Holds, SomeTouched, LeftF, TouchedAs, maskPlace}
+use Rattle.clifford.specs.Holds.{Holds, SomeTouched, fRows, LeftF, TouchedAs, maskPlace}
 use Rattle.absorbing.specs.Absorbing.{AbsorbAt}
 use Rattle.steps.specs.declared.State.{State}
 use Rattle.steps.specs.declared.Step.{Step}
@@ -175,7 +175,7 @@ module _ {z : Shape} {c : StreamRules} {st : State} {id k : ℕ} {xs xs₁ xs₂
 -- ---- what absorbing leaves: the list of waiting places as it was
 
 abbrev pub absorbRows : List ℕ
-absorbRows = outRow ∷ (outRow + 1) ∷ (outRow + 2) ∷ lastRow ∷ fSlot ∷ fPhase ∷ []
+absorbRows = outRow ∷ (outRow + 1) ∷ (outRow + 2) ∷ lastRow ∷ fRows
 
 pub record LeftAbsorbed (z : Shape) (st : State) (ws xs : List ℕ) (r : Step) (ws′ xs′ : List ℕ) : Type 0 where
   pub words : KeptFrom (maskPlace z + z .l) ws ws′

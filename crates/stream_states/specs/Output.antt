@@ -14,17 +14,18 @@ use Rattle.model.specs.Rules.{Absorption, off, lazy}
 use Rattle.model.specs.Items.{rot, Item, rotation, isClifford}
 use Rattle.model.specs.Clifford.{Touched}
 use Rattle.model.specs.Stream.{Place, nowhere, at, Pass, withLast, setAngle, putOut, setLast, putOutRotation}
-use Rattle.theory.specs.Cases.{if-true, if-false}
+use Rattle.theory.specs.Cases.{if-true, if-false, neither}
 use Rattle.layout.specs.declared.Shape.{Shape}
-use Rattle.layout.specs.Rows.{rowCount, outRow, lastRow, waitingRow, fSlot, fPhase, axesRows, written-row, entry-own, entry-other}
+use Rattle.layout.specs.Rows.{rowCount, outRow, lastRow, waitingRow, fSlot, fPhase, imageSignature, axesRows, written-row, entry-own, entry-other}
 use Rattle.layout.specs.Only.{Only, only-written}
+use Rattle.layout.specs.Wide.{wide-kept}
 use Rattle.axes.specs.Held.{held-rows}
 use Rattle.items.specs.declared.Tagged.{Tagged}
 use Rattle.items.specs.View.{itemRows, taggedAt, itemSaid, itemAt, itemsIn, said-rotation, view-length, view-other, tagged-other}
 use Rattle.items.specs.Put.{ItemPut, taggedRotation, put-set-0, put-end-0}
 use Rattle.words_wellformed.specs.Conjugation.{value-eq}
 use Rattle.waiting.specs.Places.{placeIn, Rising, Named, rising-as, named-as}
-use Rattle.clifford.specs.Holds.{imageIn, Holds}
+use Rattle.clifford.specs.Holds.{imageIn, supported-same, Holds, fRows}
 use Rattle.steps.specs.declared.State.{State}
 use Rattle.steps.specs.State.{withOut, withWaiting}
 use Rattle.stream_states.specs.States.{heldOf, placeSaid, lastIn, isWaiting, Waits, HoldsPass}
@@ -32,18 +33,26 @@ use Rattle.stream_states.specs.States.{heldOf, placeSaid, lastIn, isWait
 -- ---- F stays where other rows change
 
 pub holds-other : {z : Shape} {n m : ℕ} {ws xs xs′ rs : List ℕ} {t : Touched} → Only rs (z .u) xs xs′
-    → anyOf (λ r. member r rs) axesRows ≡ false → member fSlot rs ≡ false → member fPhase rs ≡ false
+    → anyOf (λ r. member r rs) axesRows ≡ false → anyOf (λ r. member r rs) fRows ≡ false
     → Holds z n m ws xs t → Holds z n m ws xs′ t
-unfolding imageIn
-holds-other {z} o d e f h = record {
-  axes = held-rows (h .axes) o d;
-  peak-in = h .peak-in;
-  count = h .count;
-  room = h .room;
-  slots = λ q b. ap (λ (r : List ℕ). getD r q 0) (o .rows fSlot (omega arith) e) ∙ h .slots q b;
-  images = λ i b. value-eq (ap (λ (r : List ℕ). getD r i 0) (o .rows fPhase (omega arith) f)) refl ∙ h .images i b;
-  mask = h .mask;
-}
+unfolding imageIn anyOf
+holds-other {z} {ws = ws} {xs} {xs′} {rs} o d e h =
+    let slot = neither (member fSlot rs) _ e in
+    let phase = neither (member fPhase rs) _ (slot .1) in
+    let low = neither (member imageSignature rs) _ (phase .1) in
+    let high = neither (member (imageSignature + 1) rs) _ (low .1) in
+    let same : (i : ℕ) → imageIn z ws xs′ i ≡ imageIn z ws xs i = λ i.
+    value-eq (ap (λ (r : List ℕ). getD r i 0) (o .rows fPhase (omega arith) (phase .0))) refl in
+    record {
+      axes = held-rows (h .axes) o d;
+      peak-in = h .peak-in;
+      count = h .count;
+      room = h .room;
+      slots = λ q b. ap (λ (r : List ℕ). getD r q 0) (o .rows fSlot (omega arith) (slot .0)) ∙ h .slots q b;
+      images = λ i b. same i ∙ h .images i b;
+      supports = λ i b. supported-same (same i) (wide-kept imageSignature o (omega arith) (low .0) (high .0) i) (h .supports i b);
+      mask = h .mask;
+    }
 
 -- ---- which rotations wait
 
@@ -175,7 +184,7 @@ pub with-list : {z : Shape} {m : Absorption} {st : State} {ws xs xs′ : List �
     → HoldsPass z off st ws xs p → (m ≡ lazy → Waits z xs′ n (st .out)) → HoldsPass z m (withWaiting n st) ws xs′ p
 unfolding member anyOf
 with-list {z} {st = st} n o h w = record {
-  f = holds-other o refl refl refl (h .f);
+  f = holds-other o refl refl (h .f);
   out-is = h .out-is ∙ sym (view-other o outRow (omega arith) refl itemSaid 0 (st .out));
   begun = h .begun;
   segment = λ i s e. ap (λ (x : Tagged). x .tag) (tagged-other o outRow (omega arith) refl i) ∙ h .segment i s e;
@@ -205,7 +214,7 @@ module _ {z : Shape} {m : Absorption} {st : State} {ws xs xs′ : List ℕ} {p :
   pub angle-set : (m ≡ lazy → isClifford k ≡ false) → HoldsPass z m st ws xs′ (setAngle j a k p)
   unfolding setAngle member anyOf
   angle-set c = record {
-    f = holds-other (put .only) refl refl refl (h .f);
+    f = holds-other (put .only) refl refl (h .f);
     out-is =
         ap (λ (is : List Item). set is j (rotation (rot a k))) (h .out-is)
         ∙ sym (put-set-0 put itemSaid (st .out) inside ∙ ap (set (itemsIn xs (z .u) outRow 0 (st .out)) j) (rotation-said a k));
@@ -231,7 +240,7 @@ module _ {z : Shape} {m : Absorption} {st : State} {ws xs xs′ : List ℕ} {p :
   pub last-cleared : HoldsPass z m st ws xs′ (withLast (setLast a nowhere (p .last)) p)
   unfolding withLast member anyOf
   last-cleared = record {
-    f = holds-other only-last refl refl refl (h .f);
+    f = holds-other only-last refl refl (h .f);
     out-is = h .out-is ∙ sym (view-other only-last outRow (omega arith) refl itemSaid 0 (st .out));
     begun = h .begun;
     segment = λ i s e. ap (λ (x : Tagged). x .tag) (tagged-other only-last outRow (omega arith) refl i) ∙ h .segment i s e;
@@ -278,7 +287,7 @@ module _ {z : Shape} {m : Absorption} {st : State} {ws xs xs₁ xs₂ : List ℕ
   pub rotation-put : HoldsPass z off (withOut (st .out + 1) st) ws xs₂ (putOutRotation p a k)
   unfolding putOutRotation putOut withLast member anyOf
   rotation-put = record {
-    f = holds-other (put .only) refl refl refl (holds-other only-named refl refl refl (h .f));
+    f = holds-other (put .only) refl refl (holds-other only-named refl refl (h .f));
     out-is =
         ap (λ (is : List Item). is ++ (rotation (rot a k) ∷ []))
         (h .out-is ∙ sym (view-other only-named outRow (omega arith) refl itemSaid 0 (st .out)))

@@ -6,20 +6,20 @@ use Rattle.absorbing.proofs.turn_images.Statement.{statement}
 use Rattle.absorbing.proofs.turn_images.Tie as tie
 
 abbrev Inv-loop : tie.InvT-loop
-Inv-loop ws₀ xs₀ z n b k i₀ ws xs i = (i ≤ n) × TurnedTo z n b k ws₀ xs₀ ws xs i
+Inv-loop ws₀ xs₀ z n b s k i₀ ws xs i = (i ≤ n) × TurnedTo z n b k ws₀ xs₀ ws xs i
 
 abbrev μ-loop : tie.MeasureT-loop
-μ-loop ws₀ xs₀ z n b k i₀ ws xs i = n - i
+μ-loop ws₀ xs₀ z n b s k i₀ ws xs i = n - i
 
 loop-holds : tie.Need-loop-holds Inv-loop μ-loop
-loop-holds c = (omega arith, turned-none _ _ _ _ _ _)
+loop-holds c = (omega arith, turned-none (c .before .before .pre))
 
 turn-image-requires : tie.Need-turn-image-requires Inv-loop μ-loop
 turn-image-requires c κs =
-    let at-loop-test = c .before .before in
-    let at-loop = at-loop-test .before in
-    let start = at-loop .before .before .before in
-    turn-pre (start .pre) (at-loop .loop .inv .1) (at-loop-test .loop-test .taken)
+    let turn = c .before .before in
+    let head = turn .before in
+    let start = head .before .before .before in
+    turn-pre (start .pre) (head .loop .inv .1) (turn .loop-test .taken)
 
 add-i : tie.Need-add-i Inv-loop μ-loop
 add-i c = omega arith
@@ -29,11 +29,11 @@ loop-less c = omega arith
 
 loop-again : tie.Need-loop-again Inv-loop μ-loop
 loop-again c =
-    let at-turn-image = c .before .before .before .before in
-    let at-loop-test = at-turn-image .before .before .before in
-    let at-loop = at-loop-test .before in
-    let start = at-loop .before .before .before in
-    (omega arith, turned-more (start .pre) (at-loop .loop .inv .1) (at-loop-test .loop-test .taken) (at-turn-image .turn-image .ensures))
+    let turn-image = c .before .before .before .before in
+    let turn = turn-image .before .before .before in
+    let head = turn .before in
+    let start = head .before .before .before in
+    (omega arith, turned-more (start .pre) (head .loop .inv .1) (turn .loop-test .taken) (turn-image .turn-image .ensures))
 
 same-length : tie.Need-same-length Inv-loop μ-loop
 same-length c =
