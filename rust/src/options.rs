@@ -58,6 +58,11 @@ impl Default for Options {
 }
 
 impl Options {
+    /// The defaults with another word limit; a smaller one asks for less memory.
+    pub fn with_limit(max_packed_words: usize) -> Self {
+        Self { max_packed_words, ..Self::default() }
+    }
+
     /// Whether refusal 2 lets the options through.
     pub(crate) fn in_domain(&self) -> bool {
         let sizes = [self.lookback, self.window, self.candidates, self.max_packed_words];

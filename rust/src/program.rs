@@ -81,7 +81,7 @@ impl Program {
             lines.by_ref().take(operations).map(record).collect(),
             lines.map(record).collect(),
         );
-        Ok((program, Options { max_packed_words: first[3] as usize, ..Options::default() }))
+        Ok((program, Options::with_limit(first[3] as usize)))
     }
 
     pub fn qubits(&self) -> usize {

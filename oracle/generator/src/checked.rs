@@ -1,5 +1,6 @@
-//! Jobs at Checking's bounds and for packing's order, each under a comment that names its rule. Those that Checking
-//! accepts are for the driver; to those that it refuses 01's answer is written down here: the Rust has no counterpart.
+//! Jobs at Checking's bounds, for packing's order and of docs/REFUSALS.md, each under a comment that names its rule. Those
+//! that Checking accepts are for the driver; to those that it refuses 01's answer is written down here: the Rust has no
+//! counterpart.
 
 use jobs::{Job, Lengths, MAX_LIMIT, NO_TARGET};
 
@@ -52,6 +53,16 @@ fn plain() -> Handed {
     }
 }
 
+/// What most jobs of docs/REFUSALS.md are: no qubit, the identity alone, and an operation or none.
+fn smallest(operation: Option<[i64; 6]>) -> Handed {
+    let mut handed = plain();
+    handed.job.qubits = 0;
+    handed.job.nodes.truncate(1);
+    handed.job.operations = Vec::from_iter(operation);
+    handed.job.rows.clear();
+    handed
+}
+
 /// A program slice that is one short: the slack of words, numbers and result operations, 10,000 more, says so of nodes,
 /// operations and rows.
 const ONE_SHORT: usize = 10_000;
@@ -74,7 +85,11 @@ pub fn plain_job() -> Job {
 
 /// Cases that Checking accepts: the driver answers them.
 pub fn accepted() -> String {
-    ACCEPTED.iter().chain(PACKED).map(Case::text).collect()
+    run().map(Case::text).collect()
+}
+
+fn run() -> impl Iterator<Item = &'static Case> {
+    [ACCEPTED, PACKED, PAGE_RUN].into_iter().flatten()
 }
 
 /// Cases that Checking refuses.
@@ -91,7 +106,15 @@ pub fn refusal_answers() -> String {
 
 fn refusals() -> impl Iterator<Item = &'static Case> {
     [
-        COUNTS, OPTIONS, SLICES, NODES, OPERATIONS, OUTCOMES, ROWS, ORDER,
+        COUNTS,
+        OPTIONS,
+        SLICES,
+        NODES,
+        OPERATIONS,
+        OUTCOMES,
+        ROWS,
+        ORDER,
+        PAGE_REFUSED,
     ]
     .into_iter()
     .flatten()
@@ -152,12 +175,6 @@ const ACCEPTED: &[Case] = &[
     }),
     case!(0, "every slice longer than asked", |h| h.job.slack =
         [1001, 1002, 1003, 1004]),
-    case!(0, "one node, no operation, no qubit", |h| {
-        h.job.qubits = 0;
-        h.job.nodes.truncate(1);
-        h.job.operations.clear();
-        h.job.rows.clear();
-    }),
     case!(0, "limit 0, with nothing to pack", |h| {
         h.job.options.limit = 0;
         h.job.operations.clear();
@@ -169,8 +186,11 @@ const ACCEPTED: &[Case] = &[
     }),
     case!(0, "phases 3 and children one below", |h| h.job.nodes[3] =
         [2, 2, 3, 2, 3]),
-    case!(0, "letter 3 on the last qubit", |h| h.job.nodes[1] =
-        [1, 0, 3, 0, 0]),
+    case!(
+        9,
+        "letter 3 on the last qubit, which makes a product odd",
+        |h| { h.job.nodes[1] = [1, 0, 3, 0, 0] }
+    ),
     case!(0, "angle 7, and an angle in a measurement", |h| {
         h.job.operations[0][3] = 7;
         h.job.operations[1][3] = 7;
@@ -428,3 +448,77 @@ const ORDER: &[Case] = &[
         h.job.rows[1][3] = 4;
     }),
 ];
+
+/// The jobs of docs/REFUSALS.md that Checking accepts, by their section.
+const PAGE_RUN: &[Case] = &[
+    case!(0, "docs/REFUSALS.md's job for 0: nothing", |h| *h =
+        smallest(None)),
+    case!(9, "docs/REFUSALS.md's job for 9: iI", |h| *h =
+        smallest(Some([1, 0, 1, 1, -1, -1]))),
+    case!(10, "docs/REFUSALS.md's job for 10: limit 3", |h| {
+        *h = smallest(Some([1, 0, 0, 1, -1, -1]));
+        h.job.options.limit = 3;
+    }),
+    case!(0, "docs/REFUSALS.md's job for 10: limit 4", |h| {
+        *h = smallest(Some([1, 0, 0, 1, -1, -1]));
+        h.job.options.limit = 4;
+    }),
+];
+
+/// Those that it refuses. The text for 11 is in listings_refused.rs.
+const PAGE_REFUSED: &[Case] = &[
+    case!(1, "docs/REFUSALS.md's job for 1: no node", |h| {
+        *h = smallest(None);
+        h.job.nodes.clear();
+    }),
+    case!(2, "docs/REFUSALS.md's job for 2: rounds 256", |h| {
+        *h = smallest(None);
+        h.job.options.rounds = 256;
+    }),
+    case!(
+        3,
+        "docs/REFUSALS.md's job for 3: words one short, limit 0",
+        |h| {
+            *h = smallest(None);
+            h.job.options.limit = 0;
+            h.job.slack[0] = 999;
+        }
+    ),
+    case!(4, "docs/REFUSALS.md's job for 4: node 0 is a letter", |h| {
+        *h = smallest(None);
+        h.job.nodes[0] = [1, 0, 0, 0, 0];
+    }),
+    case!(
+        5,
+        "docs/REFUSALS.md's job for 5: Z where there are no qubits",
+        |h| {
+            *h = smallest(Some([1, 1, 0, 1, -1, -1]));
+            h.job.nodes.push([1, 0, 3, 0, 0]);
+        }
+    ),
+    case!(6, "docs/REFUSALS.md's job for 6: node 1 of 1", |h| *h =
+        smallest(Some([1, 1, 0, 1, -1, -1]))),
+    case!(7, "docs/REFUSALS.md's job for 7: angle 8", |h| *h =
+        smallest(Some([1, 0, 0, 8, -1, -1]))),
+    case!(
+        8,
+        "docs/REFUSALS.md's job for 8: a condition never measured",
+        |h| *h = smallest(Some([3, 0, 0, 1, 0, -1]))
+    ),
+];
+
+#[cfg(test)]
+mod tests {
+    use super::*;
+
+    #[test]
+    fn answers_are_those_written_down() {
+        for case in run() {
+            let answer = match shown::run(&case.handed().job).0 {
+                Ok(_) => 0,
+                Err(refusal) => refusal.answer(),
+            };
+            assert_eq!(answer, case.answer, "{}", case.rule);
+        }
+    }
+}

@@ -18,17 +18,25 @@ pub struct Recipe<'a> {
     pub largest_limit: usize,
 }
 
+/// A list, or why it cannot be had.
+pub type List = Result<Vec<Job>, String>;
+
+/// After so many jobs in a row that are not taken, every class that the recipe makes counts as full.
+const MOST_PASSED_OVER: usize = 100_000;
+
 /// `class` says what a job is, and how many of the kind are taken.
-pub fn list(
-    seed: u64,
-    count: usize,
-    recipe: &Recipe,
-    class: fn(&Job) -> (String, usize),
-) -> Vec<Job> {
+pub fn list(seed: u64, count: usize, recipe: &Recipe, class: fn(&Job) -> (String, usize)) -> List {
     let mut rng = Rng::new(seed);
     let mut taken: BTreeMap<String, usize> = BTreeMap::new();
     let mut list = Vec::new();
+    let mut passed_over = 0;
     while list.len() < count {
+        if passed_over == MOST_PASSED_OVER {
+            let had = list.len();
+            return Err(format!(
+                "only {had} of {count} random jobs: the {passed_over} after them are of classes that are full"
+            ));
+        }
         let wide = list.len() % recipe.wide_every == recipe.wide_every - 1;
         let shape = if wide { recipe.wide } else { &Shape::SMALL };
         let mut job = (recipe.make)(&mut rng, shape);
@@ -38,7 +46,10 @@ pub fn list(
         if *of_class < most {
             *of_class += 1;
             list.push(job);
+            passed_over = 0;
+        } else {
+            passed_over += 1;
         }
     }
-    list
+    Ok(list)
 }

@@ -2,7 +2,7 @@
 
 use jobs::Job;
 
-use super::classes::{self, Recipe};
+use super::classes::{self, List, Recipe};
 use super::random::{self, Shape};
 
 /// How many jobs are taken of a class of runs that end in a refusal or change nothing, and of another.
@@ -16,7 +16,7 @@ const RECIPE: Recipe = Recipe {
     largest_limit: 4096,
 };
 
-pub fn list(seed: u64, count: usize) -> Vec<Job> {
+pub fn list(seed: u64, count: usize) -> List {
     classes::list(seed, count, &RECIPE, class)
 }
 

@@ -111,11 +111,11 @@ impl Case {
     }
 }
 
-/// The directed listings that the driver answers, and random ones.
-pub fn answered(seed: u64, count: usize) -> Vec<u8> {
+/// The directed listings that the driver answers, and random ones; or why so many cannot be had.
+pub fn answered(seed: u64, count: usize) -> Result<Vec<u8>, String> {
     let directed = ANSWERED.iter().flat_map(|case| case.text().handed());
-    let random = classes::list(seed, count, &RECIPE, class);
-    directed.chain(random.iter().flat_map(handed)).collect()
+    let random = classes::list(seed, count, &RECIPE, class)?;
+    Ok(directed.chain(random.iter().flat_map(handed)).collect())
 }
 
 /// Those that Listing or Checking refuses.
@@ -315,6 +315,13 @@ mod tests {
             };
             assert_eq!(answer, case.answer, "{}", case.rule);
         }
+    }
+
+    /// A list ends also where the classes are full before the count is reached.
+    #[test]
+    fn no_more_than_the_classes_have() {
+        let why = answered(1, 250).expect_err("18 classes on few qubits have 8 each");
+        assert!(why.starts_with("only 160 of 250"), "{why}");
     }
 
     #[test]

@@ -16,7 +16,8 @@ pub fn texts() -> impl Iterator<Item = (usize, Text)> {
 
 /// 11: a line has the wrong length.
 const LENGTHS: &[Case] = &[
-    case!(11, "no byte", |t| t.then = |b| b.clear()),
+    case!(11, "docs/REFUSALS.md's text: no byte", |t| t.then =
+        |b| b.clear()),
     case!(11, "a newline alone", |t| t.then = |b| *b = field("\n")),
     case!(11, "no newline at the end", |t| t.then =
         |b| b.truncate(b.len() - 1)),

@@ -27,22 +27,25 @@ fn main() {
         ["--refused"] => print!("{}", checked::refused()),
         ["--answers"] => print!("{}", checked::refusal_answers()),
         ["--listings", seed, count] => {
-            write(listings::answered(number(seed), number(count) as usize));
+            write(had(listings::answered(
+                number(seed),
+                number(count) as usize,
+            )));
         }
         ["--refused-listings"] => write(listings::refused()),
         ["--listing-answers"] => print!("{}", listings::refusal_answers()),
         ["--packing", seed, count] => {
-            for job in packing::list(number(seed), number(count) as usize) {
+            for job in had(packing::list(number(seed), number(count) as usize)) {
                 print!("{job}");
             }
         }
         ["--rewriting", seed, count] => {
-            for job in rewriting::list(number(seed), number(count) as usize) {
+            for job in had(rewriting::list(number(seed), number(count) as usize)) {
                 print!("{job}");
             }
         }
         ["--fixed", seed, count] => {
-            for job in fixed::list(number(seed), number(count) as usize) {
+            for job in had(fixed::list(number(seed), number(count) as usize)) {
                 print!("{job}");
             }
         }
@@ -71,6 +74,14 @@ fn main() {
             std::process::exit(2);
         }
     }
+}
+
+/// What was asked for; where it cannot be had, nothing is printed but why.
+fn had<T>(list: Result<T, String>) -> T {
+    list.unwrap_or_else(|why| {
+        eprintln!("{why}");
+        std::process::exit(1)
+    })
 }
 
 /// Listings may have any bytes.

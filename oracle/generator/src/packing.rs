@@ -3,7 +3,7 @@
 use jobs::Job;
 use record::{Place, Record};
 
-use super::classes::{self, Recipe};
+use super::classes::{self, List, Recipe};
 use super::random::{self, Shape};
 
 /// How many jobs are taken of a class.
@@ -23,7 +23,7 @@ const RECIPE: Recipe = Recipe {
     largest_limit: 1024,
 };
 
-pub fn list(seed: u64, count: usize) -> Vec<Job> {
+pub fn list(seed: u64, count: usize) -> List {
     classes::list(seed, count, &RECIPE, |job| (class(job), MOST))
 }
 

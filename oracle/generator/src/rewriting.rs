@@ -3,7 +3,7 @@
 
 use jobs::{Accepted, Job, MAX_LIMIT, Options};
 
-use super::classes::{self, Recipe};
+use super::classes::{self, List, Recipe};
 use super::packing;
 use super::random::{self, Shape};
 use super::rng::Rng;
@@ -18,7 +18,7 @@ const RECIPE: Recipe = Recipe {
     largest_limit: 1024,
 };
 
-pub fn list(seed: u64, count: usize) -> Vec<Job> {
+pub fn list(seed: u64, count: usize) -> List {
     classes::list(seed, count, &RECIPE, |job| (class(job), MOST))
 }
 
