@@ -1,6 +1,6 @@
 -- Images change as angle k about a word is absorbed: as the model's `absorbImage` has it. Assumes nothing.
 use mathlib.Core.Path.{_≡_, subst, refl, sym, ap, ap₂, _∙_}
-use mathlib.Core.List.{List, [], _∷_}
+use mathlib.Core.List.{List}
 use mathlib.Core.Logic.{inl, inr, _≢_}
 use mathlib.Core.Bool.{Bool, true, false, not, _&&_}
 use Prim.Native.Nat.{ℕ, _+_, _*_, _/_, _%_, _≤_, _<_, _-_}

@@ -97,7 +97,8 @@ add-phase-requires-2 c κs =
 widen-requires : tie.Need-widen-requires
 widen-requires c κs =
     let add-phase2 = c .before .before .before in
-    let start = add-phase2 .before .before .before .before .before .before .before .before .before .before .before .before .before .before .before .before .before .before .before in
+    let product-in = add-phase2 .before .before .before .before .before in
+    let start = product-in .before .before .before .before .before .before .before .before .before .before .before .before .before .before in
     (omega (arith, start .pre .there .numbers-long, add-phase2 .add-phase2 .ensures .long), start .pre .there .entry)
 
 same-length-6 : tie.Need-same-length-6
