@@ -90,7 +90,8 @@ module _ (z : Sizes) (others : ℕ) (ws xs : List ℕ) (at : ℕ) (pre : InternP
           numbers = o;
         }
 
-    new : Beside (z .l) (z .u) xs′ (z .axes) (wordAt (z .l) ws at) → st .peak ≤ z .limit → (id : ℕ) → id ≡ idOf (storedAxes z ws) (wordAt (z .l) ws at) → id ≡ z .axes
+    new : Beside (z .l) (z .u) xs′ (z .axes) (wordAt (z .l) ws at) → st .peak ≤ z .limit → (id : ℕ)
+        → id ≡ idOf (storedAxes z ws) (wordAt (z .l) ws at) → id ≡ z .axes
         → sumWith (z .l) others (z .axes) ≤ z .limit
         → HasId z others ws xs st (wordAt (z .l) ws at) id (put ws (axisPlace (z .l) (z .axes)) (wordAt (z .l) ws at)) xs′
     new own p id e f b =
