@@ -35,10 +35,10 @@ use Rattle.decision.specs.Depth.{DepthAs, work-kept, depth-is}
 pub record PackedIn (z : Shape) (ns os rs : List ℕ) (n : ℕ) (ws xs : List ℕ) : Type 0 where
   pub ws₀ : List ℕ
   pub xs₀ : List ℕ
-  pub r : Packed
+  pub answer : Packed
   pub pre : PackPre z ns os rs ws₀ xs₀
-  pub done : PackedAs z (programIn z ns os rs) r ws₀ xs₀ ws xs
-  pub accepted : r ≡ Axes n
+  pub done : PackedAs z (programIn z ns os rs) answer ws₀ xs₀ ws xs
+  pub accepted : answer ≡ Axes n
 
 -- memory holds the start of the passes, and r its counts
 pub record StartedAs (z : Shape) (o : Options) (ns os rs : List ℕ) (n : ℕ) (ws xs : List ℕ) (r : Started) (ys : List ℕ) : Type 0 where

@@ -130,7 +130,7 @@ ends-cut g before (r ∷ rest) e =
 
 -- a suffix of a, the whole of b, a prefix of c
 abbrev pub TripleOf : List Rot → List Rot → List Rot → Triple → Type 0
-TripleOf a b c t = (t .skipped ++ t .a ≡ a) × (t .b ≡ b) × (t .c ++ t .remainder ≡ c)
+TripleOf a b c t = (t .skipped ++ t .first ≡ a) × (t .second ≡ b) × (t .third ++ t .remainder ≡ c)
 
 withEnds-of : (a b c : List Rot) (s : Start) (es : List End) → StartOf a s → Every (EndOf c) es → Every (TripleOf a b c) (withEnds b s es)
 unfolding withEnds

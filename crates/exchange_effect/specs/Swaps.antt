@@ -89,14 +89,14 @@ module _ (H : Setting) (l : ℕ) (axes : List (List ℕ)) (A : AxisWords H l axe
   Kept whole (some x) = ((x .skipped ++ (x .new ++ x .remainder)) ≋ whole) × Every S (x .skipped) × Every S (x .new) × Every S (x .remainder)
 
   abbrev inner : Triple → List Rot
-  inner t = t .a ++ (t .b ++ t .c)
+  inner t = t .first ++ (t .second ++ t .third)
 
   abbrev outer : Triple → List Rot
   outer t = t .skipped ++ (inner t ++ t .remainder)
 
   -- the parts of a triple: runs, and sound rotations around them
   abbrev Parts : Triple → Type 0
-  Parts t = Every S (t .skipped) × Run (t .a) × Run (t .b) × Run (t .c) × Every S (t .remainder)
+  Parts t = Every S (t .skipped) × Run (t .first) × Run (t .second) × Run (t .third) × Every S (t .remainder)
 
   made-kept : (t : Triple) (trial : List Rot) → Parts t → trial ≋ inner t
       → (o : Option (List Rot)) → Improved trial o → Kept (outer t) (Option·map (swapOf t) o)
@@ -130,13 +130,13 @@ module _ (H : Setting) (l : ℕ) (axes : List (List ℕ)) (A : AxisWords H l axe
         (tryExchange-kept t b c (a ++ (c ++ b)) p (every-append S a (c ++ b) (p .1 .0) (every-append S c b (p .3 .0) (p .2 .0))) second)
       where
         a : List Rot
-        a = t .a
+        a = t .first
 
         b : List Rot
-        b = t .b
+        b = t .second
 
         c : List Rot
-        c = t .c
+        c = t .third
 
         -- "first with second"
         first : generatorsCommute l axes a b ≡ true → (b ++ (a ++ c)) ≋ (a ++ (b ++ c))
@@ -156,23 +156,23 @@ module _ (H : Setting) (l : ℕ) (axes : List (List ℕ)) (A : AxisWords H l axe
       parts-of t h =
           let front = rw (sym (h .0)) at ra in
           let back = rw (sym (h .2)) at rc in (
-            every-left S (t .skipped) (t .a) (front .0),
-            run-right H l axes A (t .skipped) (t .a) front,
+            every-left S (t .skipped) (t .first) (front .0),
+            run-right H l axes A (t .skipped) (t .first) front,
             rw (h .1) rb,
-            run-left H l axes A (t .c) (t .remainder) back,
-            every-right S (t .c) (t .remainder) (back .0),
+            run-left H l axes A (t .third) (t .remainder) back,
+            every-right S (t .third) (t .remainder) (back .0),
           )
 
       outer-of : (t : Triple) → TripleOf a b c t → outer t ≡ a ++ (b ++ c)
       outer-of t h =
-          let regroup : outer t ≡ (t .skipped ++ t .a) ++ (t .b ++ (t .c ++ t .remainder)) = simp append-assoc in
+          let regroup : outer t ≡ (t .skipped ++ t .first) ++ (t .second ++ (t .third ++ t .remainder)) = simp append-assoc in
           regroup ∙ ap₂ (λ (x y : List Rot). x ++ y) (h .0) (ap₂ (λ (x y : List Rot). x ++ y) (h .1) (h .2))
 
       tryTriple-kept : (ts : List Triple) → Every (TripleOf a b c) ts → Kept (a ++ (b ++ c)) (tryTriple l axes eager ts)
       unfolding tryTriple
       tryTriple-kept [] h = tt
       tryTriple-kept (t ∷ ts) h =
-          orElse-kept (a ++ (b ++ c)) (if shareAxis eager (t .a) (t .c) then tryExchanges l axes eager t else none) (tryTriple l axes eager ts)
+          orElse-kept (a ++ (b ++ c)) (if shareAxis eager (t .first) (t .third) then tryExchanges l axes eager t else none) (tryTriple l axes eager ts)
           (by-if (Kept (a ++ (b ++ c))) _ _ _ (rw (outer-of t (h .0)) at (tryExchanges-kept t (parts-of t (h .0)))) tt)
           (tryTriple-kept ts (h .1))
 

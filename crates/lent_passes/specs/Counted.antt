@@ -73,7 +73,7 @@ counted {t = t} h call e f = record {
   passed = call .1;
   merges = e;
   absorbed = f;
-  few = rw (e, f) (few-of t (call .1 (h .prog) (h .w) (h .g) (h .it)));
+  few = rw (e, f) (few-of t (call .1 (h .program) (h .work) (h .rules) (h .it)));
 }
 
 pub room-for : {z : Shape} {c : StreamRules} {k n : ℕ} {ws xs ws′ xs′ : List ℕ} {h : Counters} {r : Counted} → Room h

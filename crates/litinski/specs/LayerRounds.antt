@@ -81,8 +81,8 @@ module _ {z : Shape} {o : Options} {st₀ : State} {ws₀ xs₀ ws xs : List ℕ
     (b : RoundsDone z o st₀ ws₀ xs₀ ws xs st j) (more : j < o .rounds) where
   pub rounds-some : SomeRun z 1 st₀ ws₀ xs₀ → OptionsIn o → SomeRun z 511 st ws xs
   rounds-some f k =
-      let n = b .at (f .p) (f .w) (f .at) in
-      record { p = f .p; w = n .now; at = later (omega (arith, k .rounds)) (n .at) }
+      let n = b .at (f .program) (f .work) (f .at) in
+      record { program = f .program; work = n .now; at = later (omega (arith, k .rounds)) (n .at) }
 
   module _ {s : State} {ws₁ xs₁ : List ℕ} (layers : LayersCall z st ws xs s ws₁ xs₁) where
     module _ {p : Program} {w : Work} (h : RunAt z 1 st₀ ws₀ xs₀ p w) where
@@ -93,7 +93,7 @@ module _ {z : Shape} {o : Options} {st₀ : State} {ws₀ xs₀ ws xs : List ℕ
       layered = layers .1 (1 + 2 * j) p (here .now) (here .at)
 
       pub layered-some : OptionsIn o → SomeRun z 511 s ws₁ xs₁
-      layered-some k = record { p = p; w = layersOf z (here .now); at = later (omega (arith, k .rounds)) layered }
+      layered-some k = record { program = p; work = layersOf z (here .now); at = later (omega (arith, k .rounds)) layered }
 
       -- what all rounds come to, by the code's test on states
       rest : (x : Bool) → eqb (s .merges) (st .merges) ≡ x → roundsOf z o (o .rounds) w
@@ -169,7 +169,7 @@ module _ (o : Options) (w : Work) (n : o .rounds ≡ 0 → ⊥) {z : Shape} {r :
       (lt-of-lt-of-le (h .refused e) (litinskiFrom-rises (z .l) (rulesOf o) (o .rounds) _)))
 
   pub litinski-some : (s : State) → r ≡ Next s → SomeRun z 1 s ws xs
-  litinski-some s e = record { p = p; w = _; at = h .done s e }
+  litinski-some s e = record { program = p; work = _; at = h .done s e }
 
   pub litinski-end : {q : Step} {ws′ xs′ : List ℕ} → EndedAs z 511 q ws′ xs′ p (roundsOf z o (o .rounds) (streamOf z o w))
       → EndedAs z 511 q ws′ xs′ p (litinskiRounds (z .l) (rulesOf o) (o .rounds) w)

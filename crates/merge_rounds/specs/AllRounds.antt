@@ -95,8 +95,8 @@ module _ {z : Shape} {o : Options} {st₀ : State} {ws₀ xs₀ ws xs : List ℕ
     (b : RoundsDone z o st₀ ws₀ xs₀ ws xs st t j) (more : j < o .rounds) where
   pub rounds-some : SomeRun z 0 st₀ ws₀ xs₀ → OptionsIn o → SomeRun z 510 st ws xs
   rounds-some f k =
-      let n = b .at (f .p) (f .w) (f .at) in
-      record { p = f .p; w = n .now; at = later (omega (arith, k .rounds)) (n .at) }
+      let n = b .at (f .program) (f .work) (f .at) in
+      record { program = f .program; work = n .now; at = later (omega (arith, k .rounds)) (n .at) }
 
   module _ {r : Step} {ws′ xs′ : List ℕ} (call : RoundCall z o st ws xs r ws′ xs′) where
     module _ {p : Program} {w : Work} (h : RunAt z 0 st₀ ws₀ xs₀ p w) where

@@ -88,7 +88,7 @@ module _ (o : Options) (w : Work) {z : Shape} {r : Step} {ws xs : List ℕ} {p :
   merging-limit e = ended-limit (lt-of-lt-of-le (h .refused e) (closingStream-rises (z .l) (rulesOf o) (o .rounds) _))
 
   pub merging-some : (s : State) → r ≡ Next s → SomeRun z 511 s ws xs
-  merging-some s e = record { p = p; w = _; at = later (omega arith) (h .done s e) }
+  merging-some s e = record { program = p; work = _; at = later (omega arith) (h .done s e) }
 
 pub merging-end : (o : Options) (w : Work) {z : Shape} {r : Step} {ws xs : List ℕ} {p : Program}
     → EndedAs z (510 + 1) r ws xs p (closed z o (allRounds z o w))

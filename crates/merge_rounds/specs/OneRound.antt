@@ -36,7 +36,7 @@ module _ (o : Options) (i : ℕ) (w : Work) {z : Shape} {r : Step} {ws xs : List
   merged-limit e = ended-limit (lt-of-lt-of-le (h .refused e) (exchangePass-rises (z .l) (rulesOf o) (streamOf z o w)))
 
   pub merged-some : (s : State) → r ≡ Next s → i ≤ 510 → SomeRun z 511 s ws xs
-  merged-some s e k = record { p = p; w = streamOf z o w; at = later (omega arith) (h .done s e) }
+  merged-some s e k = record { program = p; work = streamOf z o w; at = later (omega arith) (h .done s e) }
 
 pub merged-done : (o : Options) (i : ℕ) (w : Work) {z : Shape} {q : State} {ws xs : List ℕ} {p : Program}
     → RunAt z (i + 1 + 1) q ws xs p (exchangePass (z .l) (rulesOf o) (streamOf z o w)) → EndedAs z (i + 2) (Next q) ws xs p (roundOf z o w)

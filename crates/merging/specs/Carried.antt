@@ -33,7 +33,7 @@ pub record CarryingAt (z : Shape) (c : StreamRules) (st : State) (a k : ℕ) (ws
 
 pub carrying-some : {z : Shape} {c : StreamRules} {st : State} {a k : ℕ} {ws xs : List ℕ}
     → SomePass (λ m n p. CarryingAt z c st a k ws xs m n p) → SomeTouched (λ (t : Touched). CarryPre z st a ws xs t)
-carrying-some s = record { state = heldOf (s .p); it = carry-pre (s .it .carry) }
+carrying-some s = record { state = heldOf (s .pass); it = carry-pre (s .it .carry) }
 
 module _ {z : Shape} {c : StreamRules} {st : State} {a k : ℕ} {ws xs : List ℕ} {r : Step} {ws′ xs′ : List ℕ}
     (call : CarryLeft z st a ws xs r ws′ xs′) {m : Absorption} {n : ℕ} {p : Pass} (h : CarryingAt z c st a k ws xs m n p) where

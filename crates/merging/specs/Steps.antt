@@ -224,7 +224,7 @@ module _ {z : Shape} {st : State} {id k : ℕ} {ws xs : List ℕ} {m : Absorptio
   pub absorb-there : AbsorbAt z (st .axes) (st .slots) id k ws xs (heldOf p)
   absorb-there = record {
     axis = record {
-      at = record { granted = h .at .granted; holds = h .at .holds .f };
+      at = record { granted = h .at .granted; holds = h .at .holds .clifford };
       id-in = h .id-in;
       inside = h .at .fine .inside .axes .words id (omega (arith, axes-count (h .at .holds), h .id-in));
     };
@@ -233,7 +233,7 @@ module _ {z : Shape} {st : State} {id k : ℕ} {ws xs : List ℕ} {m : Absorptio
 
 pub absorb-some : {z : Shape} {st : State} {id k : ℕ} {ws xs : List ℕ} → SomePass (λ m n p. AbsorbingAt z st id k ws xs m n p)
     → SomeTouched (λ (t : Touched). AbsorbAt z (st .axes) (st .slots) id k ws xs t)
-absorb-some s = record { state = heldOf (s .p); it = absorb-there (s .it) }
+absorb-some s = record { state = heldOf (s .pass); it = absorb-there (s .it) }
 
 -- what the call leaves
 abbrev pub AbsorbLeft : Shape → State → ℕ → ℕ → List ℕ → List ℕ → Step → List ℕ → List ℕ → Type 0

@@ -152,7 +152,7 @@ counted-holds : {z : Shape} {m : Absorption} {st : State} {ws xs : List ℕ} {p 
     → HoldsPass z m (withMerges (st .merges + 1) st) ws xs (countMerge p)
 unfolding countMerge
 counted-holds {st = st} h = record {
-  f = h .f;
+  clifford = h .clifford;
   out-is = h .out-is;
   begun = h .begun;
   segment = h .segment;
@@ -410,7 +410,7 @@ module _ {z : Shape} {c : StreamRules} {st : State} {id k : ℕ} {ws xs : List �
     reached e said =
         said ∙ ap (λ (y : Sizes). reaches y (c .lookback) (st .out) (v - 1) id ws xs) e
         ∙ ap₂ (λ (axes : List (List ℕ)) (is : List Item). canReach (z .l) (c .lookback) axes is (v - 1) id)
-        (h .at .holds .f .axes .are) (sym (h .at .holds .out-is))
+        (h .at .holds .clifford .axes .are) (sym (h .at .holds .out-is))
 
 -- the model's, for the rules g
 module _ {z : Shape} {c : StreamRules} {g : Rules} (rules : RulesAs c g) {st : State} {id k : ℕ} {ws xs : List ℕ} {n : ℕ} {p : Pass}

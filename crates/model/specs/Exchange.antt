@@ -78,9 +78,9 @@ module _ (l : ℕ) (axes : List (List ℕ)) where
   unfoldable pub improves : Bool → List Rot → List Rot → Option (List Rot)
   improves eager trial old = let new = dropZeroRots (mergeLocally [] trial) in if isBetter eager new old then some new else none
 
--- ---- `try_triple`: A is cut to a suffix, C to a prefix
+-- ---- `try_triple`: the first is cut to a suffix, the third to a prefix
 
--- a start: what of A is skipped, and a suffix that is not empty
+-- a start: what of the first is skipped, and a suffix that is not empty
 pub record Start : Type 0 where
   pub skipped : List Rot
   pub suffix : List Rot
@@ -90,7 +90,7 @@ unfoldable pub starts : List Rot → List Rot → List Start
 starts before [] = []
 starts before (r ∷ rest) = record { skipped = before; suffix = r ∷ rest } ∷ starts (before ++ (r ∷ [])) rest
 
--- an end: a prefix of C that is not empty, and what of C remains behind it
+-- an end: a prefix of the third that is not empty, and what of the third remains behind it
 pub record End : Type 0 where
   pub prefix : List Rot
   pub remainder : List Rot
@@ -100,18 +100,18 @@ unfoldable pub ends : List Rot → List Rot → List End
 ends before [] = []
 ends before (r ∷ rest) = ends (before ++ (r ∷ [])) rest ++ (record { prefix = before ++ (r ∷ []); remainder = rest } ∷ [])
 
--- skipped | A | B | C | remainder
+-- skipped | first | second | third | remainder
 pub record Triple : Type 0 where
   pub skipped : List Rot
-  pub a : List Rot
-  pub b : List Rot
-  pub c : List Rot
+  pub first : List Rot
+  pub second : List Rot
+  pub third : List Rot
   pub remainder : List Rot
 
 unfoldable pub withEnds : List Rot → Start → List End → List Triple
 withEnds b start [] = []
 withEnds b start (end ∷ rest) =
-    record { skipped = start .skipped; a = start .suffix; b = b; c = end .prefix; remainder = end .remainder } ∷ withEnds b start rest
+    record { skipped = start .skipped; first = start .suffix; second = b; third = end .prefix; remainder = end .remainder } ∷ withEnds b start rest
 
 unfoldable pub withStarts : List Rot → List Start → List End → List Triple
 withStarts b [] es = []
@@ -121,14 +121,14 @@ withStarts b (start ∷ rest) es = withEnds b start es ++ withStarts b rest es
 unfoldable pub triples : ℕ → List Rot → List Rot → List Rot → List Triple
 triples candidates a b c = take (suc candidates) (withStarts b (starts [] a) (ends [] c))
 
--- A and C share an axis; without eager swaps, at odd angles
+-- the first and the third share an axis; without eager swaps, at odd angles
 unfoldable pub isUseful : Bool → Rot → Bool
 isUseful eager r = eager || isOdd (r .angle)
 
 unfoldable pub shareAxis : Bool → List Rot → List Rot → Bool
 shareAxis eager a c = anyOf (λ (x : Rot). isUseful eager x && anyOf (λ (y : Rot). isUseful eager y && eqb (x .axis) (y .axis)) c) a
 
--- a triple replaced: what was skipped, the new rotations, and what of C remains behind them
+-- a triple replaced: what was skipped, the new rotations, and what of the third remains behind them
 pub record Swap : Type 0 where
   pub skipped : List Rot
   pub new : List Rot
@@ -141,20 +141,20 @@ module _ (l : ℕ) (axes : List (List ℕ)) (eager : Bool) where
   -- groups g and h exchange, which gives the trial
   unfoldable pub tryExchange : Triple → List Rot → List Rot → List Rot → Option Swap
   tryExchange t g h trial =
-      if generatorsCommute l axes g h then Option·map (swapOf t) (improves l axes eager trial (t .a ++ (t .b ++ t .c))) else none
+      if generatorsCommute l axes g h then Option·map (swapOf t) (improves l axes eager trial (t .first ++ (t .second ++ t .third))) else none
 
   -- "first with second before second with third"
   unfoldable pub tryExchanges : Triple → Option Swap
   tryExchanges t =
-      let second = tryExchange t (t .b) (t .c) (t .a ++ (t .c ++ t .b)) in
-      orElse (tryExchange t (t .a) (t .b) (t .b ++ (t .a ++ t .c))) second
+      let second = tryExchange t (t .second) (t .third) (t .first ++ (t .third ++ t .second)) in
+      orElse (tryExchange t (t .first) (t .second) (t .second ++ (t .first ++ t .third))) second
 
   -- the first of the cuts of a triple that gives a swap
   unfoldable pub tryTriple : List Triple → Option Swap
   tryTriple [] = none
   tryTriple (t ∷ rest) =
       let later = tryTriple rest in
-      orElse (if shareAxis eager (t .a) (t .c) then tryExchanges t else none) later
+      orElse (if shareAxis eager (t .first) (t .third) then tryExchanges t else none) later
 
 -- ---- `run_end`: the longest run of at most `window` rotations that commute with one another
 

@@ -161,7 +161,7 @@ module _ {z : Shape} {st : Slots} {n : ℕ} {ns os rs ws xs : List ℕ} (a : Nod
 
     -- it can be placed
     pub place-there : {x : NodeRecord} → x ≡ nodeRecord ns n → SomeProgram (λ p. PlaceAt p z st n x ws xs)
-    place-there i = record { p = programIn z ns os rs; it = place-at i }
+    place-there i = record { program = programIn z ns os rs; it = place-at i }
 
     -- and has been
     module _ {x : NodeRecord} {r : Step} {ws′ xs′ : List ℕ} (i : x ≡ nodeRecord ns n) (k : RestKept z ws xs ws′ xs′)
@@ -193,7 +193,7 @@ module _ {z : Shape} {st : Slots} {n : ℕ} {ns os rs ws xs : List ℕ} (a : Nod
 
         -- its roots can be packed
         pub roots-there : SomeProgram (λ p. RootsAt p z s n os rs ws′ xs′)
-        roots-there = record { p = programIn z ns os rs; it = roots-at }
+        roots-there = record { program = programIn z ns os rs; it = roots-at }
 
         -- and have been
         pub turn-roots : (q : Step) {ws″ xs″ : List ℕ} → RestKept z ws′ xs′ ws″ xs″

@@ -100,7 +100,7 @@ module _ {z : Shape} {placed : Slots} {n : ℕ} {os rs ws₀ xs₀ : List ℕ} w
     pub phase-there : SomeProgram (λ p. RootsAt p z placed n os rs ws₀ xs₀) → PhasePre (z .operations) os rs r
     phase-there s =
         let w = s .it .program .references in
-        let b = a .at (s .p) (s .it) .some r l .reference in
+        let b = a .at (s .program) (s .it) .some r l .reference in
         record {
           operation = λ h. omega (arith, s .it .operations-long);
           row = λ h. omega (arith, s .it .rows-long);
@@ -125,14 +125,14 @@ module _ {z : Shape} {placed : Slots} {n : ℕ} {os rs ws₀ xs₀ : List ℕ} w
     -- it can be packed
     pub root-there : (phase : ℕ) → SomeProgram (λ p. RootsAt p z placed n os rs ws₀ xs₀) → phase ≡ phaseIn (z .operations) os rs r
         → SomeProgram (λ p. RootAt p z st n r phase ws xs)
-    root-there phase s e = record { p = s .p; it = root-at (s .p) phase (s .it) e }
+    root-there phase s e = record { program = s .program; it = root-at (s .program) phase (s .it) e }
 
     -- it has its next link, whatever packing it left
     pub next-there : {ws′ xs′ : List ℕ} → SomeProgram (λ p. RootsAt p z placed n os rs ws₀ xs₀) → RestKept z ws xs ws′ xs′
         → (rowCount * z .u ≤ length xs′) × (nextRoot < rowCount) × (r < z .u)
     next-there s k =
         let g = rest-granted (s .it .granted) (rest-then (a .rest) k) in
-        (g .numbers-long, omega arith, omega (arith, a .at (s .p) (s .it) .some r l .reference, s .it .program .references, g .sized .row))
+        (g .numbers-long, omega arith, omega (arith, a .at (s .program) (s .it) .some r l .reference, s .it .program .references, g .sized .row))
 
     -- and has been
     module _ {step : Step} {phase : ℕ} {ws′ xs′ : List ℕ} (e : phase ≡ phaseIn (z .operations) os rs r) (k : RestKept z ws xs ws′ xs′)
@@ -161,7 +161,7 @@ module _ {z : Shape} {placed : Slots} {n : ℕ} {os rs ws₀ xs₀ : List ℕ} w
           → link′ ≡ getD (row xs′ (z .u) nextRoot) r 0
           → referencesLeft (z .operations + 2 * z .qubits) link′ < referencesLeft (z .operations + 2 * z .qubits) link
       next-later s st′ link′ f g =
-          let p = s .p in
+          let p = s .program in
           let b = a .at p (s .it) .some r l .reference in
           let w = s .it .program .references in
           rw l (fall (z .operations + 2 * z .qubits) r link′ (omega arith)

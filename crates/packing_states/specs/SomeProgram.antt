@@ -2,5 +2,5 @@
 use Rattle.model.specs.Program.{Program}
 
 pub record SomeProgram (P : Program → Type 0) : Type 0 where
-  pub p : Program
-  pub it : P p
+  pub program : Program
+  pub it : P program

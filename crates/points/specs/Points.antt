@@ -32,9 +32,9 @@ pub record RunAt (z : Shape) (i : ℕ) (st : State) (ws xs : List ℕ) (p : Prog
 
 -- some work is at this point
 pub record SomeRun (z : Shape) (i : ℕ) (st : State) (ws xs : List ℕ) : Type 0 where
-  pub p : Program
-  pub w : Work
-  pub at : RunAt z i st ws xs p w
+  pub program : Program
+  pub work : Work
+  pub at : RunAt z i st ws xs program work
 
 -- refusal 2 grants these
 pub record OptionsIn (o : Options) : Type 0 where
@@ -76,7 +76,7 @@ later {i = i} {j = j} h r = record {
 }
 
 pub some-later : {z : Shape} {i j : ℕ} {st : State} {ws xs : List ℕ} → i ≤ j → SomeRun z i st ws xs → SomeRun z j st ws xs
-some-later h s = record { p = s .p; w = s .w; at = later h (s .at) }
+some-later h s = record { program = s .program; work = s .work; at = later h (s .at) }
 
 -- an answer that is no refusal
 pub ended-at : {z : Shape} {i j : ℕ} {st : State} {ws xs : List ℕ} {p : Program} {w : Work} → i ≤ j → RunAt z i st ws xs p w

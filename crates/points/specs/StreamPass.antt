@@ -43,7 +43,7 @@ module _ (o : Options) (merging : Bool) (st : State) {z : Shape} {ws xs : List �
 
   pub stream-pre : {i : ℕ} → SomeRun z i st ws xs
       → SomeWork (λ prog w g. PassAtWork z (streamRules o merging) prog w (st .axes) (st .out) ws xs g)
-  stream-pre s = record { prog = s .p; w = s .w; g = rulesOf o; it = stream-at (s .at) }
+  stream-pre s = record { program = s .program; work = s .work; rules = rulesOf o; it = stream-at (s .at) }
 
   module _ {r : Step} {ws′ xs′ : List ℕ} (left : LeftP z ws xs ws′ xs′)
       (call : (prog : Program) (w : Work) (g : Rules) → PassAtWork z (streamRules o merging) prog w (st .axes) (st .out) ws xs g
@@ -54,7 +54,7 @@ module _ (o : Options) (merging : Bool) (st : State) {z : Shape} {ws xs : List �
 
     module _ {d : State} (e : r ≡ Next d) where
       pub stream-few : {i : ℕ} → SomeRun z i st ws xs → d .merges + d .absorbed ≤ most
-      stream-few s = call (s .p) (s .w) (rulesOf o) (stream-at (s .at)) .few d e
+      stream-few s = call (s .program) (s .work) (rulesOf o) (stream-at (s .at)) .few d e
 
       pub stream-done : (i : ℕ) (p : Program) (w : Work) → RunAt z i st ws xs p w
           → EndedAs z (i + 1) (Next (withAbsorbed (st .absorbed + d .absorbed) (withSwaps (st .swaps) (withMerges (st .merges + d .merges) d))))

@@ -84,7 +84,7 @@ module _ (z : Shape) (rs s : List ℕ) where
       → RowPre rs x (z .u) (z .operations + (r - 1)) (r - 1)
   rows-need {r} {x} some h i =
       let a = some .it in
-      let p = some .p in
+      let p = some .program in
       record {
         record-long = omega (arith, a .records .long, i .most);
         front = front-pre p z (z .operations + (r - 1)) _ x (sizes-kept (i .only .long) (a .sizes))
@@ -162,7 +162,7 @@ module _ (z : Shape) (os s : List ℕ) where
       → OperationPre os x (z .u) (i - 1)
   operations-need {i} {x} some h f =
       let a = some .it in
-      let p = some .p in
+      let p = some .program in
       record {
         record-long = omega (arith, a .records .long, f .most);
         front = front-pre p z (i - 1) _ x (sizes-kept (f .only .long) (a .sizes)) (omega (arith, a .sizes .program .references, f .most))
@@ -248,7 +248,7 @@ module _ (z : Shape) (os rs s s₁ s₂ : List ℕ) (some : SomeProgram (λ (p :
   }
 
   pub first-rows : SomeProgram (λ (p : Program). RowsPre p z rs s₂)
-  first-rows = record { p = some .p; it = cleared-rows (some .p) (some .it) }
+  first-rows = record { program = some .program; it = cleared-rows (some .program) (some .it) }
 
   module _ (s₃ : List ℕ) (b : RowsLinked z rs s₂ s₃) where
     -- the frame rows are linked
@@ -258,7 +258,7 @@ module _ (z : Shape) (os rs s s₁ s₂ : List ℕ) (some : SomeProgram (λ (p :
         record { sizes = sizes-kept (b .only .long) (c .sizes); records = a .operations; start = b .linked p c }
 
     pub then-operations : SomeProgram (λ (p : Program). OperationsPre p z os s₃)
-    then-operations = record { p = some .p; it = after-rows (some .p) (some .it) }
+    then-operations = record { program = some .program; it = after-rows (some .program) (some .it) }
 
     pub roots-linked : {t : List ℕ} → OperationsLinked z os s₃ t → RootsLinked z os rs s t
     unfolding member anyOf allOf

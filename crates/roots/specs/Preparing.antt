@@ -57,7 +57,7 @@ module _ (z : Shape) (ns os rs s : List ℕ) (pre : PreparePre z ns os rs s) whe
   }
 
   pub first-links : SomeProgram (λ (q : Program). LinkPre q z os rs s)
-  first-links = record { p = p; it = links-pre }
+  first-links = record { program = p; it = links-pre }
 
   module _ (s₁ : List ℕ) (l : RootsLinked z os rs s s₁) where
     links : Links p z s₁

@@ -93,7 +93,7 @@ ends-length m before (r ∷ rest) h =
 
 -- all triples that are tried are cut from the same rotations
 pub record Covers (m : ℕ) (t : Triple) : Type 0 where
-  pub whole : length (t .skipped) + (length (t .a) + length (t .b) + length (t .c)) + length (t .remainder) ≡ m
+  pub whole : length (t .skipped) + (length (t .first) + length (t .second) + length (t .third)) + length (t .remainder) ≡ m
 
 withEnds-length : (i k : ℕ) (b : List Rot) (s : Start) (es : List End) → StartOf i s → Every (EndOf k) es
     → Every (Covers (i + length b + k)) (withEnds b s es)
@@ -139,31 +139,31 @@ three-two a b c = omega (arith, length-append a (c ++ b), length-append c b)
 module _ (l : ℕ) (axes : List (List ℕ)) (eager : Bool) where
   -- a trial is no longer than what it replaces
   made-length : (m : ℕ) (t : Triple) (trial : List Rot) (o : Option (List Rot)) → Covers m t
-      → length trial ≡ length (t .a) + length (t .b) + length (t .c)
+      → length trial ≡ length (t .first) + length (t .second) + length (t .third)
       → Longest (length trial) o → Leaves m (Option·map (swapOf t) o)
   made-length m t trial none c e h = tt
   made-length m t trial (some new) c e h = omega arith
 
-  tryExchange-length : (m : ℕ) (t : Triple) (g h trial : List Rot) → Covers m t → length trial ≡ length (t .a) + length (t .b) + length (t .c)
+  tryExchange-length : (m : ℕ) (t : Triple) (g h trial : List Rot) → Covers m t → length trial ≡ length (t .first) + length (t .second) + length (t .third)
       → Leaves m (tryExchange l axes eager t g h trial)
   unfolding tryExchange
   tryExchange-length m t g h trial c e =
-      let old = t .a ++ (t .b ++ t .c) in
+      let old = t .first ++ (t .second ++ t .third) in
       by-if (Leaves m) _ _ _ (made-length m t trial (improves l axes eager trial old) c e (improves-length l axes eager trial old)) tt
 
   tryExchanges-length : (m : ℕ) (t : Triple) → Covers m t → Leaves m (tryExchanges l axes eager t)
   unfolding tryExchanges
   tryExchanges-length m t c =
-      let one = tryExchange l axes eager t (t .a) (t .b) (t .b ++ (t .a ++ t .c)) in
-      let two = tryExchange l axes eager t (t .b) (t .c) (t .a ++ (t .c ++ t .b)) in
-      or-else m one two (tryExchange-length m t _ _ _ c (three-one (t .a) (t .b) (t .c)))
-      (tryExchange-length m t _ _ _ c (three-two (t .a) (t .b) (t .c)))
+      let one = tryExchange l axes eager t (t .first) (t .second) (t .second ++ (t .first ++ t .third)) in
+      let two = tryExchange l axes eager t (t .second) (t .third) (t .first ++ (t .third ++ t .second)) in
+      or-else m one two (tryExchange-length m t _ _ _ c (three-one (t .first) (t .second) (t .third)))
+      (tryExchange-length m t _ _ _ c (three-two (t .first) (t .second) (t .third)))
 
   tryTriple-length : (m : ℕ) (ts : List Triple) → Every (Covers m) ts → Leaves m (tryTriple l axes eager ts)
   unfolding tryTriple
   tryTriple-length m [] h = tt
   tryTriple-length m (t ∷ ts) h =
-      or-else m (if shareAxis eager (t .a) (t .c) then tryExchanges l axes eager t else none) (tryTriple l axes eager ts)
+      or-else m (if shareAxis eager (t .first) (t .third) then tryExchanges l axes eager t else none) (tryTriple l axes eager ts)
       (by-if (Leaves m) _ _ _ (tryExchanges-length m t (h .0)) tt) (tryTriple-length m ts (h .1))
 
 abbrev RunEndOf : ℕ → RunEnd → Type 0

@@ -325,7 +325,7 @@ module _ {z : Shape} {st : State} {x : Tagged} {ws xs : List ℕ} {r : Step} {ws
     barrier-small =
         let g = h .carry .at .granted .sized in
         let k = carried-at (h .carry) call e in (
-          omega (arith, carried-in (h .carry) call e, g .words-row (to .axes) (omega (arith, k .holds .f .room)), g .u-small),
+          omega (arith, carried-in (h .carry) call e, g .words-row (to .axes) (omega (arith, k .holds .clifford .room)), g .u-small),
           omega (arith, out-few (carried-at (h .carry) call e), g .u-small),
         )
 
@@ -350,7 +350,7 @@ module _ {z : Shape} {st : State} {x : Tagged} {ws xs : List ℕ} {r : Step} {ws
           let merges = ap (λ (x : State). x .merges) (carried-same (h .carry) call e) in
           let absorbed = ap (λ (x : State). x .absorbed) (carried-same (h .carry) call e) in
           as-next (record {
-            f = holds-other (put .only) refl refl (k .f);
+            clifford = holds-other (put .only) refl refl (k .clifford);
             out-is =
                 ap (λ (is : List Item). is ++ (barrier (x .tag - 1) (imageId (z .l) (carryAxis (z .l) p (x .axis)) (x .axis))
                 ((axisImage (z .l) (carryAxis (z .l) p (x .axis)) (x .axis) .turns + x .angle) % 4) ∷ [])) (k .out-is)

@@ -159,9 +159,9 @@ pub record StreamAt (z : Shape) (c : StreamRules) (st : State) (k : ℕ) (ws xs 
   pub absorbed : st .absorbed ≡ 0
 
 pub record SomeStream (P : Rules → Pass → Type 0) : Type 0 where
-  pub g : Rules
-  pub p : Pass
-  pub it : P g p
+  pub rules : Rules
+  pub pass : Pass
+  pub it : P rules pass
 
 -- items i to k are still to be read
 pub record StreamNow (z : Shape) (c : StreamRules) (k : ℕ) (xs₀ ws xs : List ℕ) (st : State) (i : ℕ) (g : Rules) (p : Pass) : Type 0 where
@@ -264,7 +264,7 @@ pub record StreamedAs (z : Shape) (m : Absorption) (k : ℕ) (r : Step) (ws xs :
 module _ {z : Shape} {c : StreamRules} {k : ℕ} {st₀ : State} {ws₀ xs₀ ws xs : List ℕ} {st : State} {i : ℕ} {x : Tagged}
     (b : Reading z c k st₀ ws₀ xs₀ ws xs st i) (more : i < k) (read : x ≡ taggedAt xs (z .u) itemsRow i) where
   pub reading-turn : SomeStream (λ g p. StreamAt z c st₀ k ws₀ xs₀ g p) → SomePass (λ m n p. ItemAt z c st x ws xs m n p)
-  reading-turn s = record { m = s .g .absorption; n = i; p = here b more read (s .it) .now; it = item-at b more read (s .it) }
+  reading-turn s = record { absorption = s .rules .absorption; items = i; pass = here b more read (s .it) .now; it = item-at b more read (s .it) }
 
   -- the rest, from the state after item i
   after-item : {g : Rules} {p : Pass} (h : StreamAt z c st₀ k ws₀ xs₀ g p)

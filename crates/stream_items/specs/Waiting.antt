@@ -201,7 +201,7 @@ module _ {z : Shape} {st : State} {all : Bool} {id i : ℕ} {ws xs : List ℕ} {
             → s ≡ pickedBy all (z .l) (p .store .axes) id (x .axis)
         picks-is k =
             k ∙ ap (λ (v : Sizes). pickedBy all (v .l) (storedAxes v ws) id (x .axis)) sizes
-            ∙ ap (λ (axes : List (List ℕ)). pickedBy all (z .l) axes id (x .axis)) (h .at .holds .f .axes .are)
+            ∙ ap (λ (axes : List (List ℕ)). pickedBy all (z .l) axes id (x .axis)) (h .at .holds .clifford .axes .are)
 
         -- it is left to wait
         pub turned-left : {s : Bool} {after : State} {xs′ : List ℕ} → s ≡ pickedBy all (y .l) (storedAxes y ws) id (x .axis) → s ≡ false

@@ -247,7 +247,7 @@ module _ {z : Shape} {st₀ : State} {n : ℕ} {all : Bool} {id : ℕ} {ws₀ xs
         (drop (suc (placeIn (z .u) xs i)) (p .out))) (sym item) (sym (here .axes))
 
   pub scan-turn : SomePass (λ m k p. ListedAt z st₀ n all id ws₀ xs₀ k p) → SomePass (λ m k p. TurnAt z st all id i ws xs k p)
-  scan-turn s = record { m = off; n = s .n; p = here (s .it) .now; it = turn-at (s .it) }
+  scan-turn s = record { absorption = off; items = s .items; pass = here (s .it) .now; it = turn-at (s .it) }
 
   module _ {r : Step} {ws′ xs′ : List ℕ} (call : TurnLeft z st all id i ws xs r ws′ xs′) where
     pub scan-left : LeftS z ws₀ xs₀ ws′ xs′

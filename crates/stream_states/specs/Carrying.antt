@@ -39,7 +39,7 @@ module _ {z : Shape} {st : State} {a : ℕ} {ws xs : List ℕ} {m : Absorption} 
   pub carry-pre : CarryPre z st a ws xs (heldOf p)
   carry-pre = record {
     axis = record {
-      at = record { granted = h .at .granted; holds = h .at .holds .f };
+      at = record { granted = h .at .granted; holds = h .at .holds .clifford };
       id-in = h .a-in;
       inside = h .at .fine .inside .axes .words a (omega (arith, axes-count (h .at .holds), h .a-in));
     };

@@ -19,7 +19,7 @@ use Rattle.stream_states.specs.States.{HoldsPass, PassAt}
 
 module _ {z : Shape} {m : Absorption} {st : State} {ws xs : List ℕ} {p : Pass} (h : HoldsPass z m st ws xs p) where
   pub axes-count : length (p .store .axes) ≡ st .axes
-  axes-count = held-count (h .f .axes)
+  axes-count = held-count (h .clifford .axes)
 
   pub out-long : length (p .out) ≡ st .out
   out-long = ap length (h .out-is) ∙ view-length itemSaid xs (z .u) outRow 0 (st .out)
@@ -29,7 +29,7 @@ module _ {z : Shape} {m : Absorption} {n : ℕ} {st : State} {ws xs : List ℕ} 
   out-few = omega (arith, out-long (h .holds), h .fine .inside .few, h .space)
 
   pub axes-few : st .axes < z .u
-  axes-few = h .granted .sized .words-row (st .axes) (omega (arith, h .holds .f .room))
+  axes-few = h .granted .sized .words-row (st .axes) (omega (arith, h .holds .clifford .room))
 
   -- the item at a place
   pub out-item : (i : ℕ) → i < st .out → (d : Item) → getD (p .out) i d ≡ itemAt xs (z .u) outRow i
@@ -47,7 +47,7 @@ module _ {z : Shape} {m : Absorption} {n : ℕ} {st : State} {ws xs : List ℕ} 
 
   -- both stores hold the axes
   pub axes-stored : Stored (sizesOf z (st .axes)) ws xs
-  axes-stored = held-stored (h .holds .f .axes)
+  axes-stored = held-stored (h .holds .clifford .axes)
 
   -- there is room for one place more
   pub waiting-few : m ≡ lazy → st .waiting < z .u

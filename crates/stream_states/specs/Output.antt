@@ -147,7 +147,7 @@ module _ {z : Shape} {m : Absorption} {st : State} {ws xs xs′ rs : List ℕ} {
         absorbed = j;
       }) ws′ xs′ q
   pass-other q f same-out same-places merges absorbed = record {
-    f = f;
+    clifford = f;
     out-is = same-out ∙ h .out-is ∙ sym (view-other o outRow (omega arith) a itemSaid 0 (st .out));
     begun = h .begun;
     segment = λ i s e. ap (λ (x : Tagged). x .tag) (same-item i) ∙ h .segment i s e;
@@ -168,7 +168,7 @@ never e = let f : _≡_ {A = ℕ} 0 1 = cc in omega arith
 pub without-list : {z : Shape} {m : Absorption} {st : State} {ws xs : List ℕ} {p : Pass} (n : ℕ) → HoldsPass z m st ws xs p
     → HoldsPass z off (withWaiting n st) ws xs p
 without-list n h = record {
-  f = h .f;
+  clifford = h .clifford;
   out-is = h .out-is;
   begun = h .begun;
   segment = h .segment;
@@ -184,7 +184,7 @@ pub with-list : {z : Shape} {m : Absorption} {st : State} {ws xs xs′ : List �
     → HoldsPass z off st ws xs p → (m ≡ lazy → Waits z xs′ n (st .out)) → HoldsPass z m (withWaiting n st) ws xs′ p
 unfolding member anyOf
 with-list {z} {st = st} n o h w = record {
-  f = holds-other o refl refl (h .f);
+  clifford = holds-other o refl refl (h .clifford);
   out-is = h .out-is ∙ sym (view-other o outRow (omega arith) refl itemSaid 0 (st .out));
   begun = h .begun;
   segment = λ i s e. ap (λ (x : Tagged). x .tag) (tagged-other o outRow (omega arith) refl i) ∙ h .segment i s e;
@@ -214,7 +214,7 @@ module _ {z : Shape} {m : Absorption} {st : State} {ws xs xs′ : List ℕ} {p :
   pub angle-set : (m ≡ lazy → isClifford k ≡ false) → HoldsPass z m st ws xs′ (setAngle j a k p)
   unfolding setAngle member anyOf
   angle-set c = record {
-    f = holds-other (put .only) refl refl (h .f);
+    clifford = holds-other (put .only) refl refl (h .clifford);
     out-is =
         ap (λ (is : List Item). set is j (rotation (rot a k))) (h .out-is)
         ∙ sym (put-set-0 put itemSaid (st .out) inside ∙ ap (set (itemsIn xs (z .u) outRow 0 (st .out)) j) (rotation-said a k));
@@ -240,7 +240,7 @@ module _ {z : Shape} {m : Absorption} {st : State} {ws xs xs′ : List ℕ} {p :
   pub last-cleared : HoldsPass z m st ws xs′ (withLast (setLast a nowhere (p .last)) p)
   unfolding withLast member anyOf
   last-cleared = record {
-    f = holds-other only-last refl refl (h .f);
+    clifford = holds-other only-last refl refl (h .clifford);
     out-is = h .out-is ∙ sym (view-other only-last outRow (omega arith) refl itemSaid 0 (st .out));
     begun = h .begun;
     segment = λ i s e. ap (λ (x : Tagged). x .tag) (tagged-other only-last outRow (omega arith) refl i) ∙ h .segment i s e;
@@ -287,7 +287,7 @@ module _ {z : Shape} {m : Absorption} {st : State} {ws xs xs₁ xs₂ : List ℕ
   pub rotation-put : HoldsPass z off (withOut (st .out + 1) st) ws xs₂ (putOutRotation p a k)
   unfolding putOutRotation putOut withLast member anyOf
   rotation-put = record {
-    f = holds-other (put .only) refl refl (holds-other only-named refl refl (h .f));
+    clifford = holds-other (put .only) refl refl (holds-other only-named refl refl (h .clifford));
     out-is =
         ap (λ (is : List Item). is ++ (rotation (rot a k) ∷ []))
         (h .out-is ∙ sym (view-other only-named outRow (omega arith) refl itemSaid 0 (st .out)))

@@ -51,7 +51,7 @@ pub record Waits (z : Shape) (xs : List ℕ) (n out : ℕ) : Type 0 where
 
 -- memory holds p
 pub record HoldsPass (z : Shape) (m : Absorption) (st : State) (ws xs : List ℕ) (p : Pass) : Type 0 where
-  pub f : Holds z (st .axes) (st .slots) ws xs (heldOf p)
+  pub clifford : Holds z (st .axes) (st .slots) ws xs (heldOf p)
   pub out-is : p .out ≡ itemsIn xs (z .u) outRow 0 (st .out)
   pub begun : st .start ≤ st .out
   -- no barrier in the segment
@@ -77,10 +77,10 @@ pub record PassAt (z : Shape) (m : Absorption) (n : ℕ) (st : State) (ws xs : L
 
 -- some state of the model, of some way to absorb, after some items
 pub record SomePass (P : Absorption → ℕ → Pass → Type 0) : Type 0 where
-  pub m : Absorption
-  pub n : ℕ
-  pub p : Pass
-  pub it : P m n p
+  pub absorption : Absorption
+  pub items : ℕ
+  pub pass : Pass
+  pub it : P absorption items pass
 
 -- ---- rules
 

@@ -27,7 +27,7 @@ module _ (m : ℕ → ℕ) (law : Measure m) where
 
   -- of a triple
   unfoldable pub tTriple : Triple → ℕ
-  tTriple t = sizeOfRots m (t .skipped) + (sizeOfRots m (t .a) + sizeOfRots m (t .b) + sizeOfRots m (t .c)) + sizeOfRots m (t .remainder)
+  tTriple t = sizeOfRots m (t .skipped) + (sizeOfRots m (t .first) + sizeOfRots m (t .second) + sizeOfRots m (t .third)) + sizeOfRots m (t .remainder)
 
   -- a swap that leaves at most n
   abbrev pub AtMost : ℕ → Option Swap → Type 0
@@ -79,7 +79,7 @@ module _ (m : ℕ → ℕ) (law : Measure m) where
       by-if (Below (sizeOfRots m trial)) _ _ none
       (omega (arith, rots-keep m isNonzero (mergeLocally l axes [] trial), mergeLocally-no-more l axes [] trial, rots-nil m)) tt
 
-  made-no-more : (t : Triple) (trial : List Rot) → sizeOfRots m trial ≡ sizeOfRots m (t .a) + sizeOfRots m (t .b) + sizeOfRots m (t .c)
+  made-no-more : (t : Triple) (trial : List Rot) → sizeOfRots m trial ≡ sizeOfRots m (t .first) + sizeOfRots m (t .second) + sizeOfRots m (t .third)
       → (o : Option (List Rot)) → Below (sizeOfRots m trial) o → AtMost (tTriple t) (Option·map (swapOf t) o)
   unfolding tSwap tTriple
   made-no-more t trial e none h = tt
@@ -137,27 +137,27 @@ module _ (m : ℕ → ℕ) (law : Measure m) where
 
   module _ (l : ℕ) (axes : List (List ℕ)) (eager : Bool) where
     tryExchange-no-more : (t : Triple) (g h trial : List Rot)
-        → sizeOfRots m trial ≡ sizeOfRots m (t .a) + sizeOfRots m (t .b) + sizeOfRots m (t .c)
+        → sizeOfRots m trial ≡ sizeOfRots m (t .first) + sizeOfRots m (t .second) + sizeOfRots m (t .third)
         → AtMost (tTriple t) (tryExchange l axes eager t g h trial)
     unfolding tryExchange
     tryExchange-no-more t g h trial e =
-        let old = t .a ++ (t .b ++ t .c) in
+        let old = t .first ++ (t .second ++ t .third) in
         by-if (AtMost (tTriple t)) _ _ _ (made-no-more t trial e (improves l axes eager trial old) (improves-no-more l axes eager trial old)) tt
 
     tryExchanges-no-more : (t : Triple) → AtMost (tTriple t) (tryExchanges l axes eager t)
     unfolding tryExchanges
     tryExchanges-no-more t =
-        let one = tryExchange l axes eager t (t .a) (t .b) (t .b ++ (t .a ++ t .c)) in
-        let two = tryExchange l axes eager t (t .b) (t .c) (t .a ++ (t .c ++ t .b)) in
+        let one = tryExchange l axes eager t (t .first) (t .second) (t .second ++ (t .first ++ t .third)) in
+        let two = tryExchange l axes eager t (t .second) (t .third) (t .first ++ (t .third ++ t .second)) in
         orElse-no-more (tTriple t) one two
-        (tryExchange-no-more t _ _ _ (omega (arith, rots-append m (t .b) (t .a ++ t .c), rots-append m (t .a) (t .c))))
-        (tryExchange-no-more t _ _ _ (omega (arith, rots-append m (t .a) (t .c ++ t .b), rots-append m (t .c) (t .b))))
+        (tryExchange-no-more t _ _ _ (omega (arith, rots-append m (t .second) (t .first ++ t .third), rots-append m (t .first) (t .third))))
+        (tryExchange-no-more t _ _ _ (omega (arith, rots-append m (t .first) (t .third ++ t .second), rots-append m (t .third) (t .second))))
 
     tryTriple-no-more : (n : ℕ) (ts : List Triple) → Every (Counts n) ts → AtMost n (tryTriple l axes eager ts)
     unfolding tryTriple
     tryTriple-no-more n [] h = tt
     tryTriple-no-more n (t ∷ ts) h =
-        orElse-no-more n (if shareAxis eager (t .a) (t .c) then tryExchanges l axes eager t else none) (tryTriple l axes eager ts)
+        orElse-no-more n (if shareAxis eager (t .first) (t .third) then tryExchanges l axes eager t else none) (tryTriple l axes eager ts)
         (by-if (AtMost n) _ _ _ (rw (h .0) at (tryExchanges-no-more t)) tt) (tryTriple-no-more n ts (h .1))
 
   -- ---- swaps

@@ -99,7 +99,7 @@ module _ (S R : Rot → Type 0) (kept : KeptByMerging S R) where
       (ends-by (before ++ (r ∷ [])) rest one (k .1)) (one, k .1)
 
   abbrev TripleR : Triple → Type 0
-  TripleR t = AllR (t .skipped) × AllR (t .a) × AllR (t .b) × AllR (t .c) × AllR (t .remainder)
+  TripleR t = AllR (t .skipped) × AllR (t .first) × AllR (t .second) × AllR (t .third) × AllR (t .remainder)
 
   withEnds-by : (b : List Rot) (s : Start) (es : List End) → AllR b → StartR s → Every EndR es → Every TripleR (withEnds b s es)
   unfolding withEnds
@@ -137,22 +137,22 @@ module _ (S R : Rot → Type 0) (kept : KeptByMerging S R) where
     tryExchange-by : (t : Triple) (g h trial : List Rot) → TripleR t → AllR trial → SwapR (tryExchange l axes eager t g h trial)
     unfolding tryExchange
     tryExchange-by t g h trial k f =
-        let old = t .a ++ (t .b ++ t .c) in
+        let old = t .first ++ (t .second ++ t .third) in
         by-if SwapR _ _ _ (made-by t (improves l axes eager trial old) k (improves-by l axes eager trial old f)) tt
 
     tryExchanges-by : (t : Triple) → TripleR t → SwapR (tryExchanges l axes eager t)
     unfolding tryExchanges
     tryExchanges-by t k =
-        or-else (tryExchange l axes eager t (t .a) (t .b) (t .b ++ (t .a ++ t .c)))
-        (tryExchange l axes eager t (t .b) (t .c) (t .a ++ (t .c ++ t .b)))
-        (tryExchange-by t _ _ _ k (every-append R (t .b) (t .a ++ t .c) (k .2) (every-append R (t .a) (t .c) (k .1) (k .3))))
-        (tryExchange-by t _ _ _ k (every-append R (t .a) (t .c ++ t .b) (k .1) (every-append R (t .c) (t .b) (k .3) (k .2))))
+        or-else (tryExchange l axes eager t (t .first) (t .second) (t .second ++ (t .first ++ t .third)))
+        (tryExchange l axes eager t (t .second) (t .third) (t .first ++ (t .third ++ t .second)))
+        (tryExchange-by t _ _ _ k (every-append R (t .second) (t .first ++ t .third) (k .2) (every-append R (t .first) (t .third) (k .1) (k .3))))
+        (tryExchange-by t _ _ _ k (every-append R (t .first) (t .third ++ t .second) (k .1) (every-append R (t .third) (t .second) (k .3) (k .2))))
 
     tryTriple-by : (ts : List Triple) → Every TripleR ts → SwapR (tryTriple l axes eager ts)
     unfolding tryTriple
     tryTriple-by [] h = tt
     tryTriple-by (t ∷ ts) h =
-        or-else (if shareAxis eager (t .a) (t .c) then tryExchanges l axes eager t else none) (tryTriple l axes eager ts)
+        or-else (if shareAxis eager (t .first) (t .third) then tryExchanges l axes eager t else none) (tryTriple l axes eager ts)
         (by-if SwapR _ _ _ (tryExchanges-by t (h .0)) tt) (tryTriple-by ts (h .1))
 
   abbrev RunEndR : RunEnd → Type 0

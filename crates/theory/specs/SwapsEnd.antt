@@ -60,15 +60,15 @@ orElse-leaves m (some x) y hx hy = hx
 module _ (l : ℕ) (axes : List (List ℕ)) (eager : Bool) where
   tryExchange-leaves : (m : ℕ) (t : Triple) (g h trial : List Rot) → After m t → Leaves m (tryExchange l axes eager t g h trial)
   unfolding tryExchange
-  tryExchange-leaves m t g h trial a = by-if (Leaves m) _ _ _ (made-leaves m t (improves l axes eager trial (t .a ++ (t .b ++ t .c))) a) tt
+  tryExchange-leaves m t g h trial a = by-if (Leaves m) _ _ _ (made-leaves m t (improves l axes eager trial (t .first ++ (t .second ++ t .third))) a) tt
 
   tryTriple-leaves : (m : ℕ) (ts : List Triple) → Every (After m) ts → Leaves m (tryTriple l axes eager ts)
   unfolding tryTriple tryExchanges
   tryTriple-leaves m [] h = tt
   tryTriple-leaves m (t ∷ ts) h =
-      let one = tryExchange l axes eager t (t .a) (t .b) (t .b ++ (t .a ++ t .c)) in
-      let two = tryExchange l axes eager t (t .b) (t .c) (t .a ++ (t .c ++ t .b)) in
-      orElse-leaves m (if shareAxis eager (t .a) (t .c) then orElse one two else none) (tryTriple l axes eager ts)
+      let one = tryExchange l axes eager t (t .first) (t .second) (t .second ++ (t .first ++ t .third)) in
+      let two = tryExchange l axes eager t (t .second) (t .third) (t .first ++ (t .third ++ t .second)) in
+      orElse-leaves m (if shareAxis eager (t .first) (t .third) then orElse one two else none) (tryTriple l axes eager ts)
       (by-if (Leaves m) _ _ _ (orElse-leaves m one two (tryExchange-leaves m t _ _ _ (h .0)) (tryExchange-leaves m t _ _ _ (h .0))) tt)
       (tryTriple-leaves m ts (h .1))
 

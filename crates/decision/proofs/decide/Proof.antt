@@ -51,7 +51,7 @@ passes-requires c κs =
     let p = c .before .before .before in
     let pack = p .before .before .before .before .before .before in
     let start = pack .before .before .before .before .before .before .before .before in
-    (record { ws₀ = _; xs₀ = _; r = _; pre = start .pre .0; done = pack .pack .ensures; accepted = p .p .given .1 }, start .pre .1)
+    (record { ws₀ = _; xs₀ = _; answer = _; pre = start .pre .0; done = pack .pack .ensures; accepted = p .p .given .1 }, start .pre .1)
 
 same-length-3 : tie.Need-same-length-3
 same-length-3 c =

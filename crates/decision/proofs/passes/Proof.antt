@@ -15,7 +15,7 @@ passes-requires c κs =
     let first-state = c .before .before in
     let start-run = first-state .before .before .before in
     let start = start-run .before .before .before .before .before .before .before .before in (
-      record { p = _; w = _; at = first-run (start .pre .0) (start-run .start-run .ensures) (first-state .first-state .ensures) },
+      record { program = _; work = _; at = first-run (start .pre .0) (start-run .start-run .ensures) (first-state .first-state .ensures) },
       start .pre .1,
     )
 

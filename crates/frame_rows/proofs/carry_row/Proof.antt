@@ -25,7 +25,7 @@ carry-requires c κs =
     let test = c .before .before .before in
     let root-at = test .before .before in
     let start = root-at .before .before .before .before in
-    record { state = heldOf (start .pre .p); it = carry-pre (row-carry (start .pre .it) (root-at .root-at .ensures) (test .if1 .left)) }
+    record { state = heldOf (start .pre .pass); it = carry-pre (row-carry (start .pre .it) (root-at .root-at .ensures) (test .if1 .left)) }
 
 enum-known-c : tie.Need-enum-known-c
 enum-known-c c = search needs

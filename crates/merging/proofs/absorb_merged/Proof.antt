@@ -7,7 +7,7 @@ use Rattle.merging.proofs.absorb_merged.Tie as tie
 absorb-requires : tie.Need-absorb-requires
 absorb-requires c κs =
     let start = c .before .before .before .before in
-    record { m = start .pre .m; n = start .pre .n; p = start .pre .p; it = start .pre .it .at }
+    record { absorption = start .pre .absorption; items = start .pre .items; pass = start .pre .pass; it = start .pre .it .at }
 
 enum-known-t : tie.Need-enum-known-t
 enum-known-t c = search needs

@@ -40,9 +40,9 @@ take-requires c κs =
     let carry = c′ .before .before .before .before .before .before in
     let start = carry .before .before .before .before .before in
     record {
-      m = start .pre .m;
-      n = start .pre .n;
-      p = _;
+      absorption = start .pre .absorption;
+      items = start .pre .items;
+      pass = _;
       it = taking-there (carry .carry .ensures) (start .pre .it) (c′ .c .given .1)
           (with-sign .with-sign .ensures);
     }

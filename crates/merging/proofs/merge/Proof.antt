@@ -46,9 +46,9 @@ absorb-merged-requires c κs =
     let angle-at = test′ .before .before in
     let start = angle-at .before .before .before .before in
     record {
-      m = start .pre .m;
-      n = start .pre .n;
-      p = countMerge (start .pre .p);
+      absorption = start .pre .absorption;
+      items = start .pre .items;
+      pass = countMerge (start .pre .pass);
       it = merged-there (start .pre .it)
           (angle-at .angle-at .ensures) (test′ .if1 .left) (at-once .at-once .ensures) (test .if2 .taken);
     }

@@ -18,9 +18,9 @@ absorb-requires c κs =
     let at-once = test .before in
     let start = at-once .before .before .before in
     record {
-      m = start .pre .m;
-      n = start .pre .n;
-      p = start .pre .p;
+      absorption = start .pre .absorption;
+      items = start .pre .items;
+      pass = start .pre .pass;
       it = taking-absorbs (start .pre .it) (at-once .at-once .ensures)
           (test .if1 .taken);
     }
@@ -114,9 +114,9 @@ merge-requires c κs =
     let last-of = test .before in
     let start = last-of .before .before .before .before .before .before in
     record {
-      m = start .pre .m;
-      n = start .pre .n;
-      p = start .pre .p;
+      absorption = start .pre .absorption;
+      items = start .pre .items;
+      pass = start .pre .pass;
       it = taking-merges (start .pre .it) (last-of .last-of .ensures)
           (test .if2 .left);
     }

@@ -18,9 +18,9 @@ absorb-waiting-requires c κs =
     let test′ = test .before .before in
     let start = test′ .before .before .before .before in
     record {
-      m = start .pre .m;
-      n = start .pre .n;
-      p = start .pre .p;
+      absorption = start .pre .absorption;
+      items = start .pre .items;
+      pass = start .pre .pass;
       it = all-there (start .pre .it) (not-false _ (test′ .if1 .left))
           (not-false _ (test .if2 .left));
     }

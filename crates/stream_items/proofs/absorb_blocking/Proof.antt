@@ -10,7 +10,7 @@ use Rattle.stream_items.proofs.absorb_blocking.Tie as tie
 carry-requires : tie.Need-carry-requires
 carry-requires c κs =
     let start = c .before .before .before .before in
-    record { state = heldOf (start .pre .p); it = carry-pre (start .pre .it .carry) }
+    record { state = heldOf (start .pre .pass); it = carry-pre (start .pre .it .carry) }
 
 enum-known-c : tie.Need-enum-known-c
 enum-known-c c = search needs
@@ -35,7 +35,7 @@ absorb-waiting-requires c κs =
     let c′ = c .before .before .before in
     let carry = c′ .before .before .before .before .before .before in
     let start = carry .before .before .before .before .before in
-    record { m = lazy; n = start .pre .n; p = _; it = wait-there (carry .carry .ensures) (start .pre .it) (c′ .c .given .1) }
+    record { absorption = lazy; items = start .pre .items; pass = _; it = wait-there (carry .carry .ensures) (start .pre .it) (c′ .c .given .1) }
 
 same-length-3 : tie.Need-same-length-3
 same-length-3 c = search needs

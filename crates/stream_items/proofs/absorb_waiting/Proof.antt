@@ -12,7 +12,7 @@ absorb-listed-requires : tie.Need-absorb-listed-requires
 absorb-listed-requires c κs =
     let with-waiting = c .before .before in
     let start = with-waiting .before .before .before in
-    record { m = off; n = start .pre .n; p = start .pre .p; it = listed (with-waiting .with-waiting .ensures) (start .pre .it) }
+    record { absorption = off; items = start .pre .items; pass = start .pre .pass; it = listed (with-waiting .with-waiting .ensures) (start .pre .it) }
 
 same-length : tie.Need-same-length
 same-length c = search needs

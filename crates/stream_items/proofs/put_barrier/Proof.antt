@@ -13,7 +13,7 @@ cast-a c = search needs
 carry-requires : tie.Need-carry-requires
 carry-requires c κs =
     let start = c .before .before .before .before .before in
-    record { state = heldOf (start .pre .p); it = carry-pre (start .pre .it .carry) }
+    record { state = heldOf (start .pre .pass); it = carry-pre (start .pre .it .carry) }
 
 enum-known-c : tie.Need-enum-known-c
 enum-known-c c = search needs

@@ -51,9 +51,9 @@ absorb-blocking-requires c κs =
     let test′ = test .before .before in
     let start = test′ .before .before .before .before in
     record {
-      m = start .pre .m;
-      n = start .pre .n;
-      p = start .pre .p;
+      absorption = start .pre .absorption;
+      items = start .pre .items;
+      pass = start .pre .pass;
       it = blocking-there (start .pre .it)
           (start .pre .it .carrying .mode ∙ said-lazy (start .args .rules) (not-false _ (test′ .if1 .left))
           (not-false _ (test .if2 .left)));
@@ -95,9 +95,9 @@ carry-and-take-requires-3 c κs =
     let is-lazy = start .pre .it .carrying .mode
     ∙ said-lazy (start .args .rules) (not-false _ (test′ .if1 .left)) (not-false _ (test .if2 .left)) in
     record {
-      m = start .pre .m;
-      n = start .pre .n;
-      p = _;
+      absorption = start .pre .absorption;
+      items = start .pre .items;
+      pass = _;
       it =
           blocked-carrying (start .pre .it) is-lazy (absorb-blocking .absorb-blocking .ensures .0)
           (absorb-blocking .absorb-blocking .ensures .1 _ _ (blocking-there (start .pre .it) is-lazy)) (t .t .given .1);

@@ -12,7 +12,7 @@ rotation-requires : tie.Need-rotation-requires
 rotation-requires c κs =
     let test = c .before .before .before in
     let start = test .before .before .before .before in
-    record { m = start .pre .m; n = start .pre .n; p = start .pre .p; it = item-rotation (start .pre .it) (test .if1 .taken) }
+    record { absorption = start .pre .absorption; items = start .pre .items; pass = start .pre .pass; it = item-rotation (start .pre .it) (test .if1 .taken) }
 
 same-length : tie.Need-same-length
 same-length c = search needs
@@ -33,7 +33,7 @@ returns c =
 absorb-all-requires : tie.Need-absorb-all-requires
 absorb-all-requires c κs =
     let start = c .before .before .before .before .before .before in
-    record { m = start .pre .m; n = start .pre .n; p = start .pre .p; it = item-all (start .pre .it) }
+    record { absorption = start .pre .absorption; items = start .pre .items; pass = start .pre .pass; it = item-all (start .pre .it) }
 
 enum-known-t : tie.Need-enum-known-t
 enum-known-t c = search needs
@@ -64,9 +64,9 @@ put-barrier-requires c κs =
     let test = absorb-all .before .before .before in
     let start = test .before .before .before .before in
     record {
-      m = start .pre .m;
-      n = start .pre .n;
-      p = _;
+      absorption = start .pre .absorption;
+      items = start .pre .items;
+      pass = _;
       it = item-barrier (start .pre .it) (absorb-all .absorb-all .ensures .0)
           (absorb-all .absorb-all .ensures .1 _ _ _ (item-all (start .pre .it))) (t .t .given .1) (test .if1 .left);
     }

@@ -105,9 +105,9 @@ absorb-merged-requires c κs =
     let read = item-at .before .before in
     let start = read .before .before .before .before in
     record {
-      m = off;
-      n = start .pre .n;
-      p = start .pre .p;
+      absorption = off;
+      items = start .pre .items;
+      pass = start .pre .pass;
       it = turn-merged (start .pre .it) (read .read .ensures)
           (item-at .item-at .ensures) (waits .waits .ensures) (not-false _ (test .if1 .left));
     }
