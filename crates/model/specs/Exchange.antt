@@ -146,8 +146,8 @@ module _ (l : ℕ) (axes : List (List ℕ)) (eager : Bool) where
   -- "first with second before second with third"
   unfoldable pub tryExchanges : Triple → Option Swap
   tryExchanges t =
-      let second = tryExchange t (t .second) (t .third) (t .first ++ (t .third ++ t .second)) in
-      orElse (tryExchange t (t .first) (t .second) (t .second ++ (t .first ++ t .third))) second
+      let later = tryExchange t (t .second) (t .third) (t .first ++ (t .third ++ t .second)) in
+      orElse (tryExchange t (t .first) (t .second) (t .second ++ (t .first ++ t .third))) later
 
   -- the first of the cuts of a triple that gives a swap
   unfoldable pub tryTriple : List Triple → Option Swap
