@@ -7,7 +7,7 @@ use lib.Dec.{T, eqb, eqb→eq}
 use lib.Signed.{leZ}
 use lib.IntN.{ℤ, pos, negsuc}
 use Rattle.store.specs.Table.{below}
-use Rattle.angle.specs.Angle.{addAngles, negAngle, addPhases, negPhase, eighthsOf, pick, signedAngle}
+use Rattle.angle.specs.Angle.{eighthsOf, pick, signedAngle}
 
 pub eighths-lt : (k : ℤ) → eighthsOf k < 8
 unfolding eighthsOf
@@ -26,10 +26,3 @@ signed-eighths k h = eqb→eq (eighthsOf (signedAngle k)) k (below (λ n. eqb (e
 pub signed-range : (k : ℕ) → k < 8 → T (leZ (negsuc 2) (signedAngle k) && leZ (signedAngle k) (pos 4))
 unfolding signedAngle pick
 signed-range k h = below (λ n. leZ (negsuc 2) (signedAngle n) && leZ (signedAngle n) (pos 4)) 8 tt k h
-
--- an angle and its opposite, a phase and its opposite, are none
-pub angle-opposite : (k : ℕ) → addAngles k (negAngle k) ≡ 0
-angle-opposite k = omega arith
-
-pub phase-opposite : (e : ℕ) → addPhases e (negPhase e) ≡ 0
-phase-opposite e = omega arith

@@ -8,7 +8,7 @@ use native.Mathlib.Nat.{mul-div-cancel}
 use native.Mathlib.Omega.{arith}
 use lib.ListN.{length}
 use Rattle.store.specs.Part.{part, put, part-length}
-use Rattle.store.specs.Chunk.{chunks, chunks-length, chunks-at, chunks-apart, chunks-put, chunks-ext, chunk-in}
+use Rattle.store.specs.Chunk.{chunks, chunks-length, chunks-at, chunks-put, chunks-ext, chunk-in}
 use Rattle.pauli.specs.Word.{anticommutes}
 use Rattle.model.specs.Words.{wordOf, anticommute}
 use Rattle.layout.specs.Words.{axisPlace, OnlyWords, words-part}
@@ -59,11 +59,6 @@ unfolding axesOf
 axes-put l n s w h e = chunks-put (2 * l) n s w h e
 
 -- ---- what is written behind the axes leaves them
-
-pub axes-apart : (l n : ℕ) (s : List ℕ) (b : ℕ) (w : List ℕ) → b + length w ≤ length s → axisPlace l n ≤ b
-    → axesOf l n (put s b w) ≡ axesOf l n s
-unfolding axesOf
-axes-apart l n s b w h k = chunks-apart (2 * l) n s b w h k
 
 -- the axes, which end before
 pub axes-words : {a b : ℕ} {s t : List ℕ} → OnlyWords a b s t → (l n : ℕ) → axisPlace l n ≤ a → axisPlace l n ≤ length s

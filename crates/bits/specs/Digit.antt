@@ -1,6 +1,5 @@
 -- Binary digits, and the truth tables of the operations on them: `differ` is xor, `min` is and, `max` is or. Assumes nothing.
 use mathlib.Core.Path.{_≡_, refl}
-use mathlib.Core.Logic.{_⊎_, inl, inr}
 use Prim.Native.Nat.{ℕ, zero, suc, _+_, _*_, _/_, _%_, _<_, min, max}
 use native.Mathlib.Omega.{arith}
 use lib.Bits.{differ}
@@ -77,11 +76,6 @@ differ-sum off off = refl
 differ-sum off on = refl
 differ-sum on off = refl
 differ-sum on on = refl
-
-pub max-one : {x y : ℕ} → Digit x → Digit y → max x y ≡ 1 → (x ≡ 1) ⊎ (y ≡ 1)
-max-one off off h = inl h
-max-one off on h = inr refl
-max-one on y h = inl refl
 
 pub min-none : {x y : ℕ} → Digit x → Digit y → (x ≡ 1 → y ≡ 1 → ⊥) → min x y ≡ 0
 min-none off off h = refl

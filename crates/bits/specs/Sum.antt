@@ -22,8 +22,3 @@ pub sum-add : (f : ℕ → ℕ) (n m : ℕ) → sumTo f (n + m) ≡ sumTo f n + 
 unfolding sumTo
 sum-add f n zero = rw (add-zero n) (omega arith)
 sum-add f n (suc m) = rw (add-suc n m) (omega (arith, sum-add f n m))
-
-pub sum-zero : (f : ℕ → ℕ) (n : ℕ) → ((i : ℕ) → i < n → f i ≡ 0) → sumTo f n ≡ 0
-unfolding sumTo
-sum-zero f zero h = refl
-sum-zero f (suc n) h = omega (arith, sum-zero f n (λ i b. h i (omega arith)), h n (omega arith))

@@ -51,9 +51,6 @@ pub record DecisionAs (z : Shape) (o : Options) (ns os rs ws xs : List ℕ) (d :
   pub done : (x : Decided) → d ≡ Done x → DecidedAs z o ns os rs vs ys x ys
   pub refused : (a : Answer) → d ≡ Refused a → RefusedAs z o ns os rs a
 
-odd-other : answers.NonHermitianAxis ≡ answers.Accepted → ⊥
-odd-other e = let b : _≡_ {A = ℕ} 9 0 = ap numberOf e in omega arith
-
 limit-other : answers.ExpansionLimit ≡ answers.Accepted → ⊥
 limit-other e = let b : _≡_ {A = ℕ} 10 0 = ap numberOf e in omega arith
 

@@ -2,7 +2,7 @@
 -- Assumes nothing.
 use mathlib.Core.Path.{_≡_, refl, sym, _∙_, ap, ap₂, subst}
 use mathlib.Core.Bool.{Bool, true, false, not, false≢true}
-use mathlib.Core.List.{List, [], _∷_, _++_, map}
+use mathlib.Core.List.{List, [], _∷_, _++_}
 use Prim.Native.Nat.{ℕ, zero, suc, _+_, _*_, _/_, _%_, _^_, _≤_, _<_}
 use native.Mathlib.Omega.{arith}
 use lib.Dec.{eqb}
@@ -14,19 +14,19 @@ use Rattle.pauli.specs.Word.{IsWord, identity, xorWords, phase, symplectic, ant
 use Rattle.pauli.specs.Letter.{hasX, hasZ, letterAt, single, other, acts}
 use Rattle.pauli.specs.ProductLaws.{phase-odd, anticommutes-true, anticommutes-false}
 use Rattle.pauli.specs.LetterLaws.{identity-length, xorWords-word, fromLetters}
-use Rattle.model.specs.Lists.{if_then_else_, numbersFrom, isOdd}
-use Rattle.model.specs.Words.{Value, asValue, scaled, multiply, support, Store}
+use Rattle.model.specs.Lists.{if_then_else_, numbersFrom}
+use Rattle.model.specs.Words.{Value, asValue, scaled, multiply, support}
 use Rattle.model.specs.Clifford.{Images, absorbImage, Touched, absorbWord, letterImage, multiplyImages, wordImage}
 use Rattle.model.specs.Items.{isClifford}
 use Rattle.theory.specs.Cases.{if-true, if-false}
-use Rattle.effect.specs.Phase.{Quarter, q0, q1, q2, q3, Quarterᵃ, odd, neg4, _⊞₄_, add4-zero, quarter, quarter-add, quarter-mod}
+use Rattle.effect.specs.Phase.{Quarter, q0, Quarterᵃ, odd, neg4, _⊞₄_, add4-zero, quarter, quarter-add, quarter-mod}
 use Rattle.effect.specs.Phase.{quarter-count}
 use Rattle.effect.specs.Phase.{count}
 use Rattle.effect.specs.Phase.{count-quarter, odd-half}
 use Rattle.effect.specs.Effect.{pmul}
 use Rattle.effect.specs.Conjugation.{conj, conjAt}
 use Rattle.effect.specs.Image.{image}
-use Rattle.effect.specs.Clifford.{Cliff, nothing, absorbed, absorbed-im, im-odd, Turn, absorbAll, absorbAll-im, imageAll, carryRow}
+use Rattle.effect.specs.Clifford.{Cliff, nothing, absorbed, absorbed-im, carryRow}
 use Rattle.effect.specs.Clifford.{carryRow-mul, carryRow-unit}
 use Rattle.effect.specs.Packed.{Packed, packed-ext, mul, one, one-mul, one-phase, mul-comm, phase4, phase4-swap, packed}
 use Rattle.theory.specs.Support.{walk, walk-append, numbers-append, walk-support}
@@ -277,91 +277,9 @@ module _ (l : ℕ) where
           × (acts l w q ≡ 0 → (v : Quarter × Packed l) → withLetter w (F .im) v q ≡ v)
       same q b = at q (letterAt l w q) b (letterAt-lt l w q) refl
 
-  -- ---- the whole of what was absorbed, in order, by a pass that starts with no images
-
-  pub record Rotation : Type 0 where
-    pub axis : Packed l
-    pub isWord : IsWord l (axis .0)
-    pub angle : ℕ
-    pub even : Even angle
-
-  abbrev pub turnOf : Rotation → Turn (packed l)
-  turnOf r = record { angle = eighth (pos (r .angle)); axis = r .axis; even = even-angle (r .even) }
-
-  unfoldable pub absorbWords : Touched → List Rotation → Touched
-  absorbWords t [] = t
-  absorbWords t (r ∷ rs) = absorbWords (absorbWord l t (r .axis .0) (r .angle)) rs
-
-  pub holds-all : (t : Touched) (F : Cliff (packed l)) (rs : List Rotation) → Holds (t .held) F
-      → Holds (absorbWords t rs .held) (absorbAll (packed l) F (map turnOf rs))
-  unfolding absorbWords absorbAll
-  holds-all t F [] h = h
-  holds-all t F (r ∷ rs) h =
-      holds-all (absorbWord l t (r .axis .0) (r .angle)) (absorbed (packed l) F (eighth (pos (r .angle))) (r .axis) (even-angle (r .even))) rs
-      (holds-absorb t F (r .axis) (r .even) (r .isWord) h)
-
-  -- the model carries a word to its image under one absorbed rotation after the other, word and turns both
-  pub bridge : (st : Store) (rs : List Rotation) (w : List ℕ) (h : IsWord l w)
-      → wordImage l (absorbWords (record { store = st; held = [] }) rs .held) w
-      ≡ valueOf l (imageAll (packed l) (map turnOf rs) (q0, (w, h .long)))
-  unfolding nothing
-  bridge st rs w h =
-      let F = absorbAll (packed l) (nothing (packed l)) (map turnOf rs) in
-      holds-image (absorbWords (record { store = st; held = [] }) rs .held) F
-      (holds-all (record { store = st; held = [] }) (nothing (packed l)) rs holds-start) w h
-      ∙ ap (valueOf l) (absorbAll-im (packed l) (nothing (packed l)) (map turnOf rs) (w, h .long))
-
   -- ---- what follows
-
-  odd-count : (q : Quarter) → isOdd (count q) ≡ odd q
-  odd-count q0 = refl
-  odd-count q1 = refl
-  odd-count q2 = refl
-  odd-count q3 = refl
 
   module _ (held : List Images) (F : Cliff (packed l)) (k : Holds held F) where
     -- an image is a word
     pub image-word : (w : List ℕ) → IsWord l w → IsWord l (wordImage l held w .word)
     image-word w h = subst (λ (v : Value). IsWord l (v .word)) (sym (holds-image held F k w h)) (k .fits (w, h .long) h)
-
-    -- the image of a Hermitian word is Hermitian: its turns are even
-    pub image-even : (w : List ℕ) → IsWord l w → isOdd (wordImage l held w .turns) ≡ false
-    image-even w h =
-        ap (λ (v : Value). isOdd (v .turns)) (holds-image held F k w h) ∙ odd-count (F .im (w, h .long) .0) ∙ F .im-even (w, h .long)
-
-    -- images anticommute where the words do
-    pub image-anticommutes : (v w : List ℕ) → IsWord l v → IsWord l w
-        → anticommutes l (wordImage l held v .word) (wordImage l held w .word) ≡ anticommutes l v w
-    image-anticommutes v w hv hw =
-        ap₂ (λ (x y : Value). anticommutes l (x .word) (y .word)) (holds-image held F k v hv) (holds-image held F k w hw)
-        ∙ sym (odd-anticommutes (F .im P .1) (F .im Q .1)) ∙ im-odd (packed l) F P Q ∙ odd-anticommutes P Q
-      where
-        P : Packed l
-        P = (v, hv .long)
-
-        Q : Packed l
-        Q = (w, hw .long)
-
-    pub image-symplectic : (v w : List ℕ) → IsWord l v → IsWord l w
-        → symplectic l (wordImage l held v .word) (wordImage l held w .word) ≡ symplectic l v w
-    image-symplectic v w hv hw = go (anticommutes l v w) refl
-      where
-        v′ : List ℕ
-        v′ = wordImage l held v .word
-
-        w′ : List ℕ
-        w′ = wordImage l held w .word
-
-        go : (d : Bool) → anticommutes l v w ≡ d → symplectic l v′ w′ ≡ symplectic l v w
-        go true e = anticommutes-true l v′ w′ (image-anticommutes v w hv hw ∙ e) ∙ sym (anticommutes-true l v w e)
-        go false e = anticommutes-false l v′ w′ (image-anticommutes v w hv hw ∙ e) ∙ sym (anticommutes-false l v w e)
-
-  -- images compose: a word's image after B was absorbed is 01's rule applied to its image before
-  pub image-absorb : (t : Touched) (F : Cliff (packed l)) → Holds (t .held) F → (B : Packed l) {k : ℕ} → Even k → IsWord l (B .0)
-      → (w : List ℕ) → IsWord l w
-      → wordImage l (absorbWord l t (B .0) k .held) w ≡ absorbImage l (B .0) k (wordImage l (t .held) w)
-  image-absorb t F h B {k} x hb w hw =
-      let P : Packed l = (w, hw .long) in
-      holds-image (absorbWord l t (B .0) k .held) (absorbed (packed l) F (eighth (pos k)) B (even-angle x)) (holds-absorb t F B x hb h) w hw
-      ∙ ap (valueOf l) (absorbed-im (packed l) F (eighth (pos k)) B (even-angle x) P) ∙ sym (absorb-value x B (F .im P))
-      ∙ ap (absorbImage l (B .0) k) (sym (holds-image (t .held) F h w hw))

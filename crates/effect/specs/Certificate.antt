@@ -3,7 +3,6 @@
 use mathlib.Core.Path.{_≡_, refl, sym, _∙_, ap, ap₂, fun-ext}
 use mathlib.Core.List.{List, [], _∷_, _++_}
 use mathlib.Core.Bool.{Bool}
-use mathlib.Core.Logic.{_⊎_, inl, inr}
 use Prim.Native.Nat.{ℕ, zero, suc, _≤_}
 use native.Mathlib.Omega.{arith}
 use native.Mathlib.Nat as NatL
@@ -246,29 +245,6 @@ module _ (H : Setting) where
       let rest = without (a .1) (a ∷ L) in
       let none = balanced-sum n rest (omega (arith, without-first a L)) (balanced-without (a .1) (a ∷ L) h) f in
       split (a .1) (a ∷ L) f ∙ ap₂ (λ s t. zsm S s (J H (a .1) f) ⊹ t) (h (a .1)) none ∙ add-zer zer
-
-  -- ---- it is enough to look at the words that are listed: "a repeated sum"
-
-  abbrev pub Listed : List (ℤ × W) → List (ℤ × W) → Type 0
-  Listed L [] = Unit {0}
-  Listed L (a ∷ M) = (weight (a .1) L ≡ pos 0) × Listed L M
-
-  listed-or-not : (P : W) (L M : List (ℤ × W)) → Listed L M → (weight P L ≡ pos 0) ⊎ (weight P M ≡ pos 0)
-  unfolding weight
-  listed-or-not P L [] h = inr refl
-  listed-or-not P L (a ∷ M) h = go (same (a .1) P) (listed-or-not P L M (h .1))
-    where
-      go : (d : Dec (a .1 ≡ P)) → (weight P L ≡ pos 0) ⊎ (weight P M ≡ pos 0)
-          → (weight P L ≡ pos 0) ⊎ (pick d (a .0 +ℤ weight P M) (weight P M) ≡ pos 0)
-      go (yes e) r = inl (sym (ap (λ t. weight t L) e) ∙ h .0)
-      go (no e) r = r
-
-  pub listed-balanced : (L : List (ℤ × W)) → Listed L L → Balanced L
-  listed-balanced L h P = go (listed-or-not P L L h)
-    where
-      go : (weight P L ≡ pos 0) ⊎ (weight P L ≡ pos 0) → weight P L ≡ pos 0
-      go (inl e) = e
-      go (inr e) = e
 
   -- ---- the theorem
 

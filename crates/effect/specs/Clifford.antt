@@ -8,9 +8,9 @@ use lib.ListN.{length, length-append}
 use Rattle.groups.specs.Abelian.{Ab, map-pow2, dbl, pow2, pow2-add, pow2-plus, pow2-swap}
 use Rattle.groups.specs.Normaliser.{at, _⊞_, ab, cancel2}
 use Rattle.groups.specs.Root.{Root}
-use Rattle.groups.specs.Eighth.{Eighth, flip-even, isEvenE}
+use Rattle.groups.specs.Eighth.{Eighth, isEvenE}
 use Rattle.groups.specs.Real.{IsReal, comp-real, id-real}
-use Rattle.effect.specs.Phase.{Quarter, q0, q1, q2, q3, Quarterᵃ, odd, xor, _⊞₄_, odd-add, even-add, Sgn, _·ˢ_, σ, τ, τ-add}
+use Rattle.effect.specs.Phase.{Quarter, q0, Quarterᵃ, odd, _⊞₄_, even-add, Sgn, _·ˢ_, σ, τ, τ-add}
 use Rattle.effect.specs.Words.{Words, Setting}
 use Rattle.effect.specs.Effect.{Op, plain, measured, conditional, sums, sumsRoot, times, rotate, measure, signed, step, effect, word, pmul}
 use Rattle.effect.specs.Effect.{product, complexSums, front, effectFrom, _≈_}
@@ -149,41 +149,6 @@ module _ (H : Setting) where
   unfolding absorbed next-im
   absorbed-im F e B h P = refl
 
-  -- images anticommute where the words do
-  pub im-odd : (F : Cliff) (P Q : W) → odd (ph (F .im P .1) (F .im Q .1)) ≡ odd (ph P Q)
-  im-odd F P Q = sym right ∙ ap odd (sym (ap (λ a. a .0) (F .im-mul P Q))) ∙ left
-    where
-      left : odd (F .im (P ⊕ Q) .0 ⊞₄ ph P Q) ≡ odd (ph P Q)
-      left = odd-add (F .im (P ⊕ Q) .0) (ph P Q) ∙ ap (λ b. xor b (odd (ph P Q))) (F .im-even (P ⊕ Q))
-
-      right : odd ((F .im P .0 ⊞₄ F .im Q .0) ⊞₄ ph (F .im P .1) (F .im Q .1)) ≡ odd (ph (F .im P .1) (F .im Q .1))
-      right =
-          odd-add (F .im P .0 ⊞₄ F .im Q .0) (ph (F .im P .1) (F .im Q .1))
-          ∙ ap (λ b. xor b (odd (ph (F .im P .1) (F .im Q .1)))) (even-add (F .im P .0) (F .im Q .0) (F .im-even P) (F .im-even Q))
-
-  -- ---- F from the list of what was absorbed, in order
-
-  pub record Turn : Type 0 where
-    pub angle : Eighth
-    pub axis : W
-    pub even : isEvenE angle ≡ true
-
-  unfoldable pub absorbAll : Cliff → List Turn → Cliff
-  absorbAll F [] = F
-  absorbAll F (t ∷ ts) = absorbAll (absorbed F (t .angle) (t .axis) (t .even)) ts
-
-  -- the images under one absorbed rotation after the other
-  unfoldable pub imageAll : List Turn → Quarter × W → Quarter × W
-  imageAll [] a = a
-  imageAll (t ∷ ts) a = imageAll ts (image H (t .angle) (t .axis) a)
-
-  pub absorbAll-im : (F : Cliff) (ts : List Turn) (P : W) → absorbAll F ts .im P ≡ imageAll ts (F .im P)
-  unfolding absorbAll imageAll
-  absorbAll-im F [] P = refl
-  absorbAll-im F (t ∷ ts) P =
-      let e = absorbed-im F (t .angle) (t .axis) (t .even) P in
-      absorbAll-im (absorbed F (t .angle) (t .axis) (t .even)) ts P ∙ ap (imageAll ts) e
-
   -- ---- carrying through F
 
   -- a word with a phase
@@ -212,13 +177,6 @@ module _ (H : Setting) where
       ∙ ap (λ z. measure H z (F .im P .1) (F .Φ f)) (signed-mul H (o m) s (τ (F .im P .0)))
   carry-step F o (conditional k P m) f =
       pass-given H (F .Φ) (F .real) P (F .im P .1) (o m) (F .im P .0) (F .im-even P) (F .im-J P) k f
-
-  -- the sign of an image leaves an even angle even
-  pub turned-even : (t : Quarter) (e : Eighth) → isEvenE (turned H t e) ≡ isEvenE e
-  turned-even q0 e = refl
-  turned-even q1 e = refl
-  turned-even q2 e = flip-even e
-  turned-even q3 e = flip-even e
 
   -- ---- the stream's invariant: the pass has read X, put out Y, and absorbed F
 
@@ -280,12 +238,6 @@ module _ (H : Setting) where
   sim-move X Y F e B k h o f =
       ap (λ n. pow2 S n (effect H o X f)) (omega (arith, snoc-length Y (plain e B))) ∙ h o f
       ∙ ap (pow2 S (length X)) (snoc o Y (plain e B) (F .Φ f))
-
-  -- it reads an even rotation and absorbs it
-  pub sim-absorb : (X Y : List (Op W)) (F : Cliff) (e : Eighth) (B : W) (k : isEvenE (turned H (F .im B .0) e) ≡ true)
-      → Sim X Y F → Sim (X ++ (plain e B ∷ [])) Y (absorbed F (turned H (F .im B .0) e) (F .im B .1) k)
-  unfolding carry
-  sim-absorb X Y F e B k h = sim-move (X ++ (plain e B ∷ [])) Y F (turned H (F .im B .0) e) (F .im B .1) k (sim-push X Y F (plain e B) h)
 
   -- ---- at the end the rows are carried: the result has the source's effect, for every choice of outcomes and every list of rows
 

@@ -1,8 +1,7 @@
 -- An even rotation carries each operation that it passes: the operation about P behind it is the operation about P's image. Assumes nothing.
 use mathlib.Core.Path.{_≡_, refl, sym, _∙_, ap, ap₂, fun-ext}
-use mathlib.Core.List.{List, [], _∷_}
+use mathlib.Core.List.{[], _∷_}
 use mathlib.Core.Bool.{Bool, true, false}
-use Prim.Native.Nat.{ℕ}
 use lib.IntN.{pos}
 use Rattle.groups.specs.Abelian.{Ab, neg-of-add, IsAdd, map-neg, dbl}
 use Rattle.groups.specs.Normaliser.{halve}
@@ -14,9 +13,9 @@ use Rattle.effect.specs.Phase.{Quarter, q0, q1, q2, q3, odd, neg4, _⊞�
 use Rattle.effect.specs.Phase.{σ-back, τ-square, τ-one, τ-three, xor}
 use Rattle.effect.specs.Words.{Words, Setting}
 use Rattle.effect.specs.Signs.{act, act-mul, act-add, act-map}
-use Rattle.effect.specs.Effect.{Op, plain, measured, conditional, sums, sumsRoot, times, J, A, rotate, measure, signed, given, step, effect}
-use Rattle.effect.specs.Generators.{times-add, times-real, J-cube, Bracket, bracketJ, bracketA, times-comm}
-use Rattle.effect.specs.Operators.{rotate-is, measure-is, sgn, sgn-real, sgn-map, sgn-mul, rotate-real}
+use Rattle.effect.specs.Effect.{sums, sumsRoot, times, J, A, rotate, measure, signed, given}
+use Rattle.effect.specs.Generators.{times-add, times-real, J-cube, Bracket, times-comm}
+use Rattle.effect.specs.Operators.{rotate-is, measure-is, sgn, sgn-real, sgn-map, sgn-mul}
 
 module _ (H : Setting) where
   open Setting H using (words as Ws, coeff as K)
@@ -45,16 +44,6 @@ module _ (H : Setting) where
   turned q1 k = k
   turned q2 k = flip k
   turned q3 k = flip k
-
-  -- the operation behind the rotation by e about B
-  unfoldable pub conjOp : Eighth → W → Op W → Op W
-  conjOp e B (plain k P) = plain (turned (conj e B P .0) k) (conj e B P .1)
-  conjOp e B (measured s P m) = measured (τ (conj e B P .0) ·ˢ s) (conj e B P .1) m
-  conjOp e B (conditional k P m) = conditional (turned (conj e B P .0) k) (conj e B P .1) m
-
-  unfoldable pub conjOps : Eighth → W → List (Op W) → List (Op W)
-  conjOps e B [] = []
-  conjOps e B (p ∷ ps) = conjOp e B p ∷ conjOps e B ps
 
   abbrev S : Ab
   S = sums H
@@ -233,25 +222,3 @@ module _ (H : Setting) where
   pub signed-mul : (b : Bool) (s t : Sgn) → signed H b s ·ˢ t ≡ signed H b (t ·ˢ s)
   signed-mul true s t = opposite-left s t ∙ ap (λ u. minus ·ˢ u) (sign-comm s t)
   signed-mul false s t = sign-comm s t
-
-  -- ---- absorption: an even rotation moves behind all that follows it
-
-  pub pass : (e : Eighth) (B : W) → isEvenE e ≡ true → (o : ℕ → Bool) (p : Op W) (f : C)
-      → rotate H e B (step H o p f) ≡ step H o (conjOp e B p) (rotate H e B f)
-  unfolding step conjOp
-  pass e B h o (plain k P) f =
-      let c = conj e B P in
-      pass-rotate (rotate H e B) (rotate-real H e B) P (c .1) (c .0) (conj-even e B P) (rotate-times σ (bracketJ H) e B P h) k f
-  pass e B h o (measured s P m) f =
-      let c = conj e B P in
-      pass-measure (rotate H e B) (rotate-real H e B) P (c .1) (c .0) (conj-even e B P) (rotate-times τ (bracketA H) e B P h) (signed H (o m) s) f
-      ∙ ap (λ z. measure H z (c .1) (rotate H e B f)) (signed-mul (o m) s (τ (c .0)))
-  pass e B h o (conditional k P m) f =
-      let c = conj e B P in
-      pass-given (rotate H e B) (rotate-real H e B) P (c .1) (o m) (c .0) (conj-even e B P) (rotate-times σ (bracketJ H) e B P h) k f
-
-  pub absorb : (e : Eighth) (B : W) → isEvenE e ≡ true → (o : ℕ → Bool) (X : List (Op W)) (f : C)
-      → effect H o (plain e B ∷ X) f ≡ effect H o (conjOps e B X) (rotate H e B f)
-  unfolding effect step conjOps
-  absorb e B h o [] f = refl
-  absorb e B h o (p ∷ X) f = pass e B h o p (effect H o X f) ∙ ap (step H o (conjOp e B p)) (absorb e B h o X f)

@@ -80,10 +80,6 @@ module _ (H : Setting) where
           ap₂ (pow2 S) (length-append Y Z) (effect-append H o X Z f)
           ∙ pow2-plus S (length Y) (length Z) g ∙ pow2-swap S (length Y) (length Z) g
 
-  -- a middle part is replaced
-  pub ≈-middle : (L X Y Z : List (Op W)) → X ≈ Y → (L ++ (X ++ Z)) ≈ (L ++ (Y ++ Z))
-  ≈-middle L X Y Z h = ≈-before L (X ++ Z) (Y ++ Z) (≈-after X Y Z h)
-
   -- ---- merging: k, then k′ about one axis, is k + k′
 
   pub merge : (a b : ℤ) (P : W) → (plain (eighth a) P ∷ plain (eighth b) P ∷ []) ≈ (plain (eighth (a +ℤ b)) P ∷ [])

@@ -1,17 +1,13 @@
--- A product of frame rows, its phase in front, and an even rotation that goes through the operations into the rows. Assumes nothing.
+-- A product of frame rows, and its phase in front. Assumes nothing.
 use mathlib.Core.Path.{_≡_, refl, sym, _∙_, ap}
 use mathlib.Core.List.{List, [], _∷_, map}
-use mathlib.Core.Bool.{Bool, true, false}
+use mathlib.Core.Bool.{false}
 use Prim.Native.Nat.{ℕ, zero, suc}
 use Rattle.groups.specs.Abelian.{Ab, neg-neg, neg-of-add, dbl, pow2}
-use Rattle.groups.specs.Eighth.{Eighth, isEvenE}
 use Rattle.effect.specs.Phase.{Quarter, q0, q1, q2, q3, odd, _⊞₄_, τ}
 use Rattle.effect.specs.Words.{Words, Setting}
-use Rattle.effect.specs.Effect.{Op, plain, sums, effect, word, pmul, product, complexSums, front, effectFrom}
-use Rattle.effect.specs.Operators.{sgn, sgn-map, effect-real}
-use Rattle.effect.specs.Conjugation.{conj, conjOps, absorb, conj-even}
-use Rattle.effect.specs.Image.{image, image-mul, image-unit}
-use Rattle.effect.specs.Single.{rotate-even}
+use Rattle.effect.specs.Effect.{sums, pmul, product, complexSums, front}
+use Rattle.effect.specs.Operators.{sgn}
 
 module _ (H : Setting) where
   open Setting H using (words as Ws)
@@ -53,36 +49,3 @@ module _ (H : Setting) where
   unfolding pow2
   front-pow2 t zero f = refl
   front-pow2 t (suc n) f = front-dbl t (pow2 S n f) ∙ ap (dbl (complexSums H)) (front-pow2 t n f)
-
-  -- ---- an even rotation at the front goes through the operations into the rows
-
-  pub absorb-rows : (e : Eighth) (B : W) → isEvenE e ≡ true → (o : ℕ → Bool) (X : List (Op W)) (rows : List (Quarter × W))
-      → effectFrom H o (plain e B ∷ X) rows ≡ dbl (complexSums H) (effectFrom H o (conjOps H e B X) (map (image H e B) rows))
-  unfolding effectFrom image
-  absorb-rows e B h o X rows =
-      ap (front H t) through ∙ front-dbl t (sgn H (τ u) (E (word H Q′)))
-      ∙ ap (dbl (complexSums H)) (front-add t u (conj-even H e B Q) (E (word H Q′)) ∙ ap (λ a. front H (a .0) (E (word H (a .1)))) (sym images))
-    where
-      t : Quarter
-      t = product H rows .0
-
-      Q : W
-      Q = product H rows .1
-
-      u : Quarter
-      u = conj H e B Q .0
-
-      Q′ : W
-      Q′ = conj H e B Q .1
-
-      E : C → C
-      E = effect H o (conjOps H e B X)
-
-      images : product H (map (image H e B) rows) ≡ image H e B (product H rows)
-      images = product-map (image H e B) (image-unit H e B) (image-mul H e B) rows
-
-      through : effect H o (plain e B ∷ X) (word H Q) ≡ dbl S (sgn H (τ u) (E (word H Q′)))
-      through =
-          absorb H e B h o X (word H Q) ∙ ap E (rotate-even H e B Q h)
-          ∙ effect-real H o (conjOps H e B X) .0 (sgn H (τ u) (word H Q′)) (sgn H (τ u) (word H Q′))
-          ∙ ap (dbl S) (sgn-map H E (effect-real H o (conjOps H e B X) .0) (τ u) (word H Q′))

@@ -123,12 +123,6 @@ quarter-count q1 = refl
 quarter-count q2 = refl
 quarter-count q3 = refl
 
-pub count-lt : (q : Quarter) → count q < 4
-count-lt q0 = omega arith
-count-lt q1 = omega arith
-count-lt q2 = omega arith
-count-lt q3 = omega arith
-
 count-small : (n : ℕ) → n < 4 → count (quarter n) ≡ n
 unfolding quarter
 count-small zero h = refl

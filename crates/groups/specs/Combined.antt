@@ -50,8 +50,3 @@ pub pow2-pair : (K L : Ab) (n : ℕ) (x : K .C × L .C) → pow2 (K ×ᵃ L) n x
 unfolding pow2
 pow2-pair K L zero x = refl
 pow2-pair K L (suc n) x = ap (dbl (K ×ᵃ L)) (pow2-pair K L n x)
-
-pub zsm-fun : (W : Type 0) (K : Ab) (m : ℤ) (x : W → K .C) (w : W) → zsm (W ⇒ᵃ K) m x w ≡ zsm K m (x w)
-unfolding zsm
-zsm-fun W K (pos n) x w = nsm-fun W K n x w
-zsm-fun W K (negsuc n) x w = ap (K .neg) (nsm-fun W K (suc n) x w)

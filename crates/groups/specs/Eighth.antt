@@ -111,13 +111,3 @@ isEvenE e4 = true
 isEvenE e5 = false
 isEvenE e6 = true
 isEvenE e7 = false
-
-pub flip-even : (e : Eighth) → isEvenE (flip e) ≡ isEvenE e
-flip-even e0 = refl
-flip-even e1 = refl
-flip-even e2 = refl
-flip-even e3 = refl
-flip-even e4 = refl
-flip-even e5 = refl
-flip-even e6 = refl
-flip-even e7 = refl

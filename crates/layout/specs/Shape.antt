@@ -54,14 +54,6 @@ pub record Sized (z : Shape) : Type 0 where
   pub words-row : (n : ℕ) → n * (2 * z .l) ≤ z .limit → n < z .u
   pub u-small : z .u ≤ longestRow
 
-width-some : (q l : ℕ) → l ≡ width q → 0 < l
-unfolding width
-width-some q l e = omega arith
-
--- a word has at least one number
-pub sized-some : {z : Shape} → Sized z → 0 < z .l
-sized-some {z} s = width-some (z .qubits) (z .l) (s .l-is)
-
 -- the work stores as long as refusal 3 asks
 pub record Granted (z : Shape) (ws xs : List ℕ) : Type 0 where
   pub sized : Sized z

@@ -12,8 +12,8 @@ use lib.Bits.{bitAnd, bitOr, or-comm, or-zero-r, or-self}
 use lib.Count.{trailingZeros}
 use lib.Dec.{eqb}
 use Rattle.bits.specs.Remainder.{lt-or-ge}
-use Rattle.bits.specs.Digit.{Digit, off, on, max-one, min-none}
-use Rattle.bits.specs.Bit.{bit, bit-digit, bit-lt, bit-and, bit-or, bit-ext, bit-high, zero-bit, or-assoc, or-swap, pow-bit, pow-only, pow-other}
+use Rattle.bits.specs.Digit.{Digit, off, on, min-none}
+use Rattle.bits.specs.Bit.{bit, bit-digit, bit-lt, bit-and, bit-or, bit-ext, bit-high, zero-bit, or-assoc, or-swap, pow-bit, pow-other}
 use Rattle.bits.specs.LowestBit.{lowest-bit, trailing-lt}
 use Rattle.pauli.specs.Word.{xWord, zWord, IsWord, common, xorWords, symplectic, anticommutes}
 use Rattle.pauli.specs.Letter.{letterAt, single, other, acts}
@@ -24,16 +24,9 @@ use Rattle.pauli.specs.LetterLaws.{acts-bit, letterMul, letter-xor, sing
 pub bucket-lt : (l q : ℕ) → 0 < l → q < 64 * l → bucket l q < 64
 bucket-lt l q h b = div-lt-iff-lt-mul h .1 b
 
-other-digit : (c : ℕ) → Digit (other c)
-other-digit zero = off
-other-digit (suc c) = on
-
 -- ---- the bits of a signature
 
 module _ (l : ℕ) (p : List ℕ) where
-  acts-digit : (q : ℕ) → Digit (acts l p q)
-  acts-digit q = other-digit (letterAt l p q)
-
   -- each qubit that is acted on sets its bucket's bit
   pub signature-set : (n q : ℕ) → q < n → acts l p q ≡ 1 → bit (signatureTo l p n) (bucket l q) ≡ 1
   unfolding signatureTo
@@ -46,21 +39,6 @@ module _ (l : ℕ) (p : List ℕ) where
       omega (arith, bit-lt (signatureTo l p n) (q / l)))
       (λ (b : q < n). omega (arith, signature-set n q b a, bit-lt (acts l p n * 2 ^ (n / l)) (q / l)))
       (eq-or-lt-of-le {n = q} {m = n} (omega arith))
-
-  -- and nothing else does
-  pub signature-only : (n b : ℕ) → bit (signatureTo l p n) b ≡ 1 → (q : ℕ) × (q < n) × (bucket l q ≡ b) × (acts l p q ≡ 1)
-  unfolding signatureTo
-  signature-only zero b h = absurd (omega (arith, zero-bit b))
-  signature-only (suc n) b h =
-      ⊎-elim
-      (λ (e : bit (signatureTo l p n) b ≡ 1). let r = signature-only n b e in (r .0, omega arith, r .2, r .3))
-      (λ (e : bit (acts l p n * 2 ^ (n / l)) b ≡ 1). here (acts-digit n) refl e)
-      (max-one (bit-digit (signatureTo l p n) b) (bit-digit _ b) (sym (bit-or (signatureTo l p n) (acts l p n * 2 ^ (n / l)) b) ∙ h))
-    where
-      here : {a : ℕ} → Digit a → acts l p n ≡ a → bit (a * 2 ^ (n / l)) b ≡ 1
-          → (q : ℕ) × (q < suc n) × (bucket l q ≡ b) × (acts l p q ≡ 1)
-      here off z e = let zero-is : bit 0 b ≡ 1 = rw zero-mul at e in absurd (omega (arith, zero-bit b))
-      here on z e = (n, omega arith, sym (pow-only (n / l) b (rw one-mul at e)), z)
 
 -- ---- disjoint signatures
 

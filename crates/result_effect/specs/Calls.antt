@@ -1,4 +1,4 @@
--- An accepted call of Rewriting: the records in its lent slices mean the work at the end of its run. Assumes nothing.
+-- An accepted call of Rewriting: the records in its lent slices are those of the work at the end of its run. Assumes nothing.
 use mathlib.Core.Path.{_≡_, refl, sym, _∙_, ap, ap₂}
 use mathlib.Core.Bool.{Bool, true, false}
 use mathlib.Core.List.{List, [], _∷_, _++_, map, flatten, append-assoc}
@@ -28,11 +28,7 @@ use Rattle.theory.specs.TCountCalls.{accepted-checks, accepted-hermitian, accep
 use Rattle.words_wellformed.specs.Wellformed.{end-words}
 use Rattle.run_wellformed.specs.Points.{passes-reached}
 use Rattle.run_wellformed.specs.RunWellFormed.{rowResults-length}
-use Rattle.items_effect.specs.Ops.{itemOps}
-use Rattle.packing_effect.specs.Source.{axisWord, barrierOp}
-use Rattle.result_effect.specs.Definitions.{resultOps, resultRows, workRows}
-use Rattle.result_effect.specs.Records.{Stops, ItemStands, point-stands, end-ops}
-use Rattle.result_effect.specs.Rows.{end-rows}
+use Rattle.result_effect.specs.Records.{Stops, ItemStands, point-stands}
 
 -- ---- records of k fields each, one after the other, are read again
 
@@ -160,19 +156,3 @@ module _ (o : Options) (j : Job) (s : Lent) (yes′ : rewriting o j s .answer �
       ap (λ (x : Reply). records 4 (2 * j .counts .qubits) (x .lent .rows)) (accepted-reply o j s yes′)
       ∙ ap (λ (n : ℕ). records 4 n (accepted r p s (finishOf r (o .rounds) p) .lent .rows)) (sym rows-count)
       ∙ unfold accepted thenZeros in (records-read 4 (rowResults p callEnd) _ (unfold rowResults in (rows-long p 0 (p .rows) _)))
-
-  -- ---- and mean its end
-
-  module _ {W : Type 0} (word : List ℕ → W) where
-    -- the operations left are the items at the end
-    pub left-ops : resultOps word leftAxes leftOperations
-        ≡ itemOps (axisWord word (callEnd .store .axes)) (barrierOp word (programOf j .operations) (callEnd .store .axes)) (callEnd .items)
-    left-ops =
-        ap₂ (λ (axes : List (List ℕ)) (rs : List (List ℕ)). resultOps word axes rs) left-axes left-operations
-        ∙ end-ops p call-fine call-hermitian r word (o .rounds)
-
-    -- and the rows left its rows
-    pub left-frame : resultRows word (programOf j) leftAxes leftRows ≡ workRows word (programOf j) callEnd
-    left-frame =
-        ap₂ (λ (axes : List (List ℕ)) (rs : List (List ℕ)). resultRows word p axes rs) left-axes left-rows
-        ∙ end-rows p call-fine call-hermitian r word (o .rounds)

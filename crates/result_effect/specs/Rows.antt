@@ -1,5 +1,5 @@
 -- The rows' records of a result mean the rows of the program, a root's carried as the work has it. Assumes nothing.
-use mathlib.Core.Path.{_≡_, refl, sym, _∙_, ap, ap₂, subst}
+use mathlib.Core.Path.{_≡_, refl, _∙_, ap, ap₂}
 use mathlib.Core.Bool.{Bool, true, false}
 use mathlib.Core.List.{List, [], _∷_, _++_, map}
 use Prim.Native.Nat.{ℕ, zero, suc, _+_, _*_, _/_, _%_}
@@ -8,7 +8,7 @@ use lib.Dec.{eqb}
 use lib.ListN.{length, drop, length-append, length-map}
 use borrow.Author.Tests.{eq-eqb}
 use Rattle.pauli.specs.Word.{width}
-use Rattle.model.specs.Lists.{if_then_else_, keep}
+use Rattle.model.specs.Lists.{if_then_else_}
 use Rattle.model.specs.Program.{PauliRef, Program}
 use Rattle.model.specs.Rules.{Rules}
 use Rattle.model.specs.Roots.{isRoot, rootRows}
@@ -17,7 +17,7 @@ use Rattle.model.specs.Stream.{Pass, Rowed, carryAxis, stream, carryRowsFrom, c
 use Rattle.model.specs.Rounds.{Work, streamPass, exchangePass, layeringPass}
 use Rattle.model.specs.Run.{startOf, endOf}
 use Rattle.model.specs.Results.{signField, keptRow, givenRow, rowRecord, axesLeft, rowResultsFrom, rowResults}
-use Rattle.theory.specs.Cases.{by-if, if-true, if-false}
+use Rattle.theory.specs.Cases.{by-if, if-true}
 use Rattle.theory.specs.Every.{Every}
 use Rattle.theory.specs.Lists.{drop-head}
 use Rattle.theory.specs.Checked.{Fine}
@@ -113,17 +113,10 @@ point-rows-length p r h = reached-rows (width (p .qubits)) r h ∙ began
     began : length (startOf p .rows) ≡ length (rootRows p)
     began = unfold startOf in (length-map (rootRows p) (signedAxis (packed p .store .axes) (valuesOf p)))
 
--- ---- row by row
-
--- R holds of each of the one list and the one at its place in the other, which is as long
-abbrev pub Pairwise : {A B : Type 0} → (A → B → Type 0) → List A → List B → Type 0
-Pairwise R [] [] = Unit {0}
-Pairwise R [] (y ∷ ys) = ⊥
-Pairwise R (x ∷ xs) [] = ⊥
-Pairwise R (x ∷ xs) (y ∷ ys) = R x y × Pairwise R xs ys
+-- ---- where nothing was absorbed
 
 module _ {W : Type 0} (word : List ℕ → W) (p : Program) where
-  -- where nothing was absorbed, all rows are the source's
+  -- all rows are the source's
   none-left : (axes : List (List ℕ)) (rest : List PauliRef) → workRowsFrom word p axes rest [] ≡ map (sourceRow word p) rest
   unfolding workRowsFrom
   none-left axes [] = refl
@@ -139,31 +132,6 @@ module _ {W : Type 0} (word : List ℕ → W) (p : Program) where
   unfolding workRows
   workRows-kept w e =
       ap (workRowsFrom word p (w .store .axes) (p .rows)) (if-true [] (w .rows) (eq-eqb (w .absorbed) 0 e)) ∙ none-left (w .store .axes) (p .rows)
-
-  -- what holds of the rows that are no roots as the source has them, and of the roots as the work has them, holds of all
-  module _ (R : PauliRef → Quarter × W → Type 0) (kept : (r : PauliRef) → isRoot p r ≡ false → R r (sourceRow word p r)) where
-    each-from : (axes : List (List ℕ)) (rest : List PauliRef) (fs : List SignedAxis)
-        → Pairwise R (keep (isRoot p) rest) (map (packedRow word axes) fs) → Pairwise R rest (workRowsFrom word p axes rest fs)
-    unfolding workRowsFrom workRow axesLeft keep if_then_else_
-    each-from axes [] fs h = tt
-    each-from axes (r ∷ rest) fs h = go (isRoot p r) refl fs h (each-from axes rest)
-      where
-        go : (b : Bool) → isRoot p r ≡ b → (fs : List SignedAxis)
-            → Pairwise R (if b then r ∷ keep (isRoot p) rest else keep (isRoot p) rest) (map (packedRow word axes) fs)
-            → ((gs : List SignedAxis) → Pairwise R (keep (isRoot p) rest) (map (packedRow word axes) gs)
-            → Pairwise R rest (workRowsFrom word p axes rest gs))
-            → R r (workRow word p axes b r fs) × Pairwise R rest (workRowsFrom word p axes rest (axesLeft b fs))
-        go false e fs h later = (kept r e, later fs h)
-        go true e [] h later = absurd h
-        go true e (f ∷ fs) h later = (h .0, later fs (h .1))
-
-    -- where something was absorbed
-    pub workRows-each : (w : Work) → eqb (w .absorbed) 0 ≡ false → Pairwise R (rootRows p) (map (packedRow word (w .store .axes)) (w .rows))
-        → Pairwise R (p .rows) (workRows word p w)
-    unfolding workRows rootRows
-    workRows-each w e h =
-        subst (λ (fs : List SignedAxis). Pairwise R (p .rows) (workRowsFrom word p (w .store .axes) (p .rows) fs)) (sym (if-false [] (w .rows) e))
-        (each-from (w .store .axes) (p .rows) (w .rows) h)
 
 -- ---- every point of a run, and its end
 

@@ -14,11 +14,11 @@ use Rattle.model.specs.Packing.{rootsAt, Pack, useNode, useChildren, takeSlot, 
 use Rattle.model.specs.Packing.{packed}
 use Rattle.model.specs.Packing.{SignedAxis}
 use Rattle.model.specs.Clifford.{Images, absorbImages, imageWords, ownImages, Touched, touch, touchAll, absorbWord}
-use Rattle.model.specs.Stream.{Pass, withLast, countMerge, setAngle, putOut, leaveZero, carryAxis, absorb, putOutRotation, carryRowsFrom}
+use Rattle.model.specs.Stream.{Pass, withLast, countMerge, setAngle, putOut, leaveZero, carryAxis, absorb, putOutRotation}
 use Rattle.model.specs.Stream.{carryRows}
 use Rattle.model.specs.Stream.{begin}
 use Rattle.theory.specs.Cases.{by-if}
-use Rattle.run_wellformed.specs.StreamSteps.{KeptBySteps, carryRowsFrom-by, carryRows-by}
+use Rattle.run_wellformed.specs.StreamSteps.{KeptBySteps, carryRows-by}
 
 -- ---- the store
 
@@ -146,11 +146,7 @@ fits-kept l = record {
   bars = λ n p o a s h. h;
 }
 
--- while the rest of the frame rows is carried
-pub carryRowsFrom-fits : (l : ℕ) (p : Pass) (done rows : List SignedAxis) → PassFits l p → PassFits l (carryRowsFrom l p done rows .pass)
-carryRowsFrom-fits l p done rows h = carryRowsFrom-by l (λ n p. PassFits l p) (fits-kept l) 0 p done rows h
-
--- and when they were carried, or kept
+-- when the frame rows were carried, or kept
 pub carryRows-fits : (l : ℕ) (p : Pass) (rows : List SignedAxis) → PassFits l p → PassFits l (carryRows l p rows .pass)
 carryRows-fits l p rows h = carryRows-by l (λ n p. PassFits l p) (fits-kept l) 0 p rows h
 
@@ -186,10 +182,6 @@ module _ (l limit : ℕ) (positive : 0 < l) where
   pub slots-and-axes-within : (p : Pack) → PackFits l p → p .store .peak ≤ limit → p .slots + length (p .store .axes) ≤ limit / (2 * l)
   slots-and-axes-within p h b = le-div-iff-mul-le (double-positive l positive) .1 (le-trans h b)
 
-  -- the slots allocated
-  pub slots-within : (p : Pack) → PackFits l p → p .store .peak ≤ limit → p .slots ≤ limit / (2 * l)
-  slots-within p h b = omega (arith, slots-and-axes-within p h b)
-
   -- an axis is 2 × l words, a held qubit three images of 2 × l words each
   pub images-and-axes-within : (p : Pass) → PassFits l p → p .store .peak ≤ limit
       → 3 * length (p .held) + length (p .store .axes) ≤ limit / (2 * l)
@@ -197,8 +189,3 @@ module _ (l limit : ℕ) (positive : 0 < l) where
   images-and-axes-within p h b =
       let e = add-mul (3 * length (p .held)) (length (p .store .axes)) (2 * l) in
       le-div-iff-mul-le (double-positive l positive) .1 (omega (arith, three-images (length (p .held)) l))
-
-  -- the words of the images
-  pub images-within : (p : Pass) → PassFits l p → p .store .peak ≤ limit → 3 * length (p .held) * (2 * l) ≤ limit
-  unfolding imageWords
-  images-within p h b = omega (arith, three-images (length (p .held)) l)

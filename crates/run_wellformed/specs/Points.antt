@@ -18,7 +18,7 @@ use Rattle.model.specs.Words.{Value, wordOf, Store}
 use Rattle.model.specs.Roots.{operationRoot}
 use Rattle.model.specs.Packing.{SignedAxis, signedAxis}
 use Rattle.model.specs.Items.{rot, Item, rotation, barrier, withSign, isNonzero, stays, dropZeros}
-use Rattle.model.specs.Stream.{Pass, withLast, countMerge, setAngle, putOut, leaveZero, carryAxis, absorb, putOutRotation, streamItem, stream}
+use Rattle.model.specs.Stream.{Pass, withLast, countMerge, setAngle, putOut, leaveZero, carryAxis, absorb, putOutRotation, stream}
 use Rattle.model.specs.Stream.{carryRows, begin}
 use Rattle.model.specs.Exchange.{swaps}
 use Rattle.model.specs.Layering.{layerSegment}
@@ -36,7 +36,7 @@ use Rattle.theory.specs.Checked.{SmallAngle, Fine}
 use Rattle.words_wellformed.specs.PassWords.{afterItems}
 use Rattle.words_wellformed.specs.RunWords.{Turns, TurnsItem}
 use Rattle.run_wellformed.specs.CliffordAngles.{SmallItem, turns-merging, withSign-small}
-use Rattle.run_wellformed.specs.StreamSteps.{KeptBySteps, streamItem-by, afterItems-by, stream-by, small-kept, Absorbed, unmoved}
+use Rattle.run_wellformed.specs.StreamSteps.{KeptBySteps, afterItems-by, stream-by, small-kept, Absorbed, unmoved}
 use Rattle.run_wellformed.specs.StreamSteps.{absorbed-kept}
 use Rattle.run_wellformed.specs.Memory.{StoreFits, packed-store, PassFits, fits-kept, begin-fits, carryRows-fits, pass-store}
 use Rattle.run_wellformed.specs.SegmentLengths.{keep-length, swaps-length, layerSegment-length, rewriteSegments-length}
@@ -165,10 +165,6 @@ module _ (l : ℕ) (r : Rules) (merging : Bool) where
     fits = begin-fits l st h;
     absorbed = unfold begin in unmoved;
   }
-
-  -- after one item more
-  pub streamItem-formed : (n : ℕ) (p : Pass) (i : Item) → TurnsItem i → StreamFormed l n p → StreamFormed l (suc n) (streamItem l r merging p i)
-  streamItem-formed n p i b h = streamItem-by l (StreamFormed l) (formed-kept l) (λ n p g. g .small) n r merging p i b h
 
   -- after any items
   pub afterItems-formed : (st : Store) (is : List Item) → Every TurnsItem is → StoreFits l st

@@ -1,7 +1,7 @@
 -- What the steps of a stream keep holds at its every point; F takes in the angles 2, 4 and 6 alone. Assumes nothing.
-use mathlib.Core.Path.{_≡_, refl, sym, subst}
+use mathlib.Core.Path.{_≡_, sym, subst}
 use mathlib.Core.Bool.{Bool, _&&_}
-use mathlib.Core.List.{List, [], _∷_, _++_}
+use mathlib.Core.List.{List, [], _∷_}
 use Prim.Native.Nat.{ℕ, zero, suc, _+_, _≤_, _<_}
 use native.Mathlib.Omega.{arith}
 use native.Mathlib.Nat.{add-zero}
@@ -22,15 +22,6 @@ use Rattle.words_wellformed.specs.PassWords.{afterItems, stream-after}
 use Rattle.words_wellformed.specs.RunWords.{TurnsItem}
 use Rattle.run_wellformed.specs.CliffordAngles.{SmallItem, CliffordAngle, even-angle, clifford-angle}
 use Rattle.run_wellformed.specs.CliffordAngles.{withSign-turns}
-
--- ---- the points of a stream
-
--- a stream goes on from each of its points
-pub stream-on : (l : ℕ) (r : Rules) (merging : Bool) (p : Pass) (is rest : List Item)
-    → stream l r merging p (is ++ rest) ≡ stream l r merging (afterItems l r merging p is) rest
-unfolding stream afterItems
-stream-on l r merging p [] rest = refl
-stream-on l r merging p (i ∷ is) rest = stream-on l r merging (streamItem l r merging p i) is rest
 
 -- ---- what the steps keep
 
@@ -196,33 +187,3 @@ absorbed-kept l = record {
   puts = λ n p a k b h. h;
   bars = λ n p o a s h. h;
 }
-
--- ---- the principle for anything that the steps keep
-
--- with the angles of the output besides
-pub with-small : (l : ℕ) (P : ℕ → Pass → Type 0) → KeptBySteps l P → KeptBySteps l (λ n p. Small n p × P n p)
-with-small l P kept =
-    let s = small-kept l in
-    record {
-      more = λ n p h. (h .0, kept .more n p (h .1));
-      carries = λ n p a h. (s .carries n p a (h .0), kept .carries n p a (h .1));
-      absorbs = λ n p a k c h. (s .absorbs n p a k c (h .0), kept .absorbs n p a k c (h .1));
-      zeroes = λ n p j a h. (s .zeroes n p j a (h .0), kept .zeroes n p j a (h .1));
-      counts = λ n p h. (s .counts n p (h .0), kept .counts n p (h .1));
-      turns = λ n p j a k b h. (s .turns n p j a k b (h .0), kept .turns n p j a k b (h .1));
-      puts = λ n p a k b h. (s .puts n p a k b (h .0), kept .puts n p a k b (h .1));
-      bars = λ n p o a t h. (s .bars n p o a t (h .0), kept .bars n p o a t (h .1));
-    }
-
--- ---- the theorems: what the steps keep holds after any items, and at the end of the stream
-
-module _ (l : ℕ) (P : ℕ → Pass → Type 0) (kept : KeptBySteps l P) (r : Rules) (merging : Bool) where
-  -- after any items
-  pub afterItems-keeps : (n : ℕ) (p : Pass) (is : List Item) → Every TurnsItem is → Every SmallItem (p .out) → P n p
-      → Every SmallItem (afterItems l r merging p is .out) × P (n + length is) (afterItems l r merging p is)
-  afterItems-keeps n p is b s h = afterItems-by l (λ n p. Small n p × P n p) (with-small l P kept) (λ n p g. g .0) n r merging p is b (s, h)
-
-  -- and at the end
-  pub stream-keeps : (n : ℕ) (p : Pass) (is : List Item) → Every TurnsItem is → Every SmallItem (p .out) → P n p
-      → Every SmallItem (stream l r merging p is .out) × P (n + length is) (stream l r merging p is)
-  stream-keeps n p is b s h = stream-by l (λ n p. Small n p × P n p) (with-small l P kept) (λ n p g. g .0) n r merging p is b (s, h)

@@ -21,12 +21,12 @@ use Rattle.model.specs.Stream.{angleAt}
 use Rattle.model.specs.Stream.{axisImage, imageId, carryAxis, absorb, absorbWaitingAt, absorbWaiting, absorbAllWaiting, absorbBlocking}
 use Rattle.model.specs.Stream.{Carried, carryRotation}
 use Rattle.model.specs.Stream.{mergeAt}
-use Rattle.model.specs.Stream.{putOutRotation, mergeOrPutOut, takeRotation, streamItem, stream, begin}
+use Rattle.model.specs.Stream.{putOutRotation, mergeOrPutOut, takeRotation, streamItem, begin}
 use Rattle.theory.specs.Cases.{by-if, on-if, and-left, and-right}
 use Rattle.theory.specs.Every.{Every, every-one}
 use Rattle.theory.specs.Ids.{id-word, Grows, intern-grows}
 use Rattle.theory.specs.StreamState.{withoutAngles, axisOf, AllIn, AllRotations, Names, Sound, absorb-axes, carried-id, streamItem-stepped}
-use Rattle.words_wellformed.specs.PassWords.{afterItems, stream-after}
+use Rattle.words_wellformed.specs.PassWords.{afterItems}
 use Rattle.words_wellformed.specs.RunWords.{TurnsItem}
 use Rattle.run_wellformed.specs.CliffordAngles.{and-false, withSign-turns}
 use Rattle.run_wellformed.specs.CarriedImages.{absorbed-image}
@@ -474,12 +474,3 @@ module _ (l : ℕ) (r : Rules) (is-lazy : r .absorption ≡ lazy) (merging : Boo
       let q = streamItem l r merging p i in
       let g = streamItem-stepped l r merging p i (waiting-sound l p h) (c .0) .grow .longer in
       afterItems-waiting q is (b .1) (allIn-more _ _ is g (c .1)) (streamItem-waiting l r is-lazy merging p i (b .0) (c .0) h)
-
-  -- and at the end, where none waits
-  pub stream-waiting : (p : Pass) (is : List Item) → Every TurnsItem is → AllIn (length (p .store .axes)) is → Waiting l p
-      → Waiting l (stream l r merging p is) × Every Still (stream l r merging p is .out)
-  stream-waiting p is b c h =
-      let q = afterItems l r merging p is in
-      subst (λ (x : Pass). Waiting l x × Every Still (x .out)) (sym (stream-after l r merging p is))
-      (subst (λ (m : Absorption). Waiting l (absorbAllWaiting l m q) × Every Still (absorbAllWaiting l m q .out)) (sym is-lazy)
-      (absorbAllWaiting-waiting l q (afterItems-waiting p is b c h), absorbAllWaiting-still l q))

@@ -25,26 +25,6 @@ pub mix-length : (t d : List ℕ) (i : ℕ) → length t ≡ length d → length
 unfolding mix
 mix-length t d i e = simp (length-append, length-take, length-drop) (omega arith)
 
--- ---- what is done, and what is left
-
-pub mix-done : (t d : List ℕ) (i k : ℕ) → length t ≡ length d → k < i → getD (mix t d i) k 0 ≡ getD t k 0
-unfolding mix
-mix-done [] [] (suc i) k e l = refl
-mix-done [] (y ∷ d) (suc i) k e l = absurd (let z : ⊥ = omega arith in z)
-mix-done (x ∷ t) [] (suc i) k e l = absurd (let z : ⊥ = omega arith in z)
-mix-done (x ∷ t) (y ∷ d) (suc i) zero e l = refl
-mix-done (x ∷ t) (y ∷ d) (suc i) (suc k) e l = mix-done t d i k (omega arith) (le-of-suc-le-suc l)
-mix-done t d zero k e l = absurd (not-suc-le-zero l)
-
-pub mix-left : (t d : List ℕ) (i k : ℕ) → length t ≡ length d → i ≤ k → getD (mix t d i) k 0 ≡ getD d k 0
-unfolding mix
-mix-left t d zero k e l = refl
-mix-left [] [] (suc i) k e l = refl
-mix-left [] (y ∷ d) (suc i) k e l = absurd (let z : ⊥ = omega arith in z)
-mix-left (x ∷ t) [] (suc i) k e l = absurd (let z : ⊥ = omega arith in z)
-mix-left (x ∷ t) (y ∷ d) (suc i) zero e l = absurd (not-suc-le-zero l)
-mix-left (x ∷ t) (y ∷ d) (suc i) (suc k) e l = mix-left t d i k (omega arith) (le-of-suc-le-suc l)
-
 -- ---- a turn
 
 one-more : (t d : List ℕ) (i : ℕ) → length t ≡ length d → i < length d → set (mix t d i) i (getD t i 0) ≡ mix t d (suc i)
@@ -71,14 +51,8 @@ mix-down d t i v e l p = rw (p, add-one) (one-less d t i e l)
 
 -- ---- the same, as a loop's invariant hands it over: the list x is known by an equation
 
-pub up : (x t d : List ℕ) (i v : ℕ) → x ≡ mix t d i → length t ≡ length d → i < length d → v ≡ getD t i 0 → set x i v ≡ mix t d (i + 1)
-up x t d i v p e l q = ap (λ (y : List ℕ). set y i v) p ∙ mix-up t d i v e l q
-
 pub down : (x d t : List ℕ) (i v : ℕ) → x ≡ mix d t (i + 1) → length d ≡ length t → i < length d → v ≡ getD t i 0 → set x i v ≡ mix d t i
 down x d t i v p e l q = ap (λ (y : List ℕ). set y i v) p ∙ mix-down d t i v e l q
-
-pub whole : (x t d : List ℕ) (i : ℕ) → x ≡ mix t d i → length t ≡ length d → length d ≤ i → x ≡ t
-whole x t d i p e l = p ∙ mix-all t d i (omega arith) l
 
 -- ---- a fill with one value, from the end down to i; shut, so that a use determines what it stands over
 

@@ -124,9 +124,6 @@ in-rootsAt r (x ∷ xs) h =
 
 -- ---- a refusal stays; the axes grow
 
-no-way : {A : Type 0} (b : Bool) → b ≡ true → b ≡ false → A
-no-way b e f = absurd (true≢false (sym e ∙ f))
-
 packRoot-refused : (l n : ℕ) (v : Value) (p : Pack) (r : PauliRef) → packRoot l n v p r .refused ≡ false → isOdd (v .turns + r .phase) ≡ false
 unfolding packRoot
 packRoot-refused l n v p r =

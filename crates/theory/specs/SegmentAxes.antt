@@ -4,11 +4,11 @@ use mathlib.Core.List.{List, map}
 use Prim.Native.Nat.{ℕ}
 use Rattle.model.specs.Items.{Rot, Item, dropZeroRots, Segment, rewriteSegments}
 use Rattle.model.specs.Exchange.{swaps}
-use Rattle.model.specs.Layering.{mergeInto, Layers, Shift, joinLayer, joinLayers, moveRotation, moveRotations, sweepFrom, sweep, layerSegment}
+use Rattle.model.specs.Layering.{Layers, Shift, joinLayer, joinLayers, moveRotation, moveRotations, sweep, layerSegment}
 use Rattle.theory.specs.Every.{Every}
 use Rattle.theory.specs.StreamState.{axisOf}
-use Rattle.theory.specs.Segments.{KeptByMerging, swaps-by, mergeInto-by, joinLayer-by, joinLayers-by, moveRotation-by, moveRotations-by}
-use Rattle.theory.specs.Segments.{sweepFrom-by, sweep-by, zeros-by, layerSegment-by, rewriteSegments-every}
+use Rattle.theory.specs.Segments.{KeptByMerging, swaps-by, joinLayer-by, joinLayers-by, moveRotation-by, moveRotations-by}
+use Rattle.theory.specs.Segments.{sweep-by, zeros-by, layerSegment-by, rewriteSegments-every}
 
 -- P is said of axes
 module _ (P : ℕ → Type 0) where
@@ -36,9 +36,6 @@ module _ (P : ℕ → Type 0) where
   abbrev pub LayersHave : List (List Rot) → Type 0
   LayersHave = Every AllHave
 
-  pub mergeInto-has : (layer : List Rot) (r : Rot) → AllHave layer → Has r → AllHave (mergeInto layer r)
-  mergeInto-has = mergeInto-by Has Has axis-kept
-
   module _ (l : ℕ) (axes : List (List ℕ)) where
     abbrev pub JoinedHas : Layers → Type 0
     JoinedHas s = LayersHave (s .done) × AllHave (s .layer)
@@ -57,10 +54,6 @@ module _ (P : ℕ → Type 0) where
 
     pub moveRotations-has : (s : Shift) (rs : List Rot) → ShiftHas s → AllHave rs → ShiftHas (moveRotations l axes s rs)
     moveRotations-has = moveRotations-by Has Has axis-kept l axes
-
-    pub sweepFrom-has : (layer : List Rot) (n : ℕ) (b : Bool) (ls : List (List Rot)) → AllHave layer → LayersHave ls → LayersHave
-        (sweepFrom l axes layer n b ls .layers)
-    sweepFrom-has = sweepFrom-by Has Has axis-kept l axes
 
     pub sweep-has : (n : ℕ) (ls : List (List Rot)) → LayersHave ls → LayersHave (sweep l axes n ls .layers)
     sweep-has = sweep-by Has Has axis-kept l axes

@@ -1,5 +1,5 @@
 -- Stored axes are words, and no word is stored twice. Assumes nothing.
-use mathlib.Core.Path.{_≡_, sym, ap, _∙_}
+use mathlib.Core.Path.{_≡_, ap, _∙_}
 use mathlib.Core.List.{List, [], _∷_, _++_}
 use Prim.Native.Nat.{ℕ, suc, _+_, _≤_, _<_}
 use native.Mathlib.Omega.{arith}
@@ -22,11 +22,6 @@ pub record StoredWords (l : ℕ) (axes : List (List ℕ)) : Type 0 where
 -- before packing
 pub none-stored : (l : ℕ) → StoredWords l []
 none-stored l = record { words = λ a h. absurd (omega arith); distinct = λ a h. absurd (omega arith) }
-
--- no word is stored twice
-pub words-differ : (l : ℕ) (axes : List (List ℕ)) → StoredWords l axes → (a b : ℕ) → a < length axes → b < length axes
-    → wordOf axes a ≡ wordOf axes b → a ≡ b
-words-differ l axes s a b h k e = sym (s .distinct a h) ∙ ap (idOf axes) e ∙ s .distinct b k
 
 -- a stored word keeps its id
 pub id-kept : (axes more : List (List ℕ)) (w : List ℕ) → idOf axes w < length axes → idOf (axes ++ more) w ≡ idOf axes w

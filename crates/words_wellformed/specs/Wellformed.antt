@@ -71,10 +71,6 @@ work-ids l Angles w h = record {
 
 -- ---- a run
 
--- the signs of packing are 0 or 2 quarter turns
-pub start-signs : (p : Program) → Fine p → packed p .refused ≡ false → SignsEven (startOf p)
-start-signs p fine hermitian = work-signs (width (p .qubits)) (Unit {0}) (startOf p) (start-well p (Unit {0}) fine hermitian) tt
-
 module _ (r : Rules) (rounds : ℕ) (p : Program) (fine : Fine p) (hermitian : packed p .refused ≡ false) where
   -- the work at the end is well-formed
   pub end-well : WellWork (width (p .qubits)) (AnglesStay (width (p .qubits)) r) (endOf r rounds p)
