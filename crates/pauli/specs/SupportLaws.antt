@@ -1,19 +1,21 @@
--- What a signature's bits say, supports within signatures, that words with disjoint ones commute, and how a loop over set bits
--- builds one. Assumes nothing.
+-- What a signature's bits say, supports within signatures, that words with disjoint ones commute, how a loop over set bits builds
+-- one, and what it is at width 1. Assumes nothing.
 use mathlib.Core.Path.{_≡_, refl, sym, ap, _∙_}
 use mathlib.Core.Bool.{false}
 use mathlib.Core.Logic.{_⊎_, inl, inr, ⊎-elim}
 use mathlib.Core.List.{List}
-use Prim.Native.Nat.{ℕ, zero, suc, _+_, _-_, _*_, _/_, _^_, _≤_, _<_, max}
-use native.Mathlib.Nat.{zero-mul, one-mul, add-zero, add-suc, eq-or-lt-of-le, div-lt-iff-lt-mul}
+use Prim.Native.Nat.{ℕ, zero, suc, _+_, _-_, _*_, _/_, _%_, _^_, _≤_, _<_, max}
+use native.Mathlib.Nat.{zero-mul, one-mul, zero-add, add-zero, add-suc, eq-or-lt-of-le, div-lt-iff-lt-mul, div-one, mod-one, mod-lt, mod-eq-of-lt}
+use native.Mathlib.Numerals.{one-add}
 use native.Mathlib.Decide.{ℕ-discrete}
 use native.Mathlib.Omega.{arith}
-use lib.Bits.{bitAnd, bitOr, or-comm, or-zero-r, or-self}
+use lib.Bits.{bitAnd, bitOr, or-comm, or-zero-l, or-zero-r, or-self, or-lt, or-shifted-r}
 use lib.Count.{trailingZeros}
 use lib.Dec.{eqb}
+use lib.Pow.{pow-pos, mod-pow-add}
 use Rattle.bits.specs.Remainder.{lt-or-ge}
 use Rattle.bits.specs.Digit.{Digit, off, on, min-none}
-use Rattle.bits.specs.Bit.{bit, bit-digit, bit-lt, bit-and, bit-or, bit-ext, bit-high, zero-bit, or-assoc, or-swap, pow-bit, pow-other}
+use Rattle.bits.specs.Bit.{bit, bit-digit, bit-lt, bit-and, bit-or, bit-ext, bit-high, bit-is, zero-bit, or-assoc, or-swap, pow-bit, pow-other}
 use Rattle.bits.specs.LowestBit.{lowest-bit, trailing-lt}
 use Rattle.pauli.specs.Word.{xWord, zWord, IsWord, common, xorWords, symplectic, anticommutes}
 use Rattle.pauli.specs.Letter.{letterAt, single, other, acts}
@@ -174,3 +176,19 @@ unfolding signatureTo bucketsOf
 signature-word l p j zero h = rw (add-zero (64 * j)) (sym (or-zero-r _))
 signature-word l p j (suc n) h =
     rw (add-suc (64 * j) n, signature-word l p j n (omega arith), acts-bit l p j n (omega arith)) (search or-assoc)
+
+-- ---- words of width 1
+
+-- bucket q is q: the buckets of the set bits are these bits
+buckets-one : (w n : ℕ) → bucketsOf 1 0 w n ≡ w % 2 ^ n
+unfolding bucketsOf
+buckets-one w zero = sym (mod-one w)
+buckets-one w (suc n) =
+    rw (buckets-one w n, zero-add, div-one, bit-is w n, ← one-add n)
+    (or-shifted-r (w / 2 ^ n % 2) n (w % 2 ^ n) (mod-lt w (pow-pos n)) ∙ sym (mod-pow-add w 1 n))
+
+-- so the signature is the or of the planes
+pub signature-one : (p : List ℕ) → IsWord 1 p → signature 1 p ≡ bitOr (xWord p 0) (zWord 1 p 0)
+unfolding signature signatureTo
+signature-one p w =
+    signature-word 1 p 0 64 (omega arith) ∙ or-zero-l _ ∙ buckets-one _ 64 ∙ mod-eq-of-lt (or-lt 64 _ _ (w .fits 0) (w .fits 1))

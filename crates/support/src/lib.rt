@@ -7,10 +7,10 @@ ghost use Rattle.pauli.specs.Word.{IsWord};
 ghost use Rattle.pauli.specs.Support.{signature};
 ghost use Rattle.pauli.specs.SupportLaws.{bucketsOf};
 
-// The buckets of the set bits of w, the j-th number of a plane, or-ed to sig; w has 64 bits, which its caller cannot see.
+// The buckets of the set bits of w, the j-th number of a plane, or-ed to sig.
 fn add_buckets(sig: u64, w: u64, j: usize, l: usize) -> u64
     requires { ⌜ (j < l) × (l ≤ 2 ^ 32) ⌝ }
-    ensures { λ r. ⌜ (r ≡ bitOr sig (bucketsOf l j w 64)) × (w < 2 ^ 64) ⌝ }
+    ensures { λ r. ⌜ r ≡ bitOr sig (bucketsOf l j w 64) ⌝ }
 {
     let mut s = sig;
     let mut rest = w;
@@ -27,6 +27,10 @@ pub fn support_signature(words: &[u64], l: usize) -> u64
     requires { ⌜ (length (now words) ≡ 2 * l) × (l ≤ 2 ^ 32) ⌝ }
     ensures { λ r. ⌜ (r ≡ signature l (now (words .entry))) × IsWord l (now (words .entry)) ⌝ }
 {
+    // a qubit is its own bucket
+    if l == 1 {
+        return words[0] | words[1];
+    }
     let mut sig: u64 = 0;
     for j in 0..l {
         sig = add_buckets(sig, words[j] | words[l + j], j, l);

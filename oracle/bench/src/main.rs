@@ -4,13 +4,15 @@
 use std::time::Duration;
 
 use jobs::{Job, Memory, Seen};
-use ours::{Call, Counted, OPERATIONS};
+use ours::{Call, Counted, Library, OPERATIONS};
 
 mod kinds;
 
 include!(concat!(env!("OUT_DIR"), "/src/root.rs"));
 
 const RUNS: usize = 5;
+/// Of two libraries, which differ by less.
+const LIBRARY_RUNS: usize = 15;
 
 unsafe extern "C" {
     /// C's: microseconds of processor time that this process has used.
@@ -31,8 +33,9 @@ fn main() {
     match args.first().map(String::as_str) {
         None => programs(),
         Some("--kinds") => compare_kinds(&args[1..]),
+        Some("--before") => compare_before(&args[1..]),
         Some("--growth") => grow(),
-        Some(other) => panic!("{other}: bench [--kinds [NAME ..] | --growth]"),
+        Some(other) => panic!("{other}: bench [--kinds [NAME ..] | --before [NAME ..] | --growth]"),
     }
 }
 
@@ -46,18 +49,52 @@ fn compare_kinds(names: &[String]) {
     }
     println!("| job | limit | Rust with a scan | Rust itself | ours | ours / scan | ours / Rust |");
     println!("|---|---|---|---|---|---|---|");
-    for (name, job) in kinds::kinds() {
-        if names.is_empty() || names.iter().any(|n| n == name) {
-            let job = kinds::fitted(job);
-            let [hash, scan, ours] = best(&job);
-            println!(
-                "| {name} | {} | {scan:.1} | {hash:.1} | {ours:.1} | {:.2} | {:.2} |",
-                job.options.limit,
-                ours / scan,
-                ours / hash
-            );
+    for (name, job) in chosen(names) {
+        let [hash, scan, ours] = best(&job);
+        println!(
+            "| {name} | {} | {scan:.1} | {hash:.1} | {ours:.1} | {:.2} | {:.2} |",
+            job.options.limit,
+            ours / scan,
+            ours / hash
+        );
+    }
+}
+
+/// The same for ours and the library before it, in turn.
+fn compare_before(names: &[String]) {
+    println!("| job | before | ours | ours / before |");
+    println!("|---|---|---|---|");
+    for (name, job) in chosen(names) {
+        let [before, ours] = best_of_libraries(&job);
+        println!(
+            "| {name} | {before:.1} | {ours:.1} | {:.2} |",
+            ours / before
+        );
+    }
+}
+
+/// All kinds of work, or those that are named, each at its least limit.
+fn chosen(names: &[String]) -> impl Iterator<Item = kinds::Kind> {
+    kinds::kinds()
+        .into_iter()
+        .filter(|(name, _)| names.is_empty() || names.iter().any(|n| n == name))
+        .map(|(name, job)| (name, kinds::fitted(job)))
+}
+
+/// The least milliseconds of the library before ours and of ours.
+fn best_of_libraries(job: &Job) -> [f64; 2] {
+    let mut least = [Duration::MAX; 2];
+    for _ in 0..LIBRARY_RUNS {
+        let runs = [Library::Before, Library::Ours].map(|library| time_ours(job, library));
+        assert!(
+            runs[0].1 == runs[1].1,
+            "the library before gives something else"
+        );
+        for (least, (took, _)) in least.iter_mut().zip(&runs) {
+            *least = (*least).min(*took);
         }
     }
+    least.map(|took| took.as_secs_f64() * 1e3)
 }
 
 /// Rotations, then milliseconds of the Rust with a scan, of the Rust itself and of ours, for a plot.
@@ -111,7 +148,7 @@ fn measure(job: &Job) -> ([Vec<Duration>; 3], Given) {
         let runs = [
             time_rust(|run| hash::pbc::PbcCircuit::run_clocked(job, run)),
             time_rust(|run| scan::pbc::PbcCircuit::run_clocked(job, run)),
-            time_ours(job),
+            time_ours(job, Library::Ours),
         ];
         assert!(runs[1].1 == runs[0].1, "the scan gives something else");
         assert!(runs[2].1 == runs[0].1, "ours gives something else");
@@ -141,9 +178,9 @@ fn time_rust(run: impl FnOnce(Clock) -> (Duration, Seen)) -> (Duration, Given) {
     (took, given)
 }
 
-fn time_ours(job: &Job) -> (Duration, Given) {
+fn time_ours(job: &Job, library: Library) -> (Duration, Given) {
     let mut call = Call::new(job, &Memory::ones(job.lent()));
-    let (took, (answer, counted)) = timed(|| call.run());
+    let (took, (answer, counted)) = timed(|| call.run_by(library));
     assert!(answer == 0, "our answer is {answer}");
     (took, given(&counted, &call.memory()))
 }

@@ -12,37 +12,52 @@ pub const OPERATIONS: usize = 5;
 pub const AXES: usize = 6;
 
 // A slice is a pointer and a length.
-unsafe extern "C" {
-    fn werdutxa_rewrite(
-        qubits: usize,
-        node_count: usize,
-        operation_count: usize,
-        lookback: usize,
-        window: usize,
-        candidates: usize,
-        rounds: usize,
-        clifford_to_frame: bool,
-        eager_swaps: bool,
-        lazy_cliffords: bool,
-        litinski: bool,
-        measure_depth: bool,
-        limit: usize,
-        nodes: *const u32,
-        nodes_length: usize,
-        operations: *const u32,
-        operations_length: usize,
-        rows: *const u32,
-        rows_length: usize,
-        words: *mut u64,
-        words_length: usize,
-        numbers: *mut u32,
-        numbers_length: usize,
-        result_operations: *mut u32,
-        result_operations_length: usize,
-        result_rows: *mut u32,
-        result_rows_length: usize,
-        counted: *mut Counted,
-    ) -> u32;
+macro_rules! rewriting {
+    ($name:ident) => {
+        unsafe extern "C" {
+            fn $name(
+                qubits: usize,
+                node_count: usize,
+                operation_count: usize,
+                lookback: usize,
+                window: usize,
+                candidates: usize,
+                rounds: usize,
+                clifford_to_frame: bool,
+                eager_swaps: bool,
+                lazy_cliffords: bool,
+                litinski: bool,
+                measure_depth: bool,
+                limit: usize,
+                nodes: *const u32,
+                nodes_length: usize,
+                operations: *const u32,
+                operations_length: usize,
+                rows: *const u32,
+                rows_length: usize,
+                words: *mut u64,
+                words_length: usize,
+                numbers: *mut u32,
+                numbers_length: usize,
+                result_operations: *mut u32,
+                result_operations_length: usize,
+                result_rows: *mut u32,
+                result_rows_length: usize,
+                counted: *mut Counted,
+            ) -> u32;
+        }
+    };
+}
+
+rewriting!(werdutxa_rewrite);
+#[cfg(before)]
+rewriting!(before_rewrite);
+
+/// Which library is called: this one, or the earlier one that the build was given as BEFORE.
+#[derive(Clone, Copy)]
+pub enum Library {
+    Ours,
+    Before,
 }
 
 /// A job's records as numbers in a row, and the memory that a call is lent, each slice between guards.
@@ -74,11 +89,23 @@ impl<'a> Call<'a> {
 
     /// Rewriting: the answer, and what it counts.
     pub fn run(&mut self) -> (u32, Counted) {
+        self.run_by(Library::Ours)
+    }
+
+    /// The same, by either library.
+    pub fn run_by(&mut self, library: Library) -> (u32, Counted) {
+        let rewrite = match library {
+            Library::Ours => werdutxa_rewrite,
+            #[cfg(before)]
+            Library::Before => before_rewrite,
+            #[cfg(not(before))]
+            Library::Before => panic!("built without BEFORE"),
+        };
         let o = &self.job.options;
         let mut counted = [usize::MAX; 13];
         // SAFETY: each pointer comes with the length of what it points into; no slice that is written overlaps another.
         let answer = unsafe {
-            werdutxa_rewrite(
+            rewrite(
                 self.job.qubits,
                 self.job.nodes.len(),
                 self.job.operations.len(),

@@ -43,7 +43,7 @@ loop-again : tie.Need-loop-again Inv-loop μ-loop
 loop-again c = (omega (arith, and-le-l (c .before .loop .rest) (c .before .loop .rest - 1)), search bit-more)
 
 returns : tie.Need-returns Inv-loop μ-loop
-returns c = (bits-all _ _ _ _ _ (c .loop-test .left) (c .before .loop .inv .1), c .before .before .fits .w .fits)
+returns c = bits-all _ _ _ _ _ (c .loop-test .left) (c .before .loop .inv .1)
 
 pub add-buckets-spec : {M : Type 1} → statement M
 add-buckets-spec =
