@@ -2,23 +2,22 @@
 use mathlib.Core.Path.{_≡_, subst, refl, sym, ap, ap₂, _∙_}
 use mathlib.Core.List.{List}
 use mathlib.Core.Logic.{inl, inr, _≢_}
-use mathlib.Core.Bool.{Bool, true, false, not, _&&_}
+use mathlib.Core.Bool.{Bool, true, false, not}
 use Prim.Native.Nat.{ℕ, _+_, _*_, _/_, _%_, _≤_, _<_, _-_}
 use native.Mathlib.Omega.{arith}
 use native.Mathlib.Decide.{ℕ-discrete}
-use lib.Bits.{bitAnd, bitOr}
-use lib.Dec.{eqb, ltb}
+use lib.Bits.{bitOr}
 use lib.ListN.{length, getD}
-use borrow.Author.Tests.{eq-eqb, ne-eqb, eqb-true, ltb-true, le-ltb, lt-ltb}
+use borrow.Author.Tests.{eq-eqb, ne-eqb}
 use Rattle.store.specs.Part.{put, part-length}
 use Rattle.store.specs.Row.{row, Written}
 use Rattle.pauli.specs.Word.{anticommutes, xorWords, phase}
-use Rattle.pauli.specs.ProductLaws.{xorWords-length, phase-lt}
-use Rattle.pauli.specs.SupportLaws.{SupportWithin, product-within, apart-commute}
-use Rattle.product.specs.Product.{StoredPre, StoredProduct}
+use Rattle.pauli.specs.ProductLaws.{xorWords-length}
+use Rattle.pauli.specs.SupportLaws.{SupportWithin, product-within}
+use Rattle.product.specs.Product.{OddPhaseOf, odd-anticommutes, even-commutes, StoredPre, StoredWord}
 use Rattle.model.specs.Words.{Value, asValue, scaled, multiply}
 use Rattle.model.specs.Clifford.{absorbImage}
-use Rattle.theory.specs.Cases.{if-true, if-false, and-left, and-right}
+use Rattle.theory.specs.Cases.{if-true, if-false}
 use Rattle.layout.specs.declared.Shape.{Shape}
 use Rattle.layout.specs.Rows.{fPhase, rowCount}
 use Rattle.layout.specs.Only.{Only, only-none, only-then}
@@ -26,6 +25,7 @@ use Rattle.layout.specs.Words.{slotPlace, slot-ends, slots-le, slot-in, OnlyWor
 use Rattle.layout.specs.Words.{slot-behind}
 use Rattle.layout.specs.Shape.{longestRow}
 use Rattle.axes.specs.View.{wordAt}
+use Rattle.axes.specs.Beside.{isApart, apart-commutes}
 use Rattle.words_wellformed.specs.HeldImages.{IsQuarters}
 use Rattle.words_wellformed.specs.Conjugation.{value-eq}
 use Rattle.clifford.specs.Holds.{imageIn, signatureIn, Supported, supported-same}
@@ -39,20 +39,6 @@ phase-added {s} {t} {u} {i} e {old} f w =
     subst (λ (v : ℕ). Written s u fPhase i v t) (let g : (old % 4 + e) % 4 ≡ (getD (row s u fPhase) i 0 + e) % 4 = omega arith in g) w
 
 -- ---- signatures
-
--- where words are longer than one number: signature s and that of image i have no bit in common
-unfoldable pub isApart : Shape → List ℕ → ℕ → ℕ → Bool
-isApart z xs i s = ltb 1 (z .l) && eqb (bitAnd s (signatureIn z xs i)) 0
-
-pub apart-narrow : (z : Shape) (xs : List ℕ) (i s : ℕ) → z .l ≤ 1 → false ≡ isApart z xs i s
-unfolding isApart
-apart-narrow z xs i s h = sym (ap (λ (b : Bool). b && eqb (bitAnd s (signatureIn z xs i)) 0) (le-ltb 1 (z .l) h))
-
-pub apart-wide : (z : Shape) (xs : List ℕ) (i s : ℕ) {v : ℕ} → 1 < z .l → v ≡ signatureIn z xs i → eqb (bitAnd s v) 0 ≡ isApart z xs i s
-unfolding isApart
-apart-wide z xs i s h e =
-    ap (λ (x : ℕ). eqb (bitAnd s x) 0) e
-    ∙ sym (ap (λ (b : Bool). b && eqb (bitAnd s (signatureIn z xs i)) 0) (lt-ltb 1 (z .l) h))
 
 -- the signature of image i takes in s
 pub widened : {z : Shape} {i v : ℕ} {xs xs′ : List ℕ} (s : ℕ) → v ≡ signatureIn z xs i → SignaturePut z i (bitOr s v) xs xs′
@@ -86,13 +72,6 @@ module _ {z : Shape} {i b s k : ℕ} {ws xs : List ℕ} (pre : TurnPre z i b s k
   pub turn-slot : {at : ℕ} → at ≡ slotPlace (z .limit) (z .l) i → at + 2 * z .l ≤ length ws
   turn-slot e = omega (arith, slot-in-words)
 
-  pub turn-longs : {at : ℕ} {p q : List ℕ} → at ≡ slotPlace (z .limit) (z .l) i → p ≡ wordAt (z .l) ws b → q ≡ wordAt (z .l) ws at
-      → (length p ≡ 2 * z .l) × (length q ≡ 2 * z .l)
-  turn-longs {at} e f g = (
-    ap length f ∙ part-length ws b (2 * z .l) turn-word,
-    ap length g ∙ part-length ws at (2 * z .l) (turn-slot e),
-  )
-
   pub turn-stored : {at : ℕ} → at ≡ slotPlace (z .limit) (z .l) i → StoredPre (z .l) ws b at at
   turn-stored e = record {
     p-in = turn-word;
@@ -102,49 +81,40 @@ module _ {z : Shape} {i b s k : ℕ} {ws xs : List ℕ} (pre : TurnPre z i b s k
     q-clear = inl refl;
   }
 
-  -- the product's phase
-  pub turn-small : {at e : ℕ} {ws′ : List ℕ} → StoredProduct (z .l) ws b at at ws′ e → e < 4
-  turn-small {at} s = omega (arith, s .turns, phase-lt (z .l) (wordAt (z .l) ws b) (wordAt (z .l) ws at))
-
   -- an image that commutes stays
   stays : anticommutes (z .l) (wordAt (z .l) ws b) (imageIn z ws xs i .word) ≡ false → ImageTurned z i b k ws xs ws xs
   unfolding absorbImage
   stays e = rw (if-true {A = Value} _ _ (ap not e)) (image-stays z i ws xs (pre .supported))
 
   -- the signatures are apart
-  pub turned-apart : {r : Bool} → r ≡ isApart z xs i s → r ≡ true → ImageTurned z i b k ws xs ws xs
-  unfolding isApart
-  turned-apart e t =
-      let both : (ltb 1 (z .l) && eqb (bitAnd s (signatureIn z xs i)) 0) ≡ true = sym e ∙ t in
-      let more : 1 < z .l = ltb-true 1 (z .l) (and-left _ _ both) in
-      stays (apart-commute (pre .within more) (pre .supported .within more) (eqb-true _ _ (and-right (ltb 1 (z .l)) _ both)))
+  pub turned-apart : {r : Bool} → r ≡ isApart (z .l) s (signatureIn z xs i) → r ≡ true → ImageTurned z i b k ws xs ws xs
+  turned-apart e t = stays (apart-commutes (pre .within) (pre .supported .within) (sym e ∙ t))
 
-  -- whether it changes: said of the words that were read
-  module _ {r : Bool} {p q : List ℕ} {at : ℕ} (place : at ≡ slotPlace (z .limit) (z .l) i)
-      (said : r ≡ anticommutes (z .l) p q) (b-read : p ≡ wordAt (z .l) ws b) (i-read : q ≡ wordAt (z .l) ws at) where
-    as-read : r ≡ anticommutes (z .l) (wordAt (z .l) ws b) (imageIn z ws xs i .word)
+  -- whether it changes is told by the phase of its product with the word at b
+  module _ {e at : ℕ} (place : at ≡ slotPlace (z .limit) (z .l) i) (phased : OddPhaseOf (z .l) (wordAt (z .l) ws b) (wordAt (z .l) ws at) e) where
+    of-image : OddPhaseOf (z .l) (wordAt (z .l) ws b) (imageIn z ws xs i .word) e
     unfolding imageIn
-    as-read = said ∙ ap₂ (anticommutes (z .l)) b-read (i-read ∙ ap (wordAt (z .l) ws) place)
+    of-image = rw place at phased
 
     -- it commutes
-    pub turned-not : r ≡ false → ImageTurned z i b k ws xs ws xs
-    turned-not e = stays (sym as-read ∙ e)
+    pub turned-not : (e % 2 ≡ 1 → ⊥) → ImageTurned z i b k ws xs ws xs
+    turned-not n = stays (even-commutes of-image n)
 
     -- "k = 4 gives -P"
-    pub turned-half : {xs′ : List ℕ} → r ≡ true → k ≡ 4 → Written xs (z .u) fPhase i ((getD (row xs (z .u) fPhase) i 0 + 2) % 4) xs′
+    pub turned-half : {xs′ : List ℕ} → e % 2 ≡ 1 → k ≡ 4 → Written xs (z .u) fPhase i ((getD (row xs (z .u) fPhase) i 0 + 2) % 4) xs′
         → ImageTurned z i b k ws xs ws xs′
     unfolding absorbImage
-    turned-half e f w =
-        rw (if-false {A = Value} _ _ (ap not (sym as-read ∙ e)), if-true {A = Value} _ _ (eq-eqb k 4 f))
+    turned-half o f w =
+        rw (if-false {A = Value} _ _ (ap not (odd-anticommutes of-image o)), if-true {A = Value} _ _ (eq-eqb k 4 f))
         (unfold scaled imageIn in (image-phase (pre .there) _ (pre .supported) w))
 
     -- "k = 2 gives iBP, k = -2 gives -iBP"
-    pub turned-quarter : {ws′ xs₁ xs′ : List ℕ} {e : ℕ} → r ≡ true → (k ≡ 4 → ⊥) → StoredProduct (z .l) ws b at at ws′ e
+    pub turned-quarter : {ws′ xs₁ xs′ : List ℕ} → e % 2 ≡ 1 → (k ≡ 4 → ⊥) → StoredWord (z .l) ws b at at ws′
         → Written xs (z .u) fPhase i ((getD (row xs (z .u) fPhase) i 0 + (e + k / 2)) % 4) xs₁
         → SignaturePut z i (bitOr s (signatureIn z xs₁ i)) xs₁ xs′ → ImageTurned z i b k ws xs ws′ xs′
     unfolding absorbImage
-    turned-quarter {ws′} {xs₁} {xs′} {e} t f p w signed =
-        rw (if-false {A = Value} _ _ (ap not (sym as-read ∙ t)), if-false {A = Value} _ _ (ne-eqb k 4 f))
+    turned-quarter {ws′} {xs₁} {xs′} o f stored w signed =
+        rw (if-false {A = Value} _ _ (ap not (odd-anticommutes of-image o)), if-false {A = Value} _ _ (ne-eqb k 4 f))
         (subst (λ (v : Value). ImageSet z i v ws xs ws′ xs′) (sym value)
         (image-put (pre .there) _ _ _ (pre .words-long) long laid w signed product))
       where
@@ -155,10 +125,10 @@ module _ {z : Shape} {i b s k : ℕ} {ws xs : List ℕ} (pre : TurnPre z i b s k
 
         laid : ws′ ≡ put ws (slotPlace (z .limit) (z .l) i)
             (xorWords (wordAt (z .l) ws b) (wordAt (z .l) ws (slotPlace (z .limit) (z .l) i)))
-        laid = rw place at (p .store)
+        laid = rw place at stored
 
         its-phase : e ≡ phase (z .l) (wordAt (z .l) ws b) (wordAt (z .l) ws (slotPlace (z .limit) (z .l) i))
-        its-phase = rw place at (p .turns)
+        its-phase = rw place at (phased .turns o)
 
         value : scaled (k / 2) (multiply (z .l) (asValue (wordAt (z .l) ws b)) (imageIn z ws xs i))
             ≡ record {

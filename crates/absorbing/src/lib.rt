@@ -4,14 +4,18 @@ ghost use Prim.Native.Nat.{_+_, _*_, _%_, _<_, _≤_};
 ghost use lib.Bits.{bitOr};
 ghost use lib.ListN.{length, getD};
 ghost use Rattle.store.specs.Row.{row, Written};
+ghost use Rattle.product.specs.Product.{OddPhaseOf};
 ghost use Rattle.model.specs.Words.{setBits, support, wordOf};
 ghost use Rattle.model.specs.Clifford.{Touched, touchAll, absorbWord};
 ghost use Rattle.layout.specs.Rows.{fPhase};
 ghost use Rattle.clifford.specs.Holds.{signatureIn, SomeTouched, LeftF, TouchedAs, AxisAt};
 ghost use Rattle.clifford.specs.Images.{SignaturePut};
-ghost use Rattle.absorbing.specs.Turning.{isApart, TurnPre, ImageTurned, TurnsPre, ImagesTurned};
+ghost use Rattle.axes.specs.View.{wordAt};
+ghost use Rattle.axes.specs.Beside.{isApart};
+ghost use Rattle.absorbing.specs.Turning.{TurnPre, ImageTurned, TurnsPre, ImagesTurned};
 ghost use Rattle.absorbing.specs.AxisQubits.{BitsAt};
 ghost use Rattle.absorbing.specs.Absorbing.{AbsorbAt};
+use angle::Phase;
 use layout::F_PHASE;
 use layout::IMAGE_SIGNATURE;
 use layout::SIGNATURE;
@@ -81,7 +85,7 @@ fn add_phase(numbers: &mut [u32], u: usize, i: usize, e: u32)
 // Whether a signature and that of image i tell, where words are longer than one number, that the words commute.
 fn apart(numbers: &[u32], shape: Shape, i: usize, signature: u64) -> bool
     requires { ⌜ (24 * shape .u ≤ length (now numbers)) × (i < shape .u) ⌝ }
-    ensures { λ r. ⌜ r ≡ isApart shape (now (numbers .entry)) i signature ⌝ }
+    ensures { λ r. ⌜ r ≡ isApart (shape .l) signature (signatureIn shape (now (numbers .entry)) i) ⌝ }
 {
     if shape.l <= 1 {
         return false;
@@ -99,7 +103,16 @@ fn widen(numbers: &mut [u32], shape: Shape, i: usize, signature: u64)
     clifford::put_signature(numbers, shape, i, signature | old);
 }
 
-// Image i, if it anticommutes with the word B at b, whose support lies within the signature: iBP for angle 2, -iBP for 6, -P for 4.
+// The phase of the product of the words at a and at b.
+fn phase_at(words: &[u64], a: usize, b: usize, l: usize) -> Phase
+    requires { ⌜ (a + 2 * l ≤ length (now words)) × (b + 2 * l ≤ length (now words)) ⌝ }
+    ensures { λ r. ⌜ OddPhaseOf l (wordAt l (now (words .entry)) a) (wordAt l (now (words .entry)) b) (r .0) ⌝ }
+{
+    product::odd_phase(axes::word_at(words, a, l), axes::word_at(words, b, l), l)
+}
+
+// Image P, of number i, by the word B at b, whose support lies within the signature. The phase of BP tells whether they anticommute;
+// if so, P becomes iBP for angle 2, -iBP for 6, -P for 4.
 fn turn_image(
     words: &mut [u64],
     numbers: &mut [u32],
@@ -115,20 +128,16 @@ fn turn_image(
     if apart(&numbers[..], shape, i, signature) {
         return;
     }
-    let l = shape.l;
-    let at = layout::slot_at(shape.limit, l, i);
-    if !pauli::anticommutes(
-        axes::word_at(&words[..], b, l),
-        axes::word_at(&words[..], at, l),
-        l,
-    ) {
+    let at = layout::slot_at(shape.limit, shape.l, i);
+    let e = phase_at(&words[..], b, at, shape.l);
+    if e.0 % 2 != 1 {
         return;
     }
     if k == 4 {
         add_phase(numbers, shape.u, i, 2);
         return;
     }
-    let e = product::product_in(words, b, at, at, l);
+    product::product_word_in(words, b, at, at, shape.l);
     add_phase(numbers, shape.u, i, e.0 as u32 + k / 2);
     widen(numbers, shape, i, signature);
 }

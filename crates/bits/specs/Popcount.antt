@@ -42,7 +42,8 @@ popcount-ones n = in-ones n n (omega arith)
 pub popcount-zero : popcount 0 ≡ 0
 popcount-zero = popcount-ones 0 ∙ ones-zero
 
-popcount-step : (n : ℕ) → popcount n ≡ n % 2 + popcount (n / 2)
+-- the lowest digit, and the half
+pub popcount-step : (n : ℕ) → popcount n ≡ n % 2 + popcount (n / 2)
 popcount-step n = simp popcount-ones (ones-step n)
 
 -- ---- laws

@@ -63,7 +63,7 @@ module _ {z : Shape} {ws : List ℕ} (pre : TimesPre z ws) {o : ℕ} (scratch : 
   unfolding scratchValue multiply
   times-value e t {p} h s g =
       value-eq (g ∙ ap (λ (x : ℕ). (e + t + x) % 4)
-      (s .turns ∙ ap (λ (x : ℕ). phase (z .l) (wordAt (z .l) ws x) (wordAt (z .l) ws p)) scratch))
+      (s .phased .turns ∙ ap (λ (x : ℕ). phase (z .l) (wordAt (z .l) ws x) (wordAt (z .l) ws p)) scratch))
       (ap (λ (x : List ℕ). wordAt (z .l) x (scratchPlace (z .limit))) (s .store)
       ∙ ap (λ (x : ℕ). wordAt (z .l) (put ws o (xorWords (wordAt (z .l) ws o) (wordAt (z .l) ws p))) x) (sym scratch)
       ∙ part-put-same ws o (2 * z .l) (xorWords (wordAt (z .l) ws o) (wordAt (z .l) ws p)) scratch-in long

@@ -117,7 +117,7 @@ module _ {z : Shape} {x : NodeRecord} {ws xs : List ℕ} (a b : ValueHeld) (o : 
   pub phases-small : {ws′ : List ℕ} {e : ℕ} → EvaluatePre z x ws xs → 2 ≤ x .kind → a ≡ heldAt z xs (x .left) → b ≡ heldAt z xs (x .right)
       → StoredProduct (z .l) ws (a .at) (b .at) o ws′ e → (e < 4) × (a .phase < 4) × (b .phase < 4)
   phases-small pre k g h s = (
-    omega (arith, s .turns, phase-lt (z .l) (part ws (a .at) (2 * z .l)) (part ws (b .at) (2 * z .l))),
+    omega (arith, s .phased .turns, phase-lt (z .l) (part ws (a .at) (2 * z .l)) (part ws (b .at) (2 * z .l))),
     omega (arith, held-phase z xs (x .left) g, pre .first-phase k),
     omega (arith, held-phase z xs (x .right) h, pre .second-phase k),
   )
@@ -133,7 +133,7 @@ module _ {z : Shape} {x : NodeRecord} {ws xs : List ℕ} (a b : ValueHeld) (o : 
       (scaled (x .«right_phase») (heldValue z ws xs (x .right))))
       (value-product z x ws xs f g)
       (s .store ∙ rw (c, u, v) refl)
-      (rw (s .turns, held-phase z xs (x .left) p, held-phase z xs (x .right) q, u, v)
+      (rw (s .phased .turns, held-phase z xs (x .left) p, held-phase z xs (x .right) q, u, v)
       (turns-sum _ _ (x .«left_phase») _ (x .«right_phase»)))
 
 -- ---- giving up a use

@@ -1,70 +1,43 @@
--- The loop's invariant: the first j numbers of each plane are done. Assumes nothing.
+-- The phase is read first; the loop's invariant: the first j numbers of the product stand in out. Assumes nothing.
+use mathlib.Core.Path.{_≡_, refl}
 use Prim.Native.Nat.{_-_}
-use lib.ListN.{length-set}
-use Rattle.product.proofs.Turns.{AtWord, word-none, word-more, word-all}
 use native.Mathlib.Omega.{arith}
+use borrow.Author.Needs.{needs}
+use lib.ListN.{length}
+use Rattle.pauli.specs.Word.{xorWords}
+use Rattle.product.proofs.Laying.{Laid, laid-none, word-more, word-all}
 use Rattle.product.proofs.product.Statement.{statement}
 use Rattle.product.proofs.product.Tie as tie
 
 abbrev Inv-loop : tie.InvT-loop
-Inv-loop p q out₀ l e₀ cross₀ j₀ out e cross j = AtWord l p q out₀ out e cross j
+Inv-loop p q out₀ l e j₀ j-end out j = (j-end ≡ length p) × Laid out₀ out 0 (length p) (xorWords p q) j
 
 abbrev μ-loop : tie.MeasureT-loop
-μ-loop p q out₀ l e₀ cross₀ j₀ out e cross j = l - j
+μ-loop p q out₀ l e j₀ j-end out j = j-end - j
+
+product-phase-requires : tie.Need-product-phase-requires Inv-loop μ-loop
+product-phase-requires c κs = search needs
 
 loop-holds : tie.Need-loop-holds Inv-loop μ-loop
-loop-holds c = word-none _ _ _ _
-
-mul-px : tie.Need-mul-px Inv-loop μ-loop
-mul-px c = omega arith
-
-shared-slice-read-px : tie.Need-shared-slice-read-px Inv-loop μ-loop
-shared-slice-read-px c = omega arith
-
-add-pz : tie.Need-add-pz Inv-loop μ-loop
-add-pz c = omega arith
-
-mul-pz : tie.Need-mul-pz Inv-loop μ-loop
-mul-pz c = omega arith
-
-shared-slice-read-pz : tie.Need-shared-slice-read-pz Inv-loop μ-loop
-shared-slice-read-pz c = omega arith
-
-mul-qx : tie.Need-mul-qx Inv-loop μ-loop
-mul-qx c = omega arith
-
-shared-slice-read-qx : tie.Need-shared-slice-read-qx Inv-loop μ-loop
-shared-slice-read-qx c = omega arith
-
-add-qz : tie.Need-add-qz Inv-loop μ-loop
-add-qz c = omega arith
-
-mul-qz : tie.Need-mul-qz Inv-loop μ-loop
-mul-qz c = omega arith
-
-shared-slice-read-qz : tie.Need-shared-slice-read-qz Inv-loop μ-loop
-shared-slice-read-qz c = omega arith
+loop-holds c = (refl, laid-none _ _ _ _)
 
 mul-out : tie.Need-mul-out Inv-loop μ-loop
 mul-out c = omega arith
 
-slice-write-out : tie.Need-slice-write-out Inv-loop μ-loop
-slice-write-out c = omega arith
-
-add-out : tie.Need-add-out Inv-loop μ-loop
-add-out c = omega arith
+shared-slice-read-out : tie.Need-shared-slice-read-out Inv-loop μ-loop
+shared-slice-read-out c = omega arith
 
 mul-out-2 : tie.Need-mul-out-2 Inv-loop μ-loop
 mul-out-2 c = omega arith
 
-slice-write-out-2 : tie.Need-slice-write-out-2 Inv-loop μ-loop
-slice-write-out-2 c = simp length-set (omega arith)
+shared-slice-read-out-2 : tie.Need-shared-slice-read-out-2 Inv-loop μ-loop
+shared-slice-read-out-2 c = omega arith
 
-ys-requires : tie.Need-ys-requires Inv-loop μ-loop
-ys-requires c κs = omega arith
+mul-out-3 : tie.Need-mul-out-3 Inv-loop μ-loop
+mul-out-3 c = omega arith
 
-add-e : tie.Need-add-e Inv-loop μ-loop
-add-e c = omega arith
+slice-write-out : tie.Need-slice-write-out Inv-loop μ-loop
+slice-write-out c = omega arith
 
 add-j : tie.Need-add-j Inv-loop μ-loop
 add-j c = omega arith
@@ -73,16 +46,17 @@ loop-less : tie.Need-loop-less Inv-loop μ-loop
 loop-less c = omega arith
 
 loop-again : tie.Need-loop-again Inv-loop μ-loop
-loop-again c = search word-more
-
-phase-of-requires : tie.Need-phase-of-requires Inv-loop μ-loop
-phase-of-requires c κs = omega arith
+loop-again c = (omega arith, search word-more)
 
 same-length : tie.Need-same-length Inv-loop μ-loop
 same-length c = omega arith
 
 returns : tie.Need-returns Inv-loop μ-loop
-returns c = search word-all
+returns c =
+    record {
+      word = word-all _ _ _ _ _ _ (c .before .before .before .before .before .before .pre) (c .before .loop .inv .1) (omega arith);
+      phased = c .before .before .product-phase .ensures;
+    }
 
 pub product-spec : {M : Type 1} → statement M
 product-spec =
@@ -90,27 +64,16 @@ product-spec =
     (tie.spec
     Inv-loop
     μ-loop
+    product-phase-requires
     loop-holds
-    mul-px
-    shared-slice-read-px
-    add-pz
-    mul-pz
-    shared-slice-read-pz
-    mul-qx
-    shared-slice-read-qx
-    add-qz
-    mul-qz
-    shared-slice-read-qz
     mul-out
-    slice-write-out
-    add-out
+    shared-slice-read-out
     mul-out-2
-    slice-write-out-2
-    ys-requires
-    add-e
+    shared-slice-read-out-2
+    mul-out-3
+    slice-write-out
     add-j
     loop-less
     loop-again
-    phase-of-requires
     same-length
     returns)
