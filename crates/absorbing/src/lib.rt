@@ -11,8 +11,7 @@ ghost use Rattle.layout.specs.Rows.{fPhase};
 ghost use Rattle.clifford.specs.Holds.{signatureIn, SomeTouched, LeftF, TouchedAs, AxisAt};
 ghost use Rattle.clifford.specs.Images.{SignaturePut};
 ghost use Rattle.axes.specs.View.{wordAt};
-ghost use Rattle.axes.specs.Beside.{isApart};
-ghost use Rattle.absorbing.specs.Turning.{TurnPre, ImageTurned, TurnsPre, ImagesTurned};
+ghost use Rattle.absorbing.specs.Turning.{isApart, TurnPre, ImageTurned, TurnsPre, ImagesTurned};
 ghost use Rattle.absorbing.specs.AxisQubits.{BitsAt};
 ghost use Rattle.absorbing.specs.Absorbing.{AbsorbAt};
 use angle::Phase;
@@ -85,7 +84,7 @@ fn add_phase(numbers: &mut [u32], u: usize, i: usize, e: u32)
 // Whether a signature and that of image i tell, where words are longer than one number, that the words commute.
 fn apart(numbers: &[u32], shape: Shape, i: usize, signature: u64) -> bool
     requires { ⌜ (24 * shape .u ≤ length (now numbers)) × (i < shape .u) ⌝ }
-    ensures { λ r. ⌜ r ≡ isApart (shape .l) signature (signatureIn shape (now (numbers .entry)) i) ⌝ }
+    ensures { λ r. ⌜ r ≡ isApart shape (now (numbers .entry)) i signature ⌝ }
 {
     if shape.l <= 1 {
         return false;
@@ -103,8 +102,8 @@ fn widen(numbers: &mut [u32], shape: Shape, i: usize, signature: u64)
     clifford::put_signature(numbers, shape, i, signature | old);
 }
 
-// The phase of the product of the words at a and at b.
-fn phase_at(words: &[u64], a: usize, b: usize, l: usize) -> Phase
+// The phase of the product of the words at a and at b where it is odd, else 0.
+fn odd_phase_at(words: &[u64], a: usize, b: usize, l: usize) -> Phase
     requires { ⌜ (a + 2 * l ≤ length (now words)) × (b + 2 * l ≤ length (now words)) ⌝ }
     ensures { λ r. ⌜ OddPhaseOf l (wordAt l (now (words .entry)) a) (wordAt l (now (words .entry)) b) (r .0) ⌝ }
 {
@@ -129,7 +128,7 @@ fn turn_image(
         return;
     }
     let at = layout::slot_at(shape.limit, shape.l, i);
-    let e = phase_at(&words[..], b, at, shape.l);
+    let e = odd_phase_at(&words[..], b, at, shape.l);
     if e.0 % 2 != 1 {
         return;
     }

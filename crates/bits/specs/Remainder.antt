@@ -21,10 +21,6 @@ sum4 a b = omega arith
 pub double4 : (a b s t : ℕ) → a + 4 * s ≡ 2 * b + 4 * t → a % 4 ≡ 2 * (b % 2)
 double4 a b s t h = omega arith
 
--- a turn of a loop that keeps a sum's remainder: e stands for a, s for b, and both grew alike
-pub step4 : (s e a b : ℕ) → e ≡ a % 4 → s + a ≡ e + b → s % 4 ≡ b % 4
-step4 s e a b h g = omega arith
-
 pub lt-or-ge : (i l : ℕ) → (i < l) ⊎ (l ≤ i)
 lt-or-ge i l = go (decLt i l)
   where

@@ -63,11 +63,11 @@ module _ (l : ℕ) (p q out₀ out : List ℕ) (j : ℕ) (pre : ProductPre l p q
 -- ---- `product_word_in`: three words of one store
 
 -- the product's word
-abbrev pub wordOf : ℕ → List ℕ → ℕ → ℕ → List ℕ
-wordOf l s p q = xorWords (part s p (2 * l)) (part s q (2 * l))
+abbrev pub productWord : ℕ → List ℕ → ℕ → ℕ → List ℕ
+productWord l s p q = xorWords (part s p (2 * l)) (part s q (2 * l))
 
 module _ (l : ℕ) (s₀ : List ℕ) (p q o : ℕ) (s : List ℕ) (j : ℕ) (pre : StoredPre l s₀ p q o)
-    (laid : Laid s₀ s o (2 * l) (wordOf l s₀ p q) j) where
+    (laid : Laid s₀ s o (2 * l) (productWord l s₀ p q) j) where
   -- what is still to be read is as it was
   unread : (w : ℕ) → Clear l o w → j < 2 * l → getD s (w + j) 0 ≡ getD (part s₀ w (2 * l)) j 0
   unread w c h = go c ∙ sym (part-at s₀ w (2 * l) j h)
@@ -77,13 +77,13 @@ module _ (l : ℕ) (s₀ : List ℕ) (p q o : ℕ) (s : List ℕ) (j : ℕ) (pre
       go (inr (inl lo)) = laid .rest (w + j) (inr (omega arith))
       go (inr (inr hi)) = laid .rest (w + j) (inl (omega arith))
 
-  pub place-more : j < 2 * l → Laid s₀ (set s (o + j) (bitXor (getD s (p + j) 0) (getD s (q + j) 0))) o (2 * l) (wordOf l s₀ p q) (j + 1)
+  pub place-more : j < 2 * l → Laid s₀ (set s (o + j) (bitXor (getD s (p + j) 0) (getD s (q + j) 0))) o (2 * l) (productWord l s₀ p q) (j + 1)
   place-more h =
-      laid-more s₀ s o (2 * l) (wordOf l s₀ p q) j laid (pre .o-in) h
+      laid-more s₀ s o (2 * l) (productWord l s₀ p q) j laid (pre .o-in) h
       (ap₂ bitXor (unread p (pre .p-clear) h) (unread q (pre .q-clear) h) ∙ sym (xorWords-at (part s₀ p (2 * l)) (part s₀ q (2 * l)) j))
 
   pub place-all : 2 * l ≤ j → StoredWord l s₀ p q o s
   place-all h =
       let np = part-length s₀ p (2 * l) (pre .p-in) in
-      laid-all s₀ s o (2 * l) (wordOf l s₀ p q) j laid (pre .o-in) h
+      laid-all s₀ s o (2 * l) (productWord l s₀ p q) j laid (pre .o-in) h
       (xorWords-length _ _ (np ∙ sym (part-length s₀ q (2 * l) (pre .q-in))) ∙ np)

@@ -59,11 +59,22 @@ share-to zero zero zero (suc c) d ha hb hc hd = absurd (omega arith)
 share-to zero zero zero zero (suc d) ha hb hc hd = absurd (omega arith)
 share-to (suc k) a b c d ha hb hc hd =
     let rest = share-to k (a / 2) (b / 2) (c / 2) (d / 2) (omega arith) (omega arith) (omega arith) (omega arith) in
-    let last = digit-share (low a) (low b) (low c) (low d) in
-    (rest .0 + last .0,
-    simp (popcount-step (bitAnd a b), popcount-step (bitAnd c d), popcount-step (bitAnd (bitXor a c) (bitXor b d)), popcount-step (bitAnd b c),
-    popcount-step (oddOf a b c d), popcount-step (bitAnd (minusOf a b c d) (oddOf a b c d)), xor-half, xor-low, and-half, and-low)
-    (omega (arith, rest .1, last .1)))
+    let last = digit-share (low a) (low b) (low c) (low d) in (
+      rest .0 + last .0,
+      simp (
+        popcount-step (bitAnd a b),
+        popcount-step (bitAnd c d),
+        popcount-step (bitAnd (bitXor a c) (bitXor b d)),
+        popcount-step (bitAnd b c),
+        popcount-step (oddOf a b c d),
+        popcount-step (bitAnd (minusOf a b c d) (oddOf a b c d)),
+        xor-half,
+        xor-low,
+        and-half,
+        and-low,
+      )
+          (omega (arith, rest .1, last .1)),
+    )
 
 share-word : (a b c d : ℕ)
     → (w : ℕ) × (shareOf a b c d ≡ popcount (oddOf a b c d) + 2 * popcount (bitAnd (minusOf a b c d) (oddOf a b c d)) + 4 * w)
@@ -93,9 +104,10 @@ digits-more : (ones twos o m : ℕ)
     → (w : ℕ) × (popcount (bitXor ones o) + 2 * popcount (bitXor twos (bitAnd (bitXor ones m) o)) + 4 * w
     ≡ popcount ones + 2 * popcount twos + popcount o + 2 * popcount (bitAnd m o))
 digits-more ones twos o m =
-    let carry = bitAnd (bitXor ones m) o in
-    (popcount (bitAnd twos carry) + popcount (bitAnd (bitAnd ones o) (bitAnd m o)),
-    omega (arith, popcount-xor ones o, popcount-xor twos carry, popcount-and-xor ones m o))
+    let carry = bitAnd (bitXor ones m) o in (
+      popcount (bitAnd twos carry) + popcount (bitAnd (bitAnd ones o) (bitAnd m o)),
+      omega (arith, popcount-xor ones o, popcount-xor twos carry, popcount-and-xor ones m o),
+    )
 
 -- what the loop holds after j words
 pub record Reading (l : ℕ) (p q : List ℕ) (ones twos j : ℕ) : Type 0 where

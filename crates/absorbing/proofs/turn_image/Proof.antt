@@ -18,8 +18,8 @@ returns c = turned-apart (c .before .before .before .before .before .pre) (c .be
 slot-at-requires : tie.Need-slot-at-requires
 slot-at-requires c κs = search needs
 
-phase-at-requires : tie.Need-phase-at-requires
-phase-at-requires c κs =
+odd-phase-at-requires : tie.Need-odd-phase-at-requires
+odd-phase-at-requires c κs =
     let pre = c .before .before .before .before .before .before .before .pre in
     (turn-word pre, turn-slot pre (c .before .slot-at .ensures))
 
@@ -31,7 +31,10 @@ same-length-3 c = search needs
 
 returns-2 : tie.Need-returns-2
 returns-2 c =
-    turned-not (c .before .before .before .before .before .before .before .before .before .before .pre) (c .before .before .before .before .slot-at .ensures) (c .before .before .phase-at .ensures) (c .if2 .taken)
+    let odd-phase-at = c .before .before in
+    let slot-at = odd-phase-at .before .before in
+    let start = slot-at .before .before .before .before .before .before in
+    turned-not (start .pre) (slot-at .slot-at .ensures) (odd-phase-at .odd-phase-at .ensures) (c .if2 .taken)
 
 add-phase-requires : tie.Need-add-phase-requires
 add-phase-requires c κs = search needs
@@ -45,12 +48,16 @@ same-length-5 c = search needs
 returns-3 : tie.Need-returns-3
 returns-3 c =
     let test = c .before .before .before .before in
-    let phase-at = test .before .before .before in
-    turned-half (phase-at .before .before .before .before .before .before .before .before .pre) (phase-at .before .before .slot-at .ensures) (phase-at .phase-at .ensures) (test .before .if2 .left)
-    (test .if3 .taken) (c .before .before .add-phase .ensures)
+    let odd-phase-at = test .before .before .before in
+    let slot-at = odd-phase-at .before .before in
+    let start = slot-at .before .before .before .before .before .before in
+    turned-half (start .pre) (slot-at .slot-at .ensures) (odd-phase-at .odd-phase-at .ensures) (test .before .if2 .left) (test .if3 .taken)
+    (c .before .before .add-phase .ensures)
 
 product-word-in-requires : tie.Need-product-word-in-requires
-product-word-in-requires c κs = turn-stored (c .before .before .before .before .before .before .before .before .before .before .before .before .pre) (c .before .before .before .before .before .before .slot-at .ensures)
+product-word-in-requires c κs =
+    let slot-at = c .before .before .before .before .before .before in
+    turn-stored (slot-at .before .before .before .before .before .before .pre) (slot-at .slot-at .ensures)
 
 cast-add-phase : tie.Need-cast-add-phase
 cast-add-phase c = search needs
@@ -60,11 +67,12 @@ add-add-phase c = search needs
 
 add-phase-requires-2 : tie.Need-add-phase-requires-2
 add-phase-requires-2 c κs =
-    let pre = c .before .before .before .before .before .before .before .before .before .before .before .before .before .before .before .before .before .pre in
-    (
+    let test = c .before .before .before .before .before .before .before in
+    let odd-phase-at = test .before .before in
+    let pre = odd-phase-at .before .before .before .before .before .before .before .before .pre in (
       pre .there .numbers-long,
       pre .there .entry,
-      omega (arith, odd-small (c .before .before .before .before .before .before .before .before .before .phase-at .ensures) (c .before .before .before .before .before .before .before .if2 .left), pre .quarters .small),
+      omega (arith, odd-small (odd-phase-at .odd-phase-at .ensures) (test .if2 .left), pre .quarters .small),
     )
 
 widen-requires : tie.Need-widen-requires
@@ -81,9 +89,11 @@ returns-4 c =
     let add-phase2 = c .before .before .before .before .before .before in
     let product-word-in = add-phase2 .before .before .before .before .before in
     let test = product-word-in .before .before in
-    let phase-at = test .before .before .before in
-    turned-quarter (phase-at .before .before .before .before .before .before .before .before .pre) (phase-at .before .before .slot-at .ensures) (phase-at .phase-at .ensures) (test .before .if2 .left)
-    (test .if3 .left) (product-word-in .product-word-in .ensures) (add-phase2 .add-phase2 .ensures) (c .before .before .widen .ensures)
+    let odd-phase-at = test .before .before .before in
+    let slot-at = odd-phase-at .before .before in
+    let start = slot-at .before .before .before .before .before .before in
+    turned-quarter (start .pre) (slot-at .slot-at .ensures) (odd-phase-at .odd-phase-at .ensures) (test .before .if2 .left) (test .if3 .left)
+    (product-word-in .product-word-in .ensures) (add-phase2 .add-phase2 .ensures) (c .before .before .widen .ensures)
 
 pub turn-image-spec : {M : Type 1} → statement M
 turn-image-spec =
@@ -93,7 +103,7 @@ turn-image-spec =
     same-length
     returns
     slot-at-requires
-    phase-at-requires
+    odd-phase-at-requires
     same-length-2
     same-length-3
     returns-2

@@ -46,7 +46,9 @@ loop-less : tie.Need-loop-less Inv-loop μ-loop
 loop-less c = omega arith
 
 loop-again : tie.Need-loop-again Inv-loop μ-loop
-loop-again c = (omega arith, search word-more)
+loop-again c =
+    let loop = c .before .before .before in
+    (loop .loop .inv .0, word-more _ _ _ _ _ _ (loop .before .before .before .before .before .pre) (loop .loop .inv .1) (omega arith))
 
 same-length : tie.Need-same-length Inv-loop μ-loop
 same-length c = omega arith

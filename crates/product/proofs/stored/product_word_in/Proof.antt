@@ -2,12 +2,12 @@
 use mathlib.Core.Path.{_≡_, refl}
 use Prim.Native.Nat.{_-_, _*_}
 use native.Mathlib.Omega.{arith}
-use Rattle.product.proofs.Laying.{wordOf, Laid, laid-none, place-more, place-all}
+use Rattle.product.proofs.Laying.{productWord, Laid, laid-none, place-more, place-all}
 use Rattle.product.proofs.stored.product_word_in.Statement.{statement}
 use Rattle.product.proofs.stored.product_word_in.Tie as tie
 
 abbrev Inv-loop : tie.InvT-loop
-Inv-loop words₀ p q o l j₀ j-end words j = (j-end ≡ 2 * l) × Laid words₀ words o (2 * l) (wordOf l words₀ p q) j
+Inv-loop words₀ p q o l j₀ j-end words j = (j-end ≡ 2 * l) × Laid words₀ words o (2 * l) (productWord l words₀ p q) j
 
 abbrev μ-loop : tie.MeasureT-loop
 μ-loop words₀ p q o l j₀ j-end words j = j-end - j
@@ -52,13 +52,15 @@ loop-less : tie.Need-loop-less Inv-loop μ-loop
 loop-less c = omega arith
 
 loop-again : tie.Need-loop-again Inv-loop μ-loop
-loop-again c = (c .before .before .before .loop .inv .0, search place-more)
+loop-again c =
+    let loop = c .before .before .before in
+    (loop .loop .inv .0, place-more _ _ _ _ _ _ _ (loop .before .pre) (loop .loop .inv .1) (omega arith))
 
 same-length : tie.Need-same-length Inv-loop μ-loop
 same-length c = omega arith
 
 returns : tie.Need-returns Inv-loop μ-loop
-returns c = search place-all
+returns c = place-all _ _ _ _ _ _ _ (c .before .before .pre) (c .before .loop .inv .1) (omega arith)
 
 pub product-word-in-spec : {M : Type 1} → statement M
 product-word-in-spec =

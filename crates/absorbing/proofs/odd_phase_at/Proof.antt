@@ -3,8 +3,8 @@ use mathlib.Core.Path.{ap, _∙_}
 use lib.ListN.{length}
 use Rattle.store.specs.Part.{part-length}
 use borrow.Author.Needs.{needs}
-use Rattle.absorbing.proofs.phase_at.Statement.{statement}
-use Rattle.absorbing.proofs.phase_at.Tie as tie
+use Rattle.absorbing.proofs.odd_phase_at.Statement.{statement}
+use Rattle.absorbing.proofs.odd_phase_at.Tie as tie
 
 word-at-requires : tie.Need-word-at-requires
 word-at-requires c κs = search needs
@@ -23,5 +23,5 @@ odd-phase-requires c κs =
 returns : tie.Need-returns
 returns c = rw (c .before .before .word-at .ensures, c .before .word-at2 .ensures) at (c .odd-phase .ensures)
 
-pub phase-at-spec : {M : Type 1} → statement M
-phase-at-spec = tie.close (tie.spec word-at-requires word-at-requires-2 odd-phase-requires returns)
+pub odd-phase-at-spec : {M : Type 1} → statement M
+odd-phase-at-spec = tie.close (tie.spec word-at-requires word-at-requires-2 odd-phase-requires returns)
