@@ -2,23 +2,22 @@
 use mathlib.Core.Path.{_≡_, subst, refl, sym, ap, ap₂, _∙_}
 use mathlib.Core.List.{List}
 use mathlib.Core.Logic.{inl, inr, _≢_}
-use mathlib.Core.Bool.{Bool, true, false, not, _&&_}
+use mathlib.Core.Bool.{Bool, true, false, not}
 use Prim.Native.Nat.{ℕ, _+_, _*_, _/_, _%_, _≤_, _<_, _-_}
 use native.Mathlib.Omega.{arith}
 use native.Mathlib.Decide.{ℕ-discrete}
-use lib.Bits.{bitAnd, bitOr}
-use lib.Dec.{eqb, ltb}
+use lib.Bits.{bitOr}
 use lib.ListN.{length, getD}
-use borrow.Author.Tests.{eq-eqb, ne-eqb, eqb-true, ltb-true, le-ltb, lt-ltb}
+use borrow.Author.Tests.{eq-eqb, ne-eqb}
 use Rattle.store.specs.Part.{put, part-length}
 use Rattle.store.specs.Row.{row, Written}
 use Rattle.pauli.specs.Word.{anticommutes, xorWords, phase}
 use Rattle.pauli.specs.ProductLaws.{xorWords-length}
-use Rattle.pauli.specs.SupportLaws.{SupportWithin, product-within, apart-commute}
+use Rattle.pauli.specs.SupportLaws.{SupportWithin, product-within}
 use Rattle.product.specs.Product.{OddPhaseOf, odd-anticommutes, even-commutes, StoredPre, StoredWord}
 use Rattle.model.specs.Words.{Value, asValue, scaled, multiply}
 use Rattle.model.specs.Clifford.{absorbImage}
-use Rattle.theory.specs.Cases.{if-true, if-false, and-left, and-right}
+use Rattle.theory.specs.Cases.{if-true, if-false}
 use Rattle.layout.specs.declared.Shape.{Shape}
 use Rattle.layout.specs.Rows.{fPhase, rowCount}
 use Rattle.layout.specs.Only.{Only, only-none, only-then}
@@ -26,6 +25,7 @@ use Rattle.layout.specs.Words.{slotPlace, slot-ends, slots-le, slot-in, OnlyWor
 use Rattle.layout.specs.Words.{slot-behind}
 use Rattle.layout.specs.Shape.{longestRow}
 use Rattle.axes.specs.View.{wordAt}
+use Rattle.axes.specs.Beside.{isApart, apart-commutes}
 use Rattle.words_wellformed.specs.HeldImages.{IsQuarters}
 use Rattle.words_wellformed.specs.Conjugation.{value-eq}
 use Rattle.clifford.specs.Holds.{imageIn, signatureIn, Supported, supported-same}
@@ -39,20 +39,6 @@ phase-added {s} {t} {u} {i} e {old} f w =
     subst (λ (v : ℕ). Written s u fPhase i v t) (let g : (old % 4 + e) % 4 ≡ (getD (row s u fPhase) i 0 + e) % 4 = omega arith in g) w
 
 -- ---- signatures
-
--- where words are longer than one number: signature s and that of image i have no bit in common
-unfoldable pub isApart : Shape → List ℕ → ℕ → ℕ → Bool
-isApart z xs i s = ltb 1 (z .l) && eqb (bitAnd s (signatureIn z xs i)) 0
-
-pub apart-narrow : (z : Shape) (xs : List ℕ) (i s : ℕ) → z .l ≤ 1 → false ≡ isApart z xs i s
-unfolding isApart
-apart-narrow z xs i s h = sym (ap (λ (b : Bool). b && eqb (bitAnd s (signatureIn z xs i)) 0) (le-ltb 1 (z .l) h))
-
-pub apart-wide : (z : Shape) (xs : List ℕ) (i s : ℕ) {v : ℕ} → 1 < z .l → v ≡ signatureIn z xs i → eqb (bitAnd s v) 0 ≡ isApart z xs i s
-unfolding isApart
-apart-wide z xs i s h e =
-    ap (λ (x : ℕ). eqb (bitAnd s x) 0) e
-    ∙ sym (ap (λ (b : Bool). b && eqb (bitAnd s (signatureIn z xs i)) 0) (lt-ltb 1 (z .l) h))
 
 -- the signature of image i takes in s
 pub widened : {z : Shape} {i v : ℕ} {xs xs′ : List ℕ} (s : ℕ) → v ≡ signatureIn z xs i → SignaturePut z i (bitOr s v) xs xs′
@@ -101,12 +87,8 @@ module _ {z : Shape} {i b s k : ℕ} {ws xs : List ℕ} (pre : TurnPre z i b s k
   stays e = rw (if-true {A = Value} _ _ (ap not e)) (image-stays z i ws xs (pre .supported))
 
   -- the signatures are apart
-  pub turned-apart : {r : Bool} → r ≡ isApart z xs i s → r ≡ true → ImageTurned z i b k ws xs ws xs
-  unfolding isApart
-  turned-apart e t =
-      let both : (ltb 1 (z .l) && eqb (bitAnd s (signatureIn z xs i)) 0) ≡ true = sym e ∙ t in
-      let more : 1 < z .l = ltb-true 1 (z .l) (and-left _ _ both) in
-      stays (apart-commute (pre .within more) (pre .supported .within more) (eqb-true _ _ (and-right (ltb 1 (z .l)) _ both)))
+  pub turned-apart : {r : Bool} → r ≡ isApart (z .l) s (signatureIn z xs i) → r ≡ true → ImageTurned z i b k ws xs ws xs
+  turned-apart e t = stays (apart-commutes (pre .within) (pre .supported .within) (sym e ∙ t))
 
   -- whether it changes is told by the phase of its product with the word at b
   module _ {e at : ℕ} (place : at ≡ slotPlace (z .limit) (z .l) i) (phased : OddPhaseOf (z .l) (wordAt (z .l) ws b) (wordAt (z .l) ws at) e) where

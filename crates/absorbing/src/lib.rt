@@ -11,7 +11,8 @@ ghost use Rattle.layout.specs.Rows.{fPhase};
 ghost use Rattle.clifford.specs.Holds.{signatureIn, SomeTouched, LeftF, TouchedAs, AxisAt};
 ghost use Rattle.clifford.specs.Images.{SignaturePut};
 ghost use Rattle.axes.specs.View.{wordAt};
-ghost use Rattle.absorbing.specs.Turning.{isApart, TurnPre, ImageTurned, TurnsPre, ImagesTurned};
+ghost use Rattle.axes.specs.Beside.{isApart};
+ghost use Rattle.absorbing.specs.Turning.{TurnPre, ImageTurned, TurnsPre, ImagesTurned};
 ghost use Rattle.absorbing.specs.AxisQubits.{BitsAt};
 ghost use Rattle.absorbing.specs.Absorbing.{AbsorbAt};
 use angle::Phase;
@@ -84,7 +85,7 @@ fn add_phase(numbers: &mut [u32], u: usize, i: usize, e: u32)
 // Whether a signature and that of image i tell, where words are longer than one number, that the words commute.
 fn apart(numbers: &[u32], shape: Shape, i: usize, signature: u64) -> bool
     requires { ⌜ (24 * shape .u ≤ length (now numbers)) × (i < shape .u) ⌝ }
-    ensures { λ r. ⌜ r ≡ isApart shape (now (numbers .entry)) i signature ⌝ }
+    ensures { λ r. ⌜ r ≡ isApart (shape .l) signature (signatureIn shape (now (numbers .entry)) i) ⌝ }
 {
     if shape.l <= 1 {
         return false;

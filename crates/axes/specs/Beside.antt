@@ -1,17 +1,21 @@
 -- What stands beside an axis in the number store: a key, so that a scan for a word compares one number, and where words are longer
 -- than one number a signature within which its support lies. Assumes nothing.
 use mathlib.Core.Path.{_≡_, refl, sym, ap, _∙_, subst}
-use mathlib.Core.Bool.{false}
+use mathlib.Core.Bool.{Bool, true, false, _&&_}
 use mathlib.Core.List.{List, [], _∷_}
 use Prim.Native.Nat.{ℕ, zero, suc, _+_, _*_, _%_, _^_, _≤_, _<_}
 use native.Mathlib.Numerals.{add-one}
 use native.Mathlib.Omega.{arith}
+use lib.Bits.{bitAnd}
+use lib.Dec.{eqb, ltb}
 use lib.ListN.{length, getD}
+use borrow.Author.Tests.{eqb-true, ltb-true, le-ltb, lt-ltb}
 use Rattle.store.specs.Row.{row}
 use Rattle.store.specs.Wide.{wideAt}
-use Rattle.pauli.specs.SupportLaws.{SupportWithin}
+use Rattle.pauli.specs.Word.{anticommutes}
+use Rattle.pauli.specs.SupportLaws.{SupportWithin, apart-commute}
 use Rattle.model.specs.Lists.{anyOf, member}
-use Rattle.theory.specs.Cases.{neither}
+use Rattle.theory.specs.Cases.{neither, and-left, and-right}
 use Rattle.layout.specs.Rows.{axesRows, signatureRow, keyRow}
 use Rattle.layout.specs.Only.{Only}
 use Rattle.layout.specs.Wide.{wide-kept}
@@ -56,3 +60,26 @@ only-beside {rs} {u = u} o e a =
       key = ap (λ (r : List ℕ). getD r a 0) (o .rows keyRow (omega arith) (neither (member keyRow rs) _ (high .1) .0));
       signature = wide-kept signatureRow o (omega arith) (low .0) (high .0) a;
     }
+
+-- ---- signatures that are apart
+
+-- where words are longer than one number: signatures s and t have no bit in common
+unfoldable pub isApart : ℕ → ℕ → ℕ → Bool
+isApart l s t = ltb 1 l && eqb (bitAnd s t) 0
+
+module _ (l s t : ℕ) where
+  pub apart-narrow : l ≤ 1 → false ≡ isApart l s t
+  unfolding isApart
+  apart-narrow h = sym (ap (λ (b : Bool). b && eqb (bitAnd s t) 0) (le-ltb 1 l h))
+
+  pub apart-wide : 1 < l → eqb (bitAnd s t) 0 ≡ isApart l s t
+  unfolding isApart
+  apart-wide h = sym (ap (λ (b : Bool). b && eqb (bitAnd s t) 0) (lt-ltb 1 l h))
+
+-- words within them commute
+pub apart-commutes : {l s t : ℕ} {p q : List ℕ} → (1 < l → SupportWithin l s p) → (1 < l → SupportWithin l t q) → isApart l s t ≡ true
+    → anticommutes l p q ≡ false
+unfolding isApart
+apart-commutes {l} {s} {t} f g h =
+    let more : 1 < l = ltb-true 1 l (and-left _ _ h) in
+    apart-commute (f more) (g more) (eqb-true _ _ (and-right (ltb 1 l) _ h))

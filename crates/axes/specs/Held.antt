@@ -4,13 +4,9 @@ use mathlib.Core.Bool.{Bool, true, false}
 use mathlib.Core.List.{List, []}
 use Prim.Native.Nat.{ℕ, _+_, _*_, _≤_, _<_}
 use native.Mathlib.Omega.{arith}
-use lib.Bits.{bitAnd}
-use lib.Dec.{eqb}
 use lib.ListN.{length}
-use borrow.Author.Tests.{eqb-true}
 use Rattle.store.specs.Chunk.{chunks}
 use Rattle.store.specs.Wide.{wideAt}
-use Rattle.pauli.specs.SupportLaws.{apart-commute}
 use Rattle.model.specs.Lists.{anyOf, member}
 use Rattle.model.specs.Words.{wordOf, anticommute}
 use Rattle.layout.specs.declared.Shape.{Shape}
@@ -20,7 +16,7 @@ use Rattle.layout.specs.Words.{axisPlace, slots-le, OnlyWords}
 use Rattle.layout.specs.Shape.{Granted}
 use Rattle.axes.specs.declared.Sizes.{Sizes}
 use Rattle.axes.specs.View.{axesOf, axes-length, axes-words}
-use Rattle.axes.specs.Beside.{Beside, SameBeside, same-beside, only-beside}
+use Rattle.axes.specs.Beside.{Beside, SameBeside, same-beside, only-beside, isApart, apart-commutes}
 
 -- a run's sizes with n axes
 abbrev pub sizesOf : Shape → ℕ → Sizes
@@ -97,13 +93,12 @@ module _ {z : Sizes} {ws xs : List ℕ} {axes : List (List ℕ)} (h : HoldsAxes 
     beside = h .beside;
   }
 
--- what the code answers from the signatures of two axes that are apart
-pub apart-answer : {z : Sizes} {ws xs : List ℕ} (h : Stored z ws xs) (a b : ℕ) → a < z .axes → b < z .axes → 1 < z .l → {r : Bool}
-    → r ≡ eqb (bitAnd (wideAt xs (z .u) signatureRow a) (wideAt xs (z .u) signatureRow b)) 0 → r ≡ true
-    → false ≡ anticommute (z .l) (storedAxes z ws) a b
+-- axes whose signatures are apart commute
+pub apart-axes : {z : Sizes} {ws xs : List ℕ} (h : Stored z ws xs) (a b : ℕ) → a < z .axes → b < z .axes → {r : Bool}
+    → r ≡ isApart (z .l) (wideAt xs (z .u) signatureRow a) (wideAt xs (z .u) signatureRow b) → r ≡ true
+    → anticommute (z .l) (storedAxes z ws) a b ≡ false
 unfolding anticommute
-apart-answer h a b c d k e t =
-    sym (apart-commute (h .beside a c .signature k) (h .beside b d .signature k) (eqb-true _ _ (sym e ∙ t)))
+apart-axes h a b c d e t = apart-commutes (h .beside a c .signature) (h .beside b d .signature) (sym e ∙ t)
 
 -- stores as long as granted hold no axes, whatever is in them
 pub held-none : {z : Shape} {ws xs : List ℕ} → Granted z ws xs → HoldsAxes (sizesOf z 0) ws xs []

@@ -1,14 +1,13 @@
 // Stored axes, read: words of 2 l numbers from the start of the word store, axis id at `layout::axis_at`.
 ghost use mathlib.Core.Path.{_≡_};
 ghost use Prim.Native.Nat.{ℕ, _+_, _*_, _<_, _≤_};
-ghost use lib.Bits.{bitAnd};
-ghost use lib.Dec.{eqb};
 ghost use lib.ListN.{length};
 ghost use Rattle.store.specs.Wide.{wideAt};
 ghost use Rattle.model.specs.Words.{anticommute, wordOf};
 ghost use Rattle.layout.specs.Rows.{signatureRow};
 ghost use Rattle.layout.specs.Words.{axisPlace};
 ghost use Rattle.axes.specs.View.{axesOf, wordAt};
+ghost use Rattle.axes.specs.Beside.{isApart};
 ghost use Rattle.axes.specs.Held.{sizesOf, storedAxes, Stored};
 use layout::SIGNATURE;
 use layout::Shape;
@@ -51,23 +50,25 @@ pub fn axis(words: &[u64], id: usize, l: usize) -> &[u64]
     word_at(words, layout::axis_at(l, id), l)
 }
 
-// Whether the signatures of axes a and b have no bucket in common.
-fn apart(numbers: &[u32], z: Sizes, a: usize, b: usize) -> bool
+// Whether the signatures of axes a and b tell that these commute. Where a word is one number, it is as soon looked at.
+pub fn apart(numbers: &[u32], z: Sizes, a: usize, b: usize) -> bool
     requires { ⌜ (24 * z .u ≤ length (now numbers)) × (a < z .u) × (b < z .u) ⌝ }
-    ensures { λ r. ⌜ r ≡ eqb (bitAnd (wideAt (now (numbers .entry)) (z .u) signatureRow a)
-        (wideAt (now (numbers .entry)) (z .u) signatureRow b)) 0 ⌝ }
+    ensures { λ r. ⌜ r ≡ isApart (z .l) (wideAt (now (numbers .entry)) (z .u) signatureRow a)
+        (wideAt (now (numbers .entry)) (z .u) signatureRow b) ⌝ }
 {
+    if z.l <= 1 {
+        return false;
+    }
     store::read_wide(numbers, z.u, SIGNATURE, a) & store::read_wide(numbers, z.u, SIGNATURE, b) == 0
 }
 
-// Whether axes a and b anticommute. Where a word is one number, it is as soon looked at as a signature.
+// Whether axes a and b anticommute.
 pub fn anticommute(words: &[u64], numbers: &[u32], z: Sizes, a: usize, b: usize) -> bool
     requires { ⌜ Stored z (now words) (now numbers) × (a < z .axes) × (b < z .axes) ⌝ }
     ensures { λ r. ⌜ r ≡ anticommute (z .l) (storedAxes z (now (words .entry))) a b ⌝ }
 {
-    let l = z.l;
-    if l > 1 && apart(numbers, z, a, b) {
+    if apart(numbers, z, a, b) {
         return false;
     }
-    anticommutes(axis(words, a, l), axis(words, b, l), l)
+    anticommutes(axis(words, a, z.l), axis(words, b, z.l), z.l)
 }
