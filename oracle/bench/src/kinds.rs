@@ -36,7 +36,19 @@ pub fn kinds() -> Vec<Kind> {
         ),
         ("sparse", sparse.clone()),
         ("sparse lazy", with(&sparse, |o| o.lazy_cliffords = true)),
+        ("1,000 qubits exchanges", exchanges(7, 1_000, 5_000, 300, 2)),
+        ("4,096 qubits exchanges", exchanges(8, 4_096, 4_000, 400, 3)),
     ]
+}
+
+/// Rotations about few axes, many exchanges tried, nothing absorbed.
+fn exchanges(seed: u64, qubits: usize, count: usize, axes: usize, weight: usize) -> Job {
+    let job = repeated(seed, qubits, count, &vec![Axes::Weight(weight); axes], 0);
+    with(&job, |o| {
+        o.window = 512;
+        o.candidates = 1_000;
+        o.clifford_to_frame = false;
+    })
 }
 
 /// The first kind with 5,000 to 40,000 rotations.
