@@ -13,7 +13,7 @@ use Rattle.pauli.specs.Word.{xWord, zWord, common, xorWords, phase, anticommute
 use Rattle.pauli.specs.ProductLaws.{xorWords-at, common-more}
 use Rattle.product.specs.Product.{PhaseOf, OddPhaseOf, phase-tells}
 
--- ---- one word of each plane
+-- ---- one number of each plane
 
 -- the places where the letters anticommute
 abbrev pub oddOf : ℕ → ℕ → ℕ → ℕ → ℕ
