@@ -1,7 +1,7 @@
 -- What an answer of `intern` means for the model's store `st`, whose axes the stores hold. Assumes nothing.
 use mathlib.Core.Path.{_≡_, refl, sym, ap, _∙_, subst}
 use mathlib.Core.List.{List, [], _∷_, _++_}
-use Prim.Native.Nat.{ℕ, _+_, _-_, _*_, _≤_, _<_}
+use Prim.Native.Nat.{ℕ, _+_, _-_, _*_, _≤_, _<_, max}
 use native.Mathlib.Nat.{suc-mul}
 use native.Mathlib.Numerals.{add-one}
 use native.Mathlib.Decide.{decLt}
@@ -20,17 +20,19 @@ use Rattle.axes.specs.declared.Sizes.{Sizes}
 use Rattle.axes.specs.Held.{withAxes, storedAxes, HoldsAxes, held-count}
 use Rattle.interning.specs.Intern.{sumWith, InternPre, Stores, Answered, answered-old, answered-limit}
 use Rattle.interning.specs.Intern.{intern-old, intern-new, answered-new, answered-one}
-use Rattle.interning.specs.Intern.{countWith, count-new, count-old}
+use Rattle.interning.specs.declared.StoredAxis.{StoredAxis}
 use Rattle.interning.specs.declared.Interned.{Interned}
-use Rattle.interning.specs.declared.Interned.the-variants.{Id, Full}
+use Rattle.interning.specs.declared.Interned.the-variants.{Axis, Full}
 
--- what a word's id means to the caller: the stores hold the model's axes, no tested sum exceeds the limit, axes and the other words
--- still fit in it, and the other words that are counted, those behind the limit, and the rows that axes do not keep, are as they were
-pub record HasId (z : Sizes) (others : ℕ) (ws xs : List ℕ) (st : Store) (w : List ℕ) (id : ℕ) (ws′ xs′ : List ℕ) : Type 0 where
-  pub id-is : id ≡ idOf (st .axes) w
-  pub held : HoldsAxes (withAxes (countWith (z .axes) id) z) ws′ xs′ (intern (z .l) others st w .axes)
-  pub fits : intern (z .l) others st w .peak ≤ z .limit
-  pub room : axisPlace (z .l) (z .axes) + others ≤ z .limit → axisPlace (z .l) (countWith (z .axes) id) + others ≤ z .limit
+-- what a word's axis means to the caller: the stores hold the model's axes, so many, the largest tested sum is the model's and within
+-- the limit, axes and the other words still fit in it, and the other words that are counted, those behind the limit, and the rows that
+-- axes do not keep, are as they were
+pub record HasAxis (z : Sizes) (others : ℕ) (ws xs : List ℕ) (st : Store) (w : List ℕ) (a : StoredAxis) (ws′ xs′ : List ℕ) : Type 0 where
+  pub id-is : a .id ≡ idOf (st .axes) w
+  pub held : HoldsAxes (withAxes (a .axes) z) ws′ xs′ (intern (z .l) others st w .axes)
+  pub peak-is : intern (z .l) others st w .peak ≡ a .peak
+  pub fits : a .peak ≤ z .limit
+  pub room : axisPlace (z .l) (z .axes) + others ≤ z .limit → axisPlace (z .l) (a .axes) + others ≤ z .limit
   pub kept : KeptFrom (z .limit - others) ws ws′
   pub numbers : Only axesRows (z .u) xs xs′
 
@@ -42,13 +44,13 @@ pub record NoRoom (z : Sizes) (others : ℕ) (ws xs : List ℕ) (st : Store) (w 
 
 -- what an answer of `intern` means
 abbrev pub InternedAs : Sizes → ℕ → List ℕ → List ℕ → Store → List ℕ → Interned → List ℕ → List ℕ → Type 0
-InternedAs z others ws xs st w (Id id) ws′ xs′ = HasId z others ws xs st w id ws′ xs′
+InternedAs z others ws xs st w (Axis a) ws′ xs′ = HasAxis z others ws xs st w a ws′ xs′
 InternedAs z others ws xs st w Full ws′ xs′ = NoRoom z others ws xs st w ws′ xs′
 
 one-more : (l n : ℕ) → axisPlace l (n + 1) ≡ axisPlace l n + 2 * l
 one-more l n = rw (add-one n) (omega (arith, suc-mul n (2 * l)))
 
-module _ (z : Sizes) (others : ℕ) (ws xs : List ℕ) (at : ℕ) (pre : InternPre z others ws xs at) (st : Store)
+module _ (z : Sizes) (others : ℕ) (ws xs : List ℕ) (at : ℕ) (st : Store) (pre : InternPre z others (st .peak) ws xs at)
     (h : HoldsAxes z ws xs (st .axes)) where
   found : idOf (st .axes) (wordAt (z .l) ws at) ≡ idOf (storedAxes z ws) (wordAt (z .l) ws at)
   found = ap (λ (axes : List (List ℕ)). idOf axes (wordAt (z .l) ws at)) (sym (h .are))
@@ -69,45 +71,45 @@ module _ (z : Sizes) (others : ℕ) (ws xs : List ℕ) (at : ℕ) (pre : InternP
         let f = getD-at (st .axes) (wordAt (z .l) ws at) [] [] (z .axes) (held-count h) in
         rw e (subst (Beside (z .l) (z .u) xs′ (z .axes)) (sym f) own)
 
-    old : st .peak ≤ z .limit → (id : ℕ) → id ≡ idOf (storedAxes z ws) (wordAt (z .l) ws at) → id < z .axes
-        → HasId z others ws xs st (wordAt (z .l) ws at) id ws xs′
-    old p id e b =
+    old : (id : ℕ) → id ≡ idOf (storedAxes z ws) (wordAt (z .l) ws at) → id < z .axes
+        → HasAxis z others ws xs st (wordAt (z .l) ws at) (record { id = id; axes = z .axes; peak = st .peak }) ws xs′
+    old id e b =
         let k = intern-old (z .l) others st (wordAt (z .l) ws at) (omega (arith, held-count h, found)) in
-        let c : z .axes ≡ countWith (z .axes) id = count-old (z .axes) id (omega arith) in
         record {
           id-is = e ∙ sym found;
           held = record {
-            are = ap (λ (n : ℕ). axesOf (z .l) n ws) (sym c) ∙ h .are ∙ sym (ap (λ (x : Store). x .axes) k);
-            within = subst (λ (n : ℕ). axisPlace (z .l) n ≤ z .limit) c (h .within);
+            are = h .are ∙ sym (ap (λ (x : Store). x .axes) k);
+            within = h .within;
             words-long = h .words-long;
             numbers-long = omega (arith, h .numbers-long, o .long);
             fit = record { rows = h .fit .rows; narrow = h .fit .narrow };
             beside = λ a i. subst (λ (x : Store). Beside (z .l) (z .u) xs′ a (wordOf (x .axes) a)) (sym k) (beside-old a (omega arith));
           };
-          fits = omega (arith, ap (λ (x : Store). x .peak) k);
-          room = subst (λ (n : ℕ). axisPlace (z .l) n + others ≤ z .limit) c;
+          peak-is = ap (λ (x : Store). x .peak) k;
+          fits = pre .tested;
+          room = λ r. r;
           kept = kept-none (z .limit - others) ws;
           numbers = o;
         }
 
-    new : Beside (z .l) (z .u) xs′ (z .axes) (wordAt (z .l) ws at) → st .peak ≤ z .limit → (id : ℕ)
+    new : Beside (z .l) (z .u) xs′ (z .axes) (wordAt (z .l) ws at) → (id : ℕ)
         → id ≡ idOf (storedAxes z ws) (wordAt (z .l) ws at) → id ≡ z .axes
         → sumWith (z .l) others (z .axes) ≤ z .limit
-        → HasId z others ws xs st (wordAt (z .l) ws at) id (put ws (axisPlace (z .l) (z .axes)) (wordAt (z .l) ws at)) xs′
-    new own p id e f b =
+        → HasAxis z others ws xs st (wordAt (z .l) ws at)
+        (record { id = id; axes = z .axes + 1; peak = max (st .peak) (sumWith (z .l) others (z .axes)) })
+        (put ws (axisPlace (z .l) (z .axes)) (wordAt (z .l) ws at)) xs′
+    new own id e f b =
         let k = intern-new (z .l) others st (wordAt (z .l) ws at) (omega (arith, held-count h, found)) in
         let g : length (wordAt (z .l) ws at) ≡ 2 * z .l = part-length ws at (2 * z .l) (pre .word-in) in
         let sum : sumWith (z .l) others (length (st .axes)) ≡ sumWith (z .l) others (z .axes) = ap (sumWith (z .l) others) (held-count h) in
-        let c : z .axes + 1 ≡ countWith (z .axes) id = count-new (z .axes) id f in
         record {
           id-is = e ∙ sym found;
           held = record {
             are =
-                ap (λ (n : ℕ). axesOf (z .l) n (put ws (axisPlace (z .l) (z .axes)) (wordAt (z .l) ws at))) (sym c)
-                ∙ axes-put (z .l) (z .axes) ws (wordAt (z .l) ws at) (omega (arith, h .words-long)) g
+                axes-put (z .l) (z .axes) ws (wordAt (z .l) ws at) (omega (arith, h .words-long)) g
                 ∙ ap (λ (axes : List (List ℕ)). axes ++ (wordAt (z .l) ws at ∷ [])) (h .are)
                 ∙ sym (ap (λ (x : Store). x .axes) k);
-            within = subst (λ (n : ℕ). axisPlace (z .l) n ≤ z .limit) c (omega (arith, one-more (z .l) (z .axes)));
+            within = omega (arith, one-more (z .l) (z .axes));
             words-long =
                 omega (arith, h .words-long, put-length ws (axisPlace (z .l) (z .axes)) (wordAt (z .l) ws at) (omega (arith, h .words-long)));
             numbers-long = omega (arith, h .numbers-long, o .long);
@@ -115,8 +117,9 @@ module _ (z : Sizes) (others : ℕ) (ws xs : List ℕ) (at : ℕ) (pre : InternP
             beside = λ a i. subst (λ (x : Store). Beside (z .l) (z .u) xs′ a (wordOf (x .axes) a)) (sym k)
                 (beside-more own a (omega arith) (decLt a (z .axes)));
           };
-          fits = omega (arith, ap (λ (x : Store). x .peak) k, sum);
-          room = λ _. subst (λ (n : ℕ). axisPlace (z .l) n + others ≤ z .limit) c (omega (arith, one-more (z .l) (z .axes)));
+          peak-is = ap (λ (x : Store). x .peak) k ∙ ap (max (st .peak)) sum;
+          fits = omega (arith, pre .tested);
+          room = λ _. omega (arith, one-more (z .l) (z .axes));
           kept =
               kept-put (z .limit - others) ws (axisPlace (z .l) (z .axes)) (wordAt (z .l) ws at) (omega arith) (omega (arith, h .words-long));
           numbers = o;
@@ -129,13 +132,13 @@ module _ (z : Sizes) (others : ℕ) (ws xs : List ℕ) (at : ℕ) (pre : InternP
         let sum : sumWith (z .l) others (length (st .axes)) ≡ sumWith (z .l) others (z .axes) = ap (sumWith (z .l) others) (held-count h) in
         record { exceeds = omega (arith, ap (λ (x : Store). x .peak) k, sum); kept = refl; numbers = o }
 
-  pub interned-is : {r : Interned} {ws′ xs′ : List ℕ} → Stores z others ws xs at r ws′ xs′ → st .peak ≤ z .limit
+  pub interned-is : {r : Interned} {ws′ xs′ : List ℕ} → Stores z others (st .peak) ws xs at r ws′ xs′
       → InternedAs z others ws xs st (wordAt (z .l) ws at) r ws′ xs′
-  interned-is {r} {ws′} {xs′} s p =
+  interned-is {r} {ws′} {xs′} s =
       go (decLt (idOf (storedAxes z ws) (wordAt (z .l) ws at)) (z .axes)) (decLt (z .limit) (sumWith (z .l) others (z .axes)))
     where
       -- there is one answer
-      so : {q : Interned} {vs : List ℕ} → Answered z others ws at q vs
+      so : {q : Interned} {vs : List ℕ} → Answered z others (st .peak) ws at q vs
           → (r ≡ q → InternedAs z others ws xs st (wordAt (z .l) ws at) q vs xs′)
           → InternedAs z others ws xs st (wordAt (z .l) ws at) r ws′ xs′
       so k m = let e = answered-one (s .answered) k in rw (e .0, e .1) (m (e .0))
@@ -145,8 +148,8 @@ module _ (z : Sizes) (others : ℕ) (ws xs : List ℕ) (at : ℕ) (pre : InternP
 
       go : Dec (idOf (storedAxes z ws) (wordAt (z .l) ws at) < z .axes) → Dec (z .limit < sumWith (z .l) others (z .axes))
           → InternedAs z others ws xs st (wordAt (z .l) ws at) r ws′ xs′
-      go (yes a) d = so (answered-old z others ws at _ refl refl a) (λ e. old (s .numbers) (s .kept) p _ refl a)
-      go (no a) (yes b) = so (answered-limit z others ws at _ refl refl refl (omega arith) b) (λ e. none (s .numbers) (s .kept) (last a) b)
+      go (yes a) d = so (answered-old z others _ ws at _ refl refl (pre .tested) a) (λ e. old (s .numbers) (s .kept) _ refl a)
+      go (no a) (yes b) = so (answered-limit z others _ ws at _ refl refl refl (omega arith) b) (λ e. none (s .numbers) (s .kept) (last a) b)
       go (no a) (no b) =
-          so (answered-new z others ws at _ refl refl refl (omega arith) _ (omega arith) refl)
-          (λ e. new (s .numbers) (s .kept) (s .new _ e (omega arith)) p _ refl (last a) (omega arith))
+          so (answered-new z others _ ws at _ refl refl refl (omega arith) (pre .tested) (omega arith) refl _ refl)
+          (λ e. new (s .numbers) (s .kept) (s .new _ e (omega arith)) _ refl (last a) (omega arith))

@@ -1,22 +1,29 @@
 // Axes found and stored: a word's id among the stored axes, or a new one behind them.
 ghost use mathlib.Core.Path.{_≡_};
 ghost use mathlib.Core.Bool.{true};
-ghost use Prim.Native.Nat.{_+_, _^_, _<_};
+ghost use Prim.Native.Nat.{_+_, _<_};
 ghost use lib.ListN.{length};
 ghost use Rattle.model.specs.Words.{idOf};
 ghost use Rattle.axes.specs.Beside.{totalTo, keyOf};
 ghost use Rattle.axes.specs.Held.{storedAxes, Stored};
 ghost use Rattle.interning.specs.Find.{NoneOf, PassPre, Passed};
 ghost use Rattle.interning.specs.Beside.{BesidePre, BesidePut};
-ghost use Rattle.interning.specs.Intern.{InternPre, Stores, countWith};
+ghost use Rattle.interning.specs.Intern.{InternPre, Stores};
 use axes::Sizes;
 use layout::KEY;
 use layout::SIGNATURE;
 use pauli::same;
 
-// The id of a word, or the word store is full: the limit leaves no room for a new word.
+// A word among the axes: its id, how many axes there are with it, and the largest word sum that was tested by then.
+pub struct StoredAxis {
+    pub id: usize,
+    pub axes: usize,
+    pub peak: usize,
+}
+
+// A word is an axis, or the word store is full: the limit leaves no room for a new word.
 pub enum Interned {
-    Id(usize),
+    Axis(StoredAxis),
     Full,
 }
 
@@ -119,16 +126,17 @@ fn put_beside(numbers: &mut [u32], z: Sizes, w: &[u64])
     store::write_wide(numbers, z.u, SIGNATURE, z.axes, signature);
 }
 
-// The id of the word at a place, stored behind the axes if it is new. The limit is tested with the other words counted besides the axes.
+// The word at a place among the axes, stored behind them if it is new. The sum that is tested counts the other words besides the axes.
 pub fn intern(
     words: &mut [u64],
     numbers: &mut [u32],
     z: Sizes,
     others: usize,
+    peak: usize,
     at: usize,
 ) -> Interned
-    requires { ⌜ InternPre z others (now words) (now numbers) at ⌝ }
-    ensures { λ r. ⌜ Stores z others (now (words .entry)) (now (numbers .entry)) at r (now (words .exit)) (now (numbers .exit)) ⌝ }
+    requires { ⌜ InternPre z others peak (now words) (now numbers) at ⌝ }
+    ensures { λ r. ⌜ Stores z others peak (now (words .entry)) (now (numbers .entry)) at r (now (words .exit)) (now (numbers .exit)) ⌝ }
 {
     let id = find(
         &words[..],
@@ -137,22 +145,23 @@ pub fn intern(
         axes::word_at(&words[..], at, z.l),
     );
     if id < z.axes {
-        return Interned::Id(id);
+        return Interned::Axis(StoredAxis {
+            id,
+            axes: z.axes,
+            peak,
+        });
     }
     let n = 2 * z.l;
     let end = layout::axis_at(z.l, z.axes);
-    if z.limit < end + n + others {
+    let sum = end + n + others;
+    if z.limit < sum {
         return Interned::Full;
     }
     put_beside(numbers, z, axes::word_at(&words[..], at, z.l));
     store::copy_within(words, at, end, n);
-    Interned::Id(id)
-}
-
-// How many axes there are once id is among them.
-pub fn count_with(count: usize, id: usize) -> usize
-    requires { ⌜ count + 1 < 2 ^ 64 ⌝ }
-    ensures { λ r. ⌜ r ≡ countWith count id ⌝ }
-{
-    if id == count { count + 1 } else { count }
+    Interned::Axis(StoredAxis {
+        id,
+        axes: z.axes + 1,
+        peak: layout::peak_with(peak, sum),
+    })
 }

@@ -1,7 +1,7 @@
 // Where a run keeps its arrays in the number store, and its words in the word store.
 ghost use mathlib.Core.Path.{_≡_};
 ghost use mathlib.Core.Bool.{false};
-ghost use Prim.Native.Nat.{_+_, _*_, _^_, _≤_, _<_};
+ghost use Prim.Native.Nat.{_+_, _*_, _^_, _≤_, _<_, max};
 ghost use Rattle.model.specs.Checking.{badCount};
 ghost use Rattle.layout.specs.Shape.{shapeOf};
 ghost use Rattle.layout.specs.Words.{axisPlace, slotPlace, scratchPlace};
@@ -139,6 +139,13 @@ pub fn slot_at(limit: usize, l: usize, s: usize) -> usize
 {
     let n = 2 * l;
     limit - (s * n + n)
+}
+
+// The largest word sum that was tested, once this one is.
+pub fn peak_with(peak: usize, sum: usize) -> usize
+    ensures { λ r. ⌜ r ≡ max peak sum ⌝ }
+{
+    if peak < sum { sum } else { peak }
 }
 
 // Where the scratch words begin: behind the limit.

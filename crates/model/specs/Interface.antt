@@ -58,4 +58,5 @@ noCounters = record {
   «t_depth_after» = 0;
   «weight_before» = 0;
   «weight_after» = 0;
+  «packed_words» = 0;
 }

@@ -150,14 +150,15 @@ unfoldable pub letterLines : ℕ → ℕ → List (List ℕ) → List (List ℕ)
 letterLines l id [] = []
 letterLines l id (w ∷ rest) = map (λ q. id ∷ q ∷ letterAt l w q ∷ []) (support l w) ++ letterLines l (suc id) rest
 
--- "A refusal prints its number and seven zeros."
+-- "A refusal prints its number and seven zeros.", M-103's field being one more
 unfoldable pub refusalLines : Answer → List (List ℕ)
-refusalLines a = (numberOf a ∷ 0 ∷ 0 ∷ 0 ∷ 0 ∷ 0 ∷ 0 ∷ 0 ∷ []) ∷ []
+refusalLines a = (numberOf a ∷ 0 ∷ 0 ∷ 0 ∷ 0 ∷ 0 ∷ 0 ∷ 0 ∷ 0 ∷ []) ∷ []
 
--- "answer, T before, T after, merges, swaps, absorbed, operations, axes"
+-- "answer, T before, T after, merges, swaps, absorbed, operations, axes", and M-103's "ninth field"
 unfoldable pub firstLine : Counters → Work → List ℕ
 firstLine c w =
-    0 ∷ c .«t_before» ∷ c .«t_after» ∷ c .merges ∷ c .swaps ∷ c .«cliffords_to_frame» ∷ length (w .items) ∷ length (w .store .axes) ∷ []
+    0 ∷ c .«t_before» ∷ c .«t_after» ∷ c .merges ∷ c .swaps ∷ c .«cliffords_to_frame» ∷ length (w .items) ∷ length (w .store .axes)
+    ∷ c .«packed_words» ∷ []
 
 -- behind the first line those of operations, rows and letters
 unfoldable pub endLines : Rules → Program → Ending → List (List ℕ)

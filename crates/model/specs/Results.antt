@@ -114,4 +114,5 @@ countersOf r p f = record {
   «t_depth_after» = depthOf r p (f .end);
   «weight_before» = sourceWeight p;
   «weight_after» = sumOf (itemWeight p (f .end)) (f .end .items);
+  «packed_words» = f .end .store .peak;
 }

@@ -86,7 +86,7 @@ pub fn number_of(a: Answer) -> u32
     }
 }
 
-// The run's counters: those of `OptimizeStats`, without the axis summaries.
+// The run's counters: those of `OptimizeStats`, without the axis summaries, and the largest word sum that was tested.
 pub struct Counters {
     pub t_before: usize,
     pub t_after: usize,
@@ -99,6 +99,7 @@ pub struct Counters {
     pub t_depth_after: usize,
     pub weight_before: usize,
     pub weight_after: usize,
+    pub packed_words: usize,
 }
 
 // What every run starts from, and what every refusal leaves.
@@ -117,5 +118,6 @@ pub fn no_counters() -> Counters
         t_depth_after: 0,
         weight_before: 0,
         weight_after: 0,
+        packed_words: 0,
     }
 }

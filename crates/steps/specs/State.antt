@@ -2,14 +2,16 @@
 use Prim.Native.Nat.{ℕ}
 use Rattle.steps.specs.declared.State.{State}
 
--- the first: so many axes, so many items
-abbrev pub firstState : ℕ → ℕ → State
-firstState n k = record { axes = n; id = 0; turns = 0; slots = 0; out = k; start = 0; waiting = 0; merges = 0; swaps = 0; absorbed = 0 }
+-- the first: so many axes, the largest sum so far, so many items
+abbrev pub firstState : ℕ → ℕ → ℕ → State
+firstState n peak k =
+    record { axes = n; peak = peak; id = 0; turns = 0; slots = 0; out = k; start = 0; waiting = 0; merges = 0; swaps = 0; absorbed = 0 }
 
--- an axis's image, among so many axes
-abbrev pub withImage : ℕ → ℕ → ℕ → State → State
-withImage n a e st = record {
+-- an axis's image, among so many axes, and the largest sum then
+abbrev pub withImage : ℕ → ℕ → ℕ → ℕ → State → State
+withImage n peak a e st = record {
   axes = n;
+  peak = peak;
   id = a;
   turns = e;
   slots = st .slots;
@@ -21,10 +23,11 @@ withImage n a e st = record {
   absorbed = st .absorbed;
 }
 
--- so many qubits touched
-abbrev pub withSlots : ℕ → State → State
-withSlots n st = record {
+-- so many qubits touched, and the largest sum then
+abbrev pub withSlots : ℕ → ℕ → State → State
+withSlots peak n st = record {
   axes = st .axes;
+  peak = peak;
   id = st .id;
   turns = st .turns;
   slots = n;
@@ -40,6 +43,7 @@ withSlots n st = record {
 abbrev pub withOut : ℕ → State → State
 withOut n st = record {
   axes = st .axes;
+  peak = st .peak;
   id = st .id;
   turns = st .turns;
   slots = st .slots;
@@ -55,6 +59,7 @@ withOut n st = record {
 abbrev pub withSegment : ℕ → State → State
 withSegment n st = record {
   axes = st .axes;
+  peak = st .peak;
   id = st .id;
   turns = st .turns;
   slots = st .slots;
@@ -70,6 +75,7 @@ withSegment n st = record {
 abbrev pub withWaiting : ℕ → State → State
 withWaiting n st = record {
   axes = st .axes;
+  peak = st .peak;
   id = st .id;
   turns = st .turns;
   slots = st .slots;
@@ -85,6 +91,7 @@ withWaiting n st = record {
 abbrev pub withMerges : ℕ → State → State
 withMerges n st = record {
   axes = st .axes;
+  peak = st .peak;
   id = st .id;
   turns = st .turns;
   slots = st .slots;
@@ -100,6 +107,7 @@ withMerges n st = record {
 abbrev pub withSwaps : ℕ → State → State
 withSwaps n st = record {
   axes = st .axes;
+  peak = st .peak;
   id = st .id;
   turns = st .turns;
   slots = st .slots;
@@ -115,6 +123,7 @@ withSwaps n st = record {
 abbrev pub withAbsorbed : ℕ → State → State
 withAbsorbed n st = record {
   axes = st .axes;
+  peak = st .peak;
   id = st .id;
   turns = st .turns;
   slots = st .slots;

@@ -2,10 +2,11 @@
 ghost use mathlib.Core.Path.{_≡_};
 ghost use Rattle.steps.specs.State.{firstState, withImage, withSlots, withWaiting};
 
-// Axes stored; the image of the axis carried last, its id and its quarter turns; qubits that F has touched; items put out, and where their
-// last segment begins; how many places row WAITING names; merges, exchanges and absorbed rotations.
+// Axes stored; the largest word sum that was tested; the image of the axis carried last, its id and its quarter turns; qubits that F has
+// touched; items put out, and where their last segment begins; how many places row WAITING names; merges, exchanges and absorbed rotations.
 pub struct State {
     pub axes: usize,
+    pub peak: usize,
     pub id: usize,
     pub turns: u32,
     pub slots: usize,
@@ -23,12 +24,13 @@ pub enum Step {
     ExpansionLimit,
 }
 
-// Where a run or a stream begins: so many axes, so many items.
-pub fn first_state(axes: usize, out: usize) -> State
-    ensures { λ r. ⌜ r ≡ firstState axes out ⌝ }
+// Where a run or a stream begins: so many axes, the largest sum so far, so many items.
+pub fn first_state(axes: usize, peak: usize, out: usize) -> State
+    ensures { λ r. ⌜ r ≡ firstState axes peak out ⌝ }
 {
     State {
         axes,
+        peak,
         id: 0,
         turns: 0,
         slots: 0,
@@ -41,22 +43,24 @@ pub fn first_state(axes: usize, out: usize) -> State
     }
 }
 
-// The state with an axis's image, among so many axes.
-pub fn with_image(st: State, axes: usize, id: usize, turns: u32) -> State
-    ensures { λ r. ⌜ r ≡ withImage axes id turns st ⌝ }
+// The state with an axis's image, among so many axes, and the largest sum then.
+pub fn with_image(st: State, axes: usize, peak: usize, id: usize, turns: u32) -> State
+    ensures { λ r. ⌜ r ≡ withImage axes peak id turns st ⌝ }
 {
     let mut s = st;
     s.axes = axes;
+    s.peak = peak;
     s.id = id;
     s.turns = turns;
     s
 }
 
-// The state with so many qubits touched.
-pub fn with_slots(st: State, slots: usize) -> State
-    ensures { λ r. ⌜ r ≡ withSlots slots st ⌝ }
+// The state with so many qubits touched, and the largest sum then.
+pub fn with_slots(st: State, peak: usize, slots: usize) -> State
+    ensures { λ r. ⌜ r ≡ withSlots peak slots st ⌝ }
 {
     let mut s = st;
+    s.peak = peak;
     s.slots = slots;
     s
 }
