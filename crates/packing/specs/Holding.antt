@@ -67,6 +67,7 @@ Done p n i j = (referenceAt p j .node < n) ⊎ ((referenceAt p j .node ≡ n) ×
 -- memory holds k: in node n's turn, before reference i; nodes below b have had their slots
 pub record Holding (p : Program) (z : Shape) (b n i : ℕ) (k : Pack) (st : Slots) (ws xs : List ℕ) : Type 0 where
   pub going : k .refused ≡ false
+  pub peak : k .store .peak ≡ st .peak
   pub fits : k .store .peak ≤ z .limit
   pub axes : HoldsAxes (sizesOf z (st .axes)) ws xs (k .store .axes)
   pub room : st .slots * (2 * z .l) + st .axes * (2 * z .l) ≤ z .limit
@@ -85,6 +86,7 @@ pub holding-done : {p : Program} {z : Shape} {b n i m t : ℕ} {k : Pack} {st : 
     → Holding p z b n i k st ws xs → Holding p z b m t k st ws xs
 holding-done f h = record {
   going = h .going;
+  peak = h .peak;
   fits = h .fits;
   axes = h .axes;
   room = h .room;

@@ -73,6 +73,7 @@ module _ {p : Program} {z : Shape} {n : ℕ} {st : Slots} {ws xs : List ℕ} (w 
   after-unused : getD (before p n .uses) n 0 ≡ 0 → Holding p z (suc n) (suc n) 0 (before p (suc n)) st ws xs
   after-unused e = rw (before-unused p n e) (record {
     going = h .going;
+    peak = h .peak;
     fits = h .fits;
     axes = h .axes;
     room = h .room;

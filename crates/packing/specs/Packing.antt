@@ -36,7 +36,7 @@ use Rattle.packing.specs.Signs.{signs-are}
 -- ---- before the first node: no axes, no slots
 
 abbrev pub noSlots : Slots
-noSlots = record { axes = 0; slots = 0; free = 0; taken = 0 }
+noSlots = record { axes = 0; peak = 0; slots = 0; free = 0; taken = 0 }
 
 none-done : (p : Program) (j : ℕ) → Done p 0 0 j → ⊥
 none-done p j (inl a) = omega arith
@@ -47,6 +47,7 @@ start : {p : Program} {z : Shape} {ws xs : List ℕ} → Granted z ws xs → Lin
 unfolding before emptyPack usedBelow
 start {p} granted linked uses = record {
   going = refl;
+  peak = refl;
   fits = omega arith;
   axes = held-none granted;
   room = omega arith;
@@ -79,8 +80,8 @@ module _ {p : Program} {z : Shape} {ws₀ xs₀ ws xs : List ℕ} (w : OfShape p
       peak-before p n (length (p .nodes)) (omega (arith, w .nodes)),
       ap (λ (k : Pack). k .store .peak) (before-all p),
     ));
-    axes = λ m e. absurd (limit-no-axes e);
-    signs = λ m e. absurd (limit-no-axes e);
+    axes = λ m q e. absurd (limit-no-axes e);
+    signs = λ m q e. absurd (limit-no-axes e);
     words = words;
     numbers = numbers;
   }
@@ -92,19 +93,20 @@ module _ {p : Program} {z : Shape} {ws₀ xs₀ ws xs : List ℕ} (w : OfShape p
       let e : packed p ≡ before p n = sym (before-all p) ∙ refused-before p n (length (p .nodes)) (h .0) (omega (arith, w .nodes)) in
       record {
         answer = answer-odd (z .limit) (packed p) (rw e (h .1)) (rw e (h .0));
-        axes = λ m f. absurd (odd-no-axes f);
-        signs = λ m f. absurd (odd-no-axes f);
+        axes = λ m q f. absurd (odd-no-axes f);
+        signs = λ m q f. absurd (odd-no-axes f);
         words = words;
         numbers = numbers;
       }
 
   -- every root is packed
-  packed-axes : {st : Slots} {n : ℕ} → n ≡ z .nodes → Holding p z n n 0 (before p n) st ws xs → PackedAs z p (Axes (st .axes)) ws₀ xs₀ ws xs
+  packed-axes : {st : Slots} {n : ℕ} → n ≡ z .nodes → Holding p z n n 0 (before p n) st ws xs 
+      → PackedAs z p (Axes (st .axes) (st .peak)) ws₀ xs₀ ws xs
   packed-axes {st} {n} e h = record {
-    answer = answer-axes (z .limit) (packed p) (rw (sym all) (h .fits)) (rw (sym all) (h .going)) (st .axes)
-        (held-count axes-held);
-    axes = λ m f. rw (sym (same-axes f)) axes-held;
-    signs = λ m f.
+    answer = answer-axes (z .limit) (packed p) (rw (sym all) (h .fits)) (rw (sym all) (h .going)) (st .axes) (st .peak)
+        (held-count axes-held) (rw (sym all) (h .peak));
+    axes = λ m q f. rw (sym (same-axes f)) axes-held;
+    signs = λ m q f.
         signs-are w (h .linked) (λ j a r. rw (sym all) (h .signed j a r (inl (omega (arith, reference-node p (w .fine) j a, w .nodes)))));
     words = words;
     numbers = numbers;
@@ -164,7 +166,7 @@ module _ {z : Shape} {ns os rs ws xs xs₀ : List ℕ} (pre : PackPre z ns os rs
 
   module _ {n : ℕ} {ws′ xs′ : List ℕ} {st : Slots} (a : AtNode z ns os rs ws xs₀ ws′ xs′ st n) where
     -- the last node's turn is over
-    pub pack-axes : n ≡ z .nodes → PackedAs z (programIn z ns os rs) (Axes (st .axes)) ws xs ws′ xs′
+    pub pack-axes : n ≡ z .nodes → PackedAs z (programIn z ns os rs) (Axes (st .axes) (st .peak)) ws xs ws′ xs′
     pack-axes e = packed-axes (given-shape (pre .given)) (a .rest .words) (numbers-rest (a .rest)) e (a .holding)
 
     module _ {ws″ xs″ : List ℕ} (b : n < z .nodes) (k : RestKept z ws′ xs′ ws″ xs″) where

@@ -210,7 +210,7 @@ module _ {p : Program} {z : Shape} {st : Slots} {n : ℕ} {x : NodeRecord} {ws x
   k₁ = useChildren (nodeAt p n) (before p n)
 
   abbrev st₁ : Slots
-  st₁ = record { axes = st .axes; slots = st .slots; free = r; taken = st .taken }
+  st₁ = record { axes = st .axes; peak = st .peak; slots = st .slots; free = r; taken = st .taken }
 
   words-are : ws′ ≡ put ws (z .limit) word
   words-are = v .words ∙ ap (λ (y : Value). put ws (z .limit) (y .word)) (value-is h)
@@ -286,11 +286,13 @@ module _ {p : Program} {z : Shape} {st : Slots} {n : ℕ} {x : NodeRecord} {ws x
     abbrev s : ℕ
     s = st′ .taken
 
+    same-peak : k₁ .store .peak ≡ before p n .store .peak
+    same-peak = ap (λ (y : Store). y .peak) (children-keep (nodeAt p n) (before p n) .0)
+
     took : Took z n (st .axes) (st .slots) r (row t (z .u) nodeSlot) (row t (z .u) freeRow) k₁ (takeSlot (z .l) k₁) st′
     took =
         took-slot z n (valueOf p) t ws′ (row t (z .u) nodePhase) st₁ k₁ slots-count (slots₁ .all) axes-count (slots₁ .held)
-        (h .holding .room)
-        (omega (arith, h .holding .fits, ap (λ (y : Store). y .peak) (children-keep (nodeAt p n) (before p n) .0))) f
+        (h .holding .room) (same-peak ∙ h .holding .peak) (omega (arith, h .holding .fits, same-peak)) f
 
     slots-fit′ : st′ .slots * (2 * z .l) ≤ z .limit
     slots-fit′ = omega (arith, took .room)
@@ -372,6 +374,7 @@ module _ {p : Program} {z : Shape} {st : Slots} {n : ℕ} {x : NodeRecord} {ws x
       unfolding entries member anyOf
       holding″ = record {
         going = took .refused ∙ children-keep (nodeAt p n) (before p n) .1 .1 ∙ h .holding .going;
+        peak = took .peak;
         fits = took .fits;
         axes = axes″;
         room = took .room;

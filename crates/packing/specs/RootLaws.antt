@@ -1,5 +1,5 @@
 -- Before a root's turn: what memory holds of its node, the root's sign, the model's next state, what `intern` answers. Assumes nothing.
-use mathlib.Core.Path.{_≡_, sym, ap, ap₂, _∙_, subst}
+use mathlib.Core.Path.{_≡_, sym, ap, ap₂, _∙_, subst, subst₂}
 use mathlib.Core.Bool.{true, false}
 use mathlib.Core.List.{List}
 use Prim.Native.Nat.{ℕ, suc, _+_, _*_, _%_, _<_}
@@ -14,10 +14,11 @@ use Rattle.theory.specs.Cases.{if-true, if-false}
 use Rattle.axes.specs.View.{wordAt}
 use Rattle.axes.specs.Held.{sizesOf, held-stored}
 use Rattle.interning.specs.Intern.{InternPre, Stores}
-use Rattle.interning.specs.Stored.{HasId, NoRoom, InternedAs, interned-is}
+use Rattle.interning.specs.Stored.{HasAxis, NoRoom, InternedAs, interned-is}
 use Rattle.axes.specs.declared.Sizes.{Sizes}
+use Rattle.interning.specs.declared.StoredAxis.{StoredAxis}
 use Rattle.interning.specs.declared.Interned.{Interned}
-use Rattle.interning.specs.declared.Interned.the-variants.{Id, Full}
+use Rattle.interning.specs.declared.Interned.the-variants.{Axis, Full}
 use Rattle.layout.specs.declared.Shape.{Shape}
 use Rattle.layout.specs.Words.{slotPlace, slot-in, slot-counted}
 use Rattle.packing_states.specs.References.{referenceAt}
@@ -45,10 +46,10 @@ mod-odd a = omega arith
 abbrev pub rootStore : Program → Shape → Slots → ℕ → ℕ → Store
 rootStore p z st n j = intern (z .l) (st .slots * (2 * z .l)) (within p n j .store) (valueOf p n .word)
 
--- what the id of the root's word means
-abbrev pub RootHasId : Program → Shape → Slots → ℕ → ℕ → List ℕ → List ℕ → ℕ → List ℕ → List ℕ → Type 0
-RootHasId p z st n j ws xs id ws′ xs′ =
-    HasId (sizesOf z (st .axes)) (st .slots * (2 * z .l)) ws xs (within p n j .store) (valueOf p n .word) id ws′ xs′
+-- what the axis of the root's word means
+abbrev pub RootHasAxis : Program → Shape → Slots → ℕ → ℕ → List ℕ → List ℕ → StoredAxis → List ℕ → List ℕ → Type 0
+RootHasAxis p z st n j ws xs a ws′ xs′ =
+    HasAxis (sizesOf z (st .axes)) (st .slots * (2 * z .l)) ws xs (within p n j .store) (valueOf p n .word) a ws′ xs′
 
 -- what its refusal means
 abbrev pub RootNoRoom : Program → Shape → Slots → ℕ → ℕ → List ℕ → List ℕ → List ℕ → List ℕ → Type 0
@@ -81,19 +82,20 @@ module _ {p : Program} {z : Shape} {st : Slots} {n j phase : ℕ} {ws xs : List 
     held-word : wordAt (z .l) ws (v .at) ≡ valueOf p n .word
     held-word = ap (wordAt (z .l) ws) (held-place z xs n e) ∙ h .holding .held .word n (omega arith) (h .used)
 
-    sizes-pre : InternPre (sizesOf z (st .axes)) (st .slots * (2 * z .l)) ws xs (v .at)
+    sizes-pre : InternPre (sizesOf z (st .axes)) (st .slots * (2 * z .l)) (within p n j .store .peak) ws xs (v .at)
     sizes-pre =
         let s = slotOf xs (z .u) n in
         let at : v .at ≡ slotPlace (z .limit) (z .l) s = held-place z xs n e in
         record {
           held = held-stored (h .holding .axes);
           counted = slots-fit (h .holding);
+          tested = h .holding .fits;
           word-in = omega (arith, at, h .granted .words-long, slot-in (z .limit) (z .l) (st .slots) (slots-fit (h .holding)) s slot-below);
           behind = omega (arith, at, slot-counted (z .limit) (z .l) (st .slots) (slots-fit (h .holding)) s slot-below);
         }
 
-    pub intern-pre : {sizes : Sizes} → sizes ≡ sizesOf z (st .axes) → InternPre sizes (st .slots * (2 * z .l)) ws xs (v .at)
-    intern-pre f = rw f sizes-pre
+    pub intern-pre : {sizes : Sizes} → sizes ≡ sizesOf z (st .axes) → InternPre sizes (st .slots * (2 * z .l)) (st .peak) ws xs (v .at)
+    intern-pre f = rw (f, sym (h .holding .peak)) sizes-pre
 
     -- the root's total phase
     pub phase-total : (v .phase + phase % 4) % 4 ≡ (valueOf p n .turns + referenceAt p j .phase) % 4
@@ -123,16 +125,16 @@ module _ {p : Program} {z : Shape} {st : Slots} {n j phase : ℕ} {ws xs : List 
   -- ---- the answer of `intern`
 
   module _ {v : ValueHeld} (e : v ≡ heldAt z xs n) {sizes : Sizes} (f : sizes ≡ sizesOf z (st .axes)) {r : Interned} {ws′ xs′ : List ℕ}
-      (s : Stores sizes (st .slots * (2 * z .l)) ws xs (v .at) r ws′ xs′) where
+      (s : Stores sizes (st .slots * (2 * z .l)) (st .peak) ws xs (v .at) r ws′ xs′) where
     stored-as : InternedAs (sizesOf z (st .axes)) (st .slots * (2 * z .l)) ws xs (within p n j .store) (valueOf p n .word) r ws′ xs′
     stored-as =
         subst (λ (w : List ℕ). InternedAs (sizesOf z (st .axes)) (st .slots * (2 * z .l)) ws xs (within p n j .store) w r ws′ xs′)
         (held-word e)
-        (interned-is _ _ ws xs (v .at) (sizes-pre e) (within p n j .store) (h .holding .axes)
-        (subst (λ (y : Sizes). Stores y (st .slots * (2 * z .l)) ws xs (v .at) r ws′ xs′) f s) (h .holding .fits))
+        (interned-is _ _ ws xs (v .at) (within p n j .store) (sizes-pre e) (h .holding .axes)
+        (subst₂ (λ (y : Sizes) (q : ℕ). Stores y (st .slots * (2 * z .l)) q ws xs (v .at) r ws′ xs′) f (sym (h .holding .peak)) s))
 
-    pub root-has-id : {id : ℕ} → r ≡ Id id → RootHasId p z st n j ws xs id ws′ xs′
-    root-has-id q = rw q at stored-as
+    pub root-has-axis : {a : StoredAxis} → r ≡ Axis a → RootHasAxis p z st n j ws xs a ws′ xs′
+    root-has-axis q = rw q at stored-as
 
     pub root-no-room : r ≡ Full → RootNoRoom p z st n j ws xs ws′ xs′
     root-no-room q = rw q at stored-as

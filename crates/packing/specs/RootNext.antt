@@ -14,7 +14,7 @@ use Rattle.model.specs.Words.{idOf}
 use Rattle.model.specs.Packing.{withStore, useNode}
 use Rattle.theory.specs.Ids.{id-in, id-stored, intern-grows, stored-keeps, id-keeps}
 use Rattle.axes.specs.Held.{held-rows}
-use Rattle.interning.specs.Intern.{countWith}
+use Rattle.interning.specs.declared.StoredAxis.{StoredAxis}
 use Rattle.layout.specs.declared.Shape.{Shape}
 use Rattle.layout.specs.Rows.{rowCount, usesRow, nodeSlot, nodePhase, freeRow, firstRoot, nextRoot, rootAxis, rootSign, axesRows, entries}
 use Rattle.layout.specs.Only.{Only, only-then, only-of}
@@ -31,7 +31,7 @@ use Rattle.packing.specs.Bounds.{slots-fit, nodes-in, slots-in}
 use Rattle.packing.specs.Keeping.{slots-words}
 use Rattle.packing.specs.Values.{ReleasePre, Released}
 use Rattle.packing.specs.Release.{SlotsAre, count-is, free-room, slots-release}
-use Rattle.packing.specs.RootLaws.{rootStore, RootHasId, reference-in, node-in}
+use Rattle.packing.specs.RootLaws.{rootStore, RootHasAxis, reference-in, node-in}
 
 -- ---- the root's axis and sign in their rows
 
@@ -68,8 +68,8 @@ linked-after {p} {z} {j} {id} {turns} {xs} {t} w root k = record {
 -- ---- the turn
 
 module _ {p : Program} {z : Shape} {st : Slots} {n j phase : ℕ} {ws xs : List ℕ} (h : RootAt p z st n j phase ws xs)
-    {id turns : ℕ} {ws′ xs₁ xs′ : List ℕ} (a : RootHasId p z st n j ws xs id ws′ xs₁)
-    (m : ReferenceRows referenceRows (z .u) j id turns xs₁ xs′) where
+    {x : StoredAxis} {turns : ℕ} {ws′ xs₁ xs′ : List ℕ} (a : RootHasAxis p z st n j ws xs x ws′ xs₁)
+    (m : ReferenceRows referenceRows (z .u) j (x .id) turns xs₁ xs′) where
   marked-only : Only (rootAxis ∷ rootSign ∷ axesRows) (z .u) xs xs′
   unfolding member anyOf allOf
   marked-only = only-then (only-of _ refl (a .numbers)) (only-of _ refl (m .only))
@@ -107,7 +107,7 @@ module _ {p : Program} {z : Shape} {st : Slots} {n j phase : ℕ} {ws xs : List 
   }
 
   module _ {free : ℕ} {t : List ℕ} (r : Released xs′ (z .u) (st .free) n free t) where
-    rows : ReferenceRows rootTurnRows (z .u) j id turns xs t
+    rows : ReferenceRows rootTurnRows (z .u) j (x .id) turns xs t
     rows = rows-released (a .numbers) m r
 
     pub rest-next : RestKept z ws xs ws′ t
@@ -162,14 +162,15 @@ module _ {p : Program} {z : Shape} {st : Slots} {n j phase : ℕ} {ws xs : List 
           go (no ne) = signed-other i ne (h .holding .signed i b root (earlier ne d))
 
       pub holding-next : Holding p z (suc n) n (suc j) (useNode n (withStore (rootStore p z st n j) (within p n j)))
-          (record { axes = countWith (st .axes) id; slots = st .slots; free = free; taken = st .taken }) ws′ t
+          (record { axes = x .axes; peak = x .peak; slots = st .slots; free = free; taken = st .taken }) ws′ t
       unfolding useNode member anyOf
       holding-next =
           let s = slots-release n (omega arith) (h .used) slots-marked long-marked (nodes-in (h .granted)) (h .node)
           (slots-in (h .granted) (h .holding)) r in
           record {
             going = h .holding .going;
-            fits = a .fits;
+            peak = a .peak-is;
+            fits = omega (arith, a .peak-is, a .fits);
             axes = held-rows (held-rows (a .held) (m .only) refl) (r .only) refl;
             room = omega (arith, a .room (omega (arith, h .holding .room)));
             slots = h .holding .slots;

@@ -11,9 +11,10 @@ use Rattle.model.specs.Packing.{useNode}
 use Rattle.theory.specs.Ids.{id-le}
 use Rattle.axes.specs.declared.Sizes.{Sizes}
 use Rattle.axes.specs.Held.{sizesOf, held-count}
-use Rattle.interning.specs.Intern.{Stores, countWith}
+use Rattle.interning.specs.Intern.{Stores}
+use Rattle.interning.specs.declared.StoredAxis.{StoredAxis}
 use Rattle.interning.specs.declared.Interned.{Interned}
-use Rattle.interning.specs.declared.Interned.the-variants.{Id, Full}
+use Rattle.interning.specs.declared.Interned.the-variants.{Axis, Full}
 use Rattle.layout.specs.declared.Shape.{Shape}
 use Rattle.layout.specs.Rows.{rowCount, rootAxis, rootSign}
 use Rattle.layout.specs.Only.{only-of}
@@ -29,7 +30,7 @@ use Rattle.packing.specs.RestKept.{turnRows, RestKept}
 use Rattle.packing.specs.Bounds.{slots-fit}
 use Rattle.packing.specs.Values.{heldAt, ReleasePre, Released}
 use Rattle.packing.specs.RootLaws.{reference-in, phase-total, odd-root, even-root, refused-next, stored-next}
-use Rattle.packing.specs.RootLaws.{RootHasId, root-has-id, root-no-room}
+use Rattle.packing.specs.RootLaws.{RootHasAxis, root-has-axis, root-no-room}
 use Rattle.packing.specs.RootNext.{release-pre, rest-next, holding-next}
 
 module _ {p : Program} {z : Shape} {st : Slots} {n j phase : ℕ} {ws xs : List ℕ} (h : RootAt p z st n j phase ws xs) where
@@ -53,7 +54,7 @@ module _ {p : Program} {z : Shape} {st : Slots} {n j phase : ℕ} {ws xs : List 
     root-odd o = rw (refused-next h (odd-root h e o)) (refl, h .holding .fits)
 
     module _ {sizes : Sizes} (f : sizes ≡ sizesOf z (st .axes)) {r : Interned} {ws′ xs′ : List ℕ}
-        (s : Stores sizes (st .slots * (2 * z .l)) ws xs (v .at) r ws′ xs′) where
+        (s : Stores sizes (st .slots * (2 * z .l)) (st .peak) ws xs (v .at) r ws′ xs′) where
       -- ---- 10
 
       pub rest-limit : r ≡ Full → RestKept z ws xs ws′ xs′
@@ -67,13 +68,13 @@ module _ {p : Program} {z : Shape} {st : Slots} {n j phase : ℕ} {ws xs : List 
       unfolding useNode
       root-limit o q = rw (stored-next h (even-root h e o)) (root-no-room h e f s q .exceeds)
 
-      -- ---- the word has an id
+      -- ---- the word is an axis
 
-      module _ {id : ℕ} (q : r ≡ Id id) where
-        stored : RootHasId p z st n j ws xs id ws′ xs′
-        stored = root-has-id h e f s q
+      module _ {axis : StoredAxis} (q : r ≡ Axis axis) where
+        stored : RootHasAxis p z st n j ws xs axis ws′ xs′
+        stored = root-has-axis h e f s q
 
-        pub id-small : id < longestRow
+        pub id-small : axis .id < longestRow
         id-small =
             omega (arith, axes-small, held-count (h .holding .axes), stored .id-is, id-le (within p n j .store .axes) (valueOf p n .word))
 
@@ -81,9 +82,9 @@ module _ {p : Program} {z : Shape} {st : Slots} {n j phase : ℕ} {ws xs : List 
         pub stored-long : rowCount * z .u ≤ length xs′
         stored-long = omega (arith, h .granted .numbers-long, stored .numbers .long)
 
-        module _ {x y : List ℕ} (a : Written xs′ (z .u) rootAxis j id x)
+        module _ {x y : List ℕ} (a : Written xs′ (z .u) rootAxis j (axis .id) x)
             (b : Written x (z .u) rootSign j ((v .phase + phase % 4) % 4) y) where
-          written : ReferenceRows referenceRows (z .u) j id ((v .phase + phase % 4) % 4) xs′ y
+          written : ReferenceRows referenceRows (z .u) j (axis .id) ((v .phase + phase % 4) % 4) xs′ y
           written = reference-rows stored-long (reference-in h) a b
 
           pub root-release : ReleasePre y (z .u) (st .free) n
@@ -93,7 +94,6 @@ module _ {p : Program} {z : Shape} {st : Slots} {n j phase : ℕ} {ws xs : List 
             pub root-rest : RestKept z ws xs ws′ t
             root-rest = rest-next h stored written c
 
-            pub root-next : (((v .phase + phase % 4) % 4) % 2 ≡ 1 → ⊥) → {count : ℕ} → count ≡ countWith (st .axes) id
-                → Turned p z (suc n) n (suc j) (within p n (suc j))
-                (Next (record { axes = count; slots = st .slots; free = free; taken = st .taken })) ws′ t
-            root-next o g = rw (g, stored-next h (even-root h e o)) (holding-next h stored written c (phase-total h e))
+            pub root-next : (((v .phase + phase % 4) % 4) % 2 ≡ 1 → ⊥) → Turned p z (suc n) n (suc j) (within p n (suc j))
+                (Next (record { axes = axis .axes; peak = axis .peak; slots = st .slots; free = free; taken = st .taken })) ws′ t
+            root-next o = rw (stored-next h (even-root h e o)) (holding-next h stored written c (phase-total h e))

@@ -1,8 +1,8 @@
 -- What an answer of `take_slot` means for the model, whose free slots are those in memory. Assumes nothing.
-use mathlib.Core.Path.{_≡_, refl, ap, subst}
+use mathlib.Core.Path.{_≡_, refl, sym, ap, ap₂, subst}
 use mathlib.Core.Logic.{_⊎_, inl, inr, ⊎-elim}
 use mathlib.Core.List.{List}
-use Prim.Native.Nat.{ℕ, suc, _+_, _-_, _*_, _≤_, _<_}
+use Prim.Native.Nat.{ℕ, suc, _+_, _-_, _*_, _≤_, _<_, max}
 use native.Mathlib.Nat.{add-mul}
 use native.Mathlib.Numerals.{add-one}
 use native.Mathlib.Omega.{arith}
@@ -29,7 +29,7 @@ Freed z xs st st′ = (0 < st .free) × (freeTaken z xs st ≡ st′)
 
 -- a new one within the limit
 abbrev New : Shape → Slots → Slots → Type 0
-New z st st′ = (st .free ≡ 0) × ((slotSum z st ≤ z .limit) × (newTaken st ≡ st′))
+New z st st′ = (st .free ≡ 0) × ((slotSum z st ≤ z .limit) × (newTaken z st ≡ st′))
 
 -- what the answer means; without a slot none is free, and a new one exceeds the limit
 abbrev TakenAs : Shape → List ℕ → Slots → Step → Type 0
@@ -73,6 +73,7 @@ pub record Took (z : Shape) (n axes slots free : ℕ) (slotRow stack : List ℕ)
   pub all : q .live + st .free ≡ st .slots
   pub live-more : q .live ≡ suc (k .live)
   pub stored : q .store .axes ≡ k .store .axes
+  pub peak : q .store .peak ≡ st .peak
   pub fits : q .store .peak ≤ z .limit
   pub refused : q .refused ≡ k .refused
   pub uses : q .uses ≡ k .uses
@@ -94,7 +95,8 @@ module _ (z : Shape) (n : ℕ) (value : ℕ → Value) (xs ws phaseRow : List �
   module _
       (held : SlotsHold (z .l) (z .limit) n (st .slots) (st .free) value (k .uses) (row xs (z .u) nodeSlot) phaseRow
       (row xs (z .u) freeRow) ws)
-      (room : st .slots * (2 * z .l) + st .axes * (2 * z .l) ≤ z .limit) (fits : k .store .peak ≤ z .limit) where
+      (room : st .slots * (2 * z .l) + st .axes * (2 * z .l) ≤ z .limit) (peak : k .store .peak ≡ st .peak)
+      (fits : k .store .peak ≤ z .limit) where
     abbrev Result : Slots → Type 0
     Result st′ = Took z n (st .axes) (st .slots) (st .free) (row xs (z .u) nodeSlot) (row xs (z .u) freeRow) k (takeSlot (z .l) k) st′
 
@@ -107,12 +109,13 @@ module _ (z : Shape) (n : ℕ) (value : ℕ → Value) (xs ws phaseRow : List �
       all = omega arith;
       live-more = refl;
       stored = refl;
+      peak = peak;
       fits = fits;
       refused = refl;
       uses = refl;
     })
 
-    took-new : st .free ≡ 0 → slotSum z st ≤ z .limit → Result (newTaken st)
+    took-new : st .free ≡ 0 → slotSum z st ≤ z .limit → Result (newTaken z st)
     unfolding tested
     took-new h f =
         rw (model-new (z .l) k (omega arith)) (record {
@@ -123,6 +126,7 @@ module _ (z : Shape) (n : ℕ) (value : ℕ → Value) (xs ws phaseRow : List �
           all = omega arith;
           live-more = refl;
           stored = refl;
+          peak = ap₂ max peak (sym same-sum);
           fits = omega (arith, same-sum);
           refused = refl;
           uses = refl;

@@ -3,7 +3,7 @@ use mathlib.Core.Path.{_≡_, refl, sym, ap, _∙_}
 use mathlib.Core.Bool.{true, false}
 use mathlib.Core.List.{List, [], _∷_}
 use mathlib.Core.Logic.{inr}
-use Prim.Native.Nat.{ℕ, _+_, _-_, _*_, _/_, _%_, _≤_, _<_}
+use Prim.Native.Nat.{ℕ, _+_, _-_, _*_, _/_, _%_, _≤_, _<_, max}
 use native.Mathlib.Nat.{add-zero, add-mul, one-mul}
 use native.Mathlib.Omega.{arith}
 use lib.Dec.{eqb}
@@ -32,7 +32,7 @@ use Rattle.packing.specs.declared.Slots.{Slots}
 use Rattle.packing.specs.declared.ValueHeld.{ValueHeld}
 use Rattle.packing.specs.declared.Step.the-variants.{Next, ExpansionLimit}
 use Rattle.packing.specs.Values.{slotOf, phaseOf, HeldPre, heldAt, heldValue, EvaluatePre, valueOfRecord, Evaluated, usesOf}
-use Rattle.packing.specs.Values.{ReleasePre, Released, ChildrenPre, ChildrenReleased, newTaken, taken, KeepPre, Kept}
+use Rattle.packing.specs.Values.{ReleasePre, Released, ChildrenPre, ChildrenReleased, taken, KeepPre, Kept}
 
 -- ---- what is held of a node
 
@@ -228,10 +228,10 @@ sum-is l s a = omega (arith, add-mul (s + 1) a (2 * l), add-mul s 1 (2 * l), one
 
 module _ (z : Shape) (xs : List ℕ) (st : Slots) where
   pub taken-free : (s : ℕ) → 0 < st .free → s ≡ getD (row xs (z .u) freeRow) (st .free - 1) 0
-      → Next (record { axes = st .axes; slots = st .slots; free = st .free - 1; taken = s }) ≡ taken z xs st
+      → Next (record { axes = st .axes; peak = st .peak; slots = st .slots; free = st .free - 1; taken = s }) ≡ taken z xs st
   unfolding taken
   taken-free s h e =
-      ap (λ (i : ℕ). Next (record { axes = st .axes; slots = st .slots; free = st .free - 1; taken = i })) e
+      ap (λ (i : ℕ). Next (record { axes = st .axes; peak = st .peak; slots = st .slots; free = st .free - 1; taken = i })) e
       ∙ sym (if-true _ _ (lt-ltb 0 (st .free) h))
 
   pub taken-limit : st .free ≤ 0 → z .limit < st .slots * (2 * z .l) + 2 * z .l + st .axes * (2 * z .l) → ExpansionLimit ≡ taken z xs st
@@ -240,10 +240,14 @@ module _ (z : Shape) (xs : List ℕ) (st : Slots) where
       sym (if-false _ _ (le-ltb 0 (st .free) h) ∙ if-true _ _ (lt-ltb (z .limit) _ (rw (sum-is (z .l) (st .slots) (st .axes)) k)))
 
   pub taken-new : st .free ≤ 0 → st .slots * (2 * z .l) + 2 * z .l + st .axes * (2 * z .l) ≤ z .limit
-      → Next (newTaken st) ≡ taken z xs st
+      → (q : ℕ) → q ≡ max (st .peak) (st .slots * (2 * z .l) + 2 * z .l + st .axes * (2 * z .l))
+      → Next (record { axes = st .axes; peak = q; slots = st .slots + 1; free = 0; taken = st .slots }) ≡ taken z xs st
   unfolding taken
-  taken-new h k =
-      sym (if-false _ _ (le-ltb 0 (st .free) h) ∙ if-false _ _ (le-ltb (z .limit) _ (rw (sum-is (z .l) (st .slots) (st .axes)) k)))
+  taken-new h k q e =
+      let sum = sum-is (z .l) (st .slots) (st .axes) in
+      ap (λ (i : ℕ). Next (record { axes = st .axes; peak = i; slots = st .slots + 1; free = 0; taken = st .slots }))
+      (e ∙ ap (max (st .peak)) (sym sum))
+      ∙ sym (if-false _ _ (le-ltb 0 (st .free) h) ∙ if-false _ _ (le-ltb (z .limit) _ (rw sum k)))
 
 -- ---- keeping a value
 

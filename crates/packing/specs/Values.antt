@@ -1,7 +1,7 @@
 -- Slots: what the functions over them demand and leave. Assumes nothing.
 use mathlib.Core.Path.{_≡_}
 use mathlib.Core.List.{List, [], _∷_}
-use Prim.Native.Nat.{ℕ, _+_, _-_, _*_, _≤_, _<_}
+use Prim.Native.Nat.{ℕ, _+_, _-_, _*_, _≤_, _<_, max}
 use lib.Dec.{eqb, ltb}
 use lib.ListN.{length, getD, set}
 use Rattle.store.specs.Part.{part, put}
@@ -124,21 +124,22 @@ slotSum z st = (st .slots + 1 + st .axes) * (2 * z .l)
 abbrev pub freeTaken : Shape → List ℕ → Slots → Slots
 freeTaken z xs st = record {
   axes = st .axes;
+  peak = st .peak;
   slots = st .slots;
   free = st .free - 1;
   taken = getD (row xs (z .u) freeRow) (st .free - 1) 0;
 }
 
 -- a new one is
-abbrev pub newTaken : Slots → Slots
-newTaken st = record { axes = st .axes; slots = st .slots + 1; free = 0; taken = st .slots }
+abbrev pub newTaken : Shape → Slots → Slots
+newTaken z st = record { axes = st .axes; peak = max (st .peak) (slotSum z st); slots = st .slots + 1; free = 0; taken = st .slots }
 
 -- "a slot is freed after its last use and reused, last freed first"; for a new one the sum is tested
 unfoldable pub taken : Shape → List ℕ → Slots → Step
 taken z xs st =
     if ltb 0 (st .free) then Next (freeTaken z xs st)
     else if ltb (z .limit) (slotSum z st) then ExpansionLimit
-    else Next (newTaken st)
+    else Next (newTaken z st)
 
 -- ---- keeping a value
 

@@ -23,9 +23,10 @@ use layout::USES;
 use packing_answer::Packed;
 use records::NodeRecord;
 
-// Axes stored, slots allocated, slots on the free stack, and the slot taken last.
+// Axes stored, the largest word sum that was tested, slots allocated, slots on the free stack, and the slot taken last.
 struct Slots {
     axes: usize,
+    peak: usize,
     slots: usize,
     free: usize,
     taken: usize,
@@ -62,6 +63,7 @@ fn place_node(
     let free = values::release_children(numbers, shape.u, st.free, x);
     let freed = Slots {
         axes: st.axes,
+        peak: st.peak,
         slots: st.slots,
         free,
         taken: st.taken,
@@ -110,15 +112,16 @@ fn pack_root(
     }
     let counted = st.slots * (2 * shape.l);
     let sizes = axes::sizes_of(shape, st.axes);
-    let i = interning::intern(words, numbers, sizes, counted, v.at);
-    let Interned::Id(id) = i else {
+    let i = interning::intern(words, numbers, sizes, counted, st.peak, v.at);
+    let Interned::Axis(a) = i else {
         return Step::ExpansionLimit;
     };
-    store::write(numbers, shape.u, ROOT_AXIS, root, id as u32);
+    store::write(numbers, shape.u, ROOT_AXIS, root, a.id as u32);
     store::write(numbers, shape.u, ROOT_SIGN, root, total);
     let free = values::release(numbers, shape.u, st.free, n);
     Step::Next(Slots {
-        axes: interning::count_with(st.axes, id),
+        axes: a.axes,
+        peak: a.peak,
         slots: st.slots,
         free,
         taken: st.taken,
@@ -203,6 +206,7 @@ pub fn pack(
     roots::prepare(nodes, operations, rows, numbers, shape);
     let mut st = Slots {
         axes: 0,
+        peak: 0,
         slots: 0,
         free: 0,
         taken: 0,
@@ -215,5 +219,8 @@ pub fn pack(
             Step::ExpansionLimit => return Packed::ExpansionLimit,
         }
     }
-    Packed::Axes(st.axes)
+    Packed::Axes {
+        count: st.axes,
+        peak: st.peak,
+    }
 }

@@ -92,17 +92,20 @@ pub fn take_slot(numbers: &[u32], shape: Shape, st: Slots) -> Step
         let taken = store::read(numbers, shape.u, FREE, free) as usize;
         return Step::Next(Slots {
             axes: st.axes,
+            peak: st.peak,
             slots: st.slots,
             free,
             taken,
         });
     }
     let n = 2 * shape.l;
-    if shape.limit < st.slots * n + n + st.axes * n {
+    let sum = st.slots * n + n + st.axes * n;
+    if shape.limit < sum {
         return Step::ExpansionLimit;
     }
     Step::Next(Slots {
         axes: st.axes,
+        peak: layout::peak_with(st.peak, sum),
         slots: st.slots + 1,
         free: 0,
         taken: st.slots,

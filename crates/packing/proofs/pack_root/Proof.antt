@@ -1,7 +1,7 @@
 -- A root that is odd is refused; else its word is interned, its axis and sign are written, and its node's use is given up. Assumes nothing.
 use Rattle.packing.specs.RootLaws.{reference-in, node-held, held-small, intern-pre}
 use Rattle.packing.specs.RestKept.{rest-none}
-use Rattle.packing.specs.RootTurn.{l-small, slots-small, axes-small, id-small, stored-long}
+use Rattle.packing.specs.RootTurn.{l-small, slots-small, id-small, stored-long}
 use Rattle.packing.specs.RootTurn.{root-odd, rest-limit, root-limit, root-release, root-rest, root-next}
 use native.Mathlib.Omega.{arith}
 use borrow.Author.Needs.{needs}
@@ -62,7 +62,7 @@ returns-2 c =
 
 cast-write : tie.Need-cast-write
 cast-write c =
-    let i = c .before .before in
+    let i = c .before .before .before in
     let intern = i .before .before .before .before .before .before in
     let sizes-of = intern .before .before .before in
     let held = sizes-of .before .before .before .before .before in
@@ -71,7 +71,7 @@ cast-write c =
 
 write-requires : tie.Need-write-requires
 write-requires c κs =
-    let i = c .before .before in
+    let i = c .before .before .before in
     let intern = i .before .before .before .before .before .before in
     let sizes-of = intern .before .before .before in
     let held = sizes-of .before .before .before .before .before in
@@ -84,7 +84,7 @@ write-requires c κs =
 write-requires-2 : tie.Need-write-requires-2
 write-requires-2 c κs =
     let write = c .before .before .before in
-    let i = write .before .before .before in
+    let i = write .before .before .before .before in
     let intern = i .before .before .before .before .before .before in
     let sizes-of = intern .before .before .before in
     let held = sizes-of .before .before .before .before .before in
@@ -103,21 +103,13 @@ release-requires : tie.Need-release-requires
 release-requires c κs =
     let write2 = c .before .before .before in
     let write = write2 .before .before .before .before in
-    let i = write .before .before .before in
+    let i = write .before .before .before .before in
     let intern = i .before .before .before .before .before .before in
     let sizes-of = intern .before .before .before in
     let held = sizes-of .before .before .before .before .before in
     let start = held .before .before .before .before in
     root-release (start .pre .it) (held .held .ensures) (sizes-of .sizes-of .ensures) (intern .intern .ensures) (i .i .given .1)
     (write .write .ensures) (write2 .write2 .ensures)
-
-count-with-requires : tie.Need-count-with-requires
-count-with-requires c κs =
-    let write2 = c .before .before .before .before .before .before in
-    let i = write2 .before .before .before .before .before .before .before in
-    let sizes-of = i .before .before .before .before .before .before .before .before .before in
-    let start = sizes-of .before .before .before .before .before .before .before .before .before in
-    omega (arith, axes-small (start .pre .it))
 
 same-length-4 : tie.Need-same-length-4
 same-length-4 c = search needs
@@ -127,10 +119,10 @@ same-length-5 c = search needs
 
 returns-3 : tie.Need-returns-3
 returns-3 c =
-    let release = c .before .before .before in
+    let release = c .before .before in
     let write2 = release .before .before .before .before in
     let write = write2 .before .before .before .before in
-    let i = write .before .before .before in
+    let i = write .before .before .before .before in
     let intern = i .before .before .before .before .before .before in
     let sizes-of = intern .before .before .before in
     let test = sizes-of .before .before .before in
@@ -140,7 +132,7 @@ returns-3 c =
           (write .write .ensures) (write2 .write2 .ensures) (release .release .ensures),
       λ p h. root-next h (held .held .ensures)
           (sizes-of .sizes-of .ensures) (intern .intern .ensures) (i .i .given .1) (write .write .ensures) (write2 .write2 .ensures)
-          (release .release .ensures) (test .if1 .left) (c .count-with .ensures),
+          (release .release .ensures) (test .if1 .left),
     )
 
 pub pack-root-spec : {M : Type 1} → statement M
@@ -164,7 +156,6 @@ pack-root-spec =
     write-requires
     write-requires-2
     release-requires
-    count-with-requires
     same-length-4
     same-length-5
     returns-3)

@@ -19,26 +19,31 @@ returns c = taken-free _ _ _ _ (c .before .before .if1 .taken) (c .read .ensures
 mul-n : tie.Need-mul-n
 mul-n c = search needs
 
-mul-if2 : tie.Need-mul-if2
-mul-if2 c = search needs
+mul-sum : tie.Need-mul-sum
+mul-sum c = search needs
 
-add-if2 : tie.Need-add-if2
-add-if2 c = search needs
+add-sum : tie.Need-add-sum
+add-sum c = search needs
 
-mul-if2-2 : tie.Need-mul-if2-2
-mul-if2-2 c = search needs
+mul-sum-2 : tie.Need-mul-sum-2
+mul-sum-2 c = search needs
 
-add-if2-2 : tie.Need-add-if2-2
-add-if2-2 c = search needs
+add-sum-2 : tie.Need-add-sum-2
+add-sum-2 c = search needs
 
 returns-2 : tie.Need-returns-2
 returns-2 c = taken-limit _ _ _ (c .before .before .before .before .before .if1 .left) (c .if2 .taken)
 
-add-t10 : tie.Need-add-t10
-add-t10 c = search needs
+peak-with-requires : tie.Need-peak-with-requires
+peak-with-requires c κs = search needs
+
+add-t11 : tie.Need-add-t11
+add-t11 c = search needs
 
 returns-3 : tie.Need-returns-3
-returns-3 c = taken-new _ _ _ (c .before .before .before .before .before .before .if1 .left) (c .before .if2 .left)
+returns-3 c =
+    let test = c .before .before in
+    taken-new _ _ _ (test .before .before .before .before .before .if1 .left) (test .if2 .left) _ (c .before .peak-with .ensures)
 
 pub take-slot-spec : {M : Type 1} → statement M
 take-slot-spec =
@@ -49,10 +54,11 @@ take-slot-spec =
     cast-taken
     returns
     mul-n
-    mul-if2
-    add-if2
-    mul-if2-2
-    add-if2-2
+    mul-sum
+    add-sum
+    mul-sum-2
+    add-sum-2
     returns-2
-    add-t10
+    peak-with-requires
+    add-t11
     returns-3)
