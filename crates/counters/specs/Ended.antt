@@ -75,8 +75,8 @@ module _ {z : Shape} {ns os rs : List ℕ} (given : Given z ns os rs) {ws xs : L
 
 -- ---- after
 
-module _ {z : Shape} {ns os rs : List ℕ} (given : Given z ns os rs) {w : Work} {n k : ℕ} {ws xs : List ℕ}
-    (granted : Granted z ws xs) (work : WorkIn z (programIn z ns os rs) w n k ws xs)
+module _ {z : Shape} {ns os rs : List ℕ} (given : Given z ns os rs) {w : Work} {n k peak : ℕ} {ws xs : List ℕ}
+    (granted : Granted z ws xs) (work : WorkIn z (programIn z ns os rs) w n k peak ws xs)
     (barriers : Every (BarrierOf (programIn z ns os rs .operations)) (barriersOf (w .items))) where
   abbrev p : Program
   p = programIn z ns os rs

@@ -42,8 +42,9 @@ pub record Summed (z : Shape) (os ws xs : List ℕ) (k : ℕ) (n : RunCounts) (c
   pub depth-after : c .«t_depth_after» ≡ n .«depth_after»
   pub weight-before : c .«weight_before» ≡ n .«weight_before»
   pub weight-after : WeightAfter os ws xs (z .u) (z .l) k (c .«weight_after»)
+  pub packed-words : c .«packed_words» ≡ n .peak
 
--- n has what the run counted: merges, swaps, what was absorbed, both depths, the source's weight
+-- n has what the run counted: merges, swaps, what was absorbed, both depths, the source's weight, the largest word sum
 pub record CountsOf (r : Rules) (p : Program) (f : Finished) (n : RunCounts) : Type 0 where
   pub merges : n .merges ≡ f .end .merges
   pub swaps : n .swaps ≡ f .end .swaps
@@ -51,9 +52,10 @@ pub record CountsOf (r : Rules) (p : Program) (f : Finished) (n : RunCounts) : T
   pub depth-before : n .«depth_before» ≡ depthOf r p (f .start)
   pub depth-after : n .«depth_after» ≡ depthOf r p (f .end)
   pub weight-before : n .«weight_before» ≡ sourceWeight p
+  pub peak : n .peak ≡ f .end .store .peak
 
-module _ {z : Shape} {ns os rs : List ℕ} (given : Given z ns os rs) (f : Finished) {n k : ℕ} {ws xs : List ℕ}
-    (granted : Granted z ws xs) (work : WorkIn z (programIn z ns os rs) (f .end) n k ws xs)
+module _ {z : Shape} {ns os rs : List ℕ} (given : Given z ns os rs) (f : Finished) {n k peak : ℕ} {ws xs : List ℕ}
+    (granted : Granted z ws xs) (work : WorkIn z (programIn z ns os rs) (f .end) n k peak ws xs)
     (barriers : Every (BarrierOf (programIn z ns os rs .operations)) (barriersOf (f .end .items)))
     (range : AllIn (length (f .end .store .axes)) (f .end .items)) where
   pub summary-pre : SummaryPre z os ws xs k
@@ -79,4 +81,5 @@ module _ {z : Shape} {ns os rs : List ℕ} (given : Given z ns os rs) (f : Finis
         s .depth-after ∙ a .depth-after,
         s .weight-before ∙ a .weight-before,
         weight-after-is given granted work barriers range (s .weight-after),
+        s .packed-words ∙ a .peak,
       ) refl

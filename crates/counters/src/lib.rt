@@ -170,7 +170,7 @@ pub fn weight_before(operations: &[u32], words: &[u64], numbers: &[u32], shape: 
     n
 }
 
-// What the run itself has counted: by its passes, the T-depths of its start and end, the source's weight.
+// What the run itself has counted: by its passes, the T-depths of its start and end, the source's weight, the largest word sum.
 pub struct RunCounts {
     pub merges: usize,
     pub swaps: usize,
@@ -178,6 +178,7 @@ pub struct RunCounts {
     pub depth_before: usize,
     pub depth_after: usize,
     pub weight_before: usize,
+    pub peak: usize,
 }
 
 // All counters of an accepted run with k items.
@@ -209,5 +210,6 @@ pub fn summary(
         t_depth_after: counts.depth_after,
         weight_before: counts.weight_before,
         weight_after: weight,
+        packed_words: counts.peak,
     }
 }

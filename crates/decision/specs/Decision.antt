@@ -66,10 +66,11 @@ decides-refused {z} {o} {ns} {os} {rs} {a = a} long r = record {
 -- ---- the passes
 
 pub first-run : {z : Shape} {o : Options} {ns os rs : List ℕ} {n : ℕ} {ws xs : List ℕ} {s : Started} {ys : List ℕ}
-    → PackedIn z ns os rs n ws xs → StartedAs z o ns os rs n ws xs s ys → {first : State} → first ≡ firstState n (s .items)
+    → PackedIn z ns os rs n ws xs → StartedAs z o ns os rs n ws xs s ys → {first : State} {q : ℕ}
+    → q ≡ packed (programIn z ns os rs) .store .peak → first ≡ firstState n q (s .items)
     → RunAt z 0 first ws ys (programIn z ns os rs) (startOf (programIn z ns os rs))
 unfolding startOf
-first-run h a e = rw e (record {
+first-run h a f e = rw (e, f) (record {
   granted = granted-same (packed-granted h) refl (a .long);
   work = a .work;
   well = start-well h;
@@ -86,13 +87,14 @@ unfolding endOf rulesOf
 end-is o l p e = ap (λ (m : ℕ). passes (o .strategy) m (rulesOf o) (o .rounds) (startOf p)) e
 
 module _ (o : Options) {z : Shape} {ns os rs : List ℕ} {n : ℕ} {ws xs : List ℕ} {s : Started} {t : List ℕ}
-    (h : PackedIn z ns os rs n ws xs) (a : StartedAs z o ns os rs n ws xs s t) {first : State} (begins : first ≡ firstState n (s .items))
+    (h : PackedIn z ns os rs n ws xs) (a : StartedAs z o ns os rs n ws xs s t) {first : State} {q : ℕ}
+    (tested : q ≡ packed (programIn z ns os rs) .store .peak) (begins : first ≡ firstState n q (s .items))
     {e : Step} {vs ys : List ℕ} (ran : SameLong ws t vs ys × ((p : Program) (w : Work) → RunAt z 0 first ws t p w
     → EndedAs z 511 e vs ys p (passes (o .strategy) (z .l) (rulesOf o) (o .rounds) w))) where
   ended-as : EndedAs z 511 e vs ys (programIn z ns os rs) (endIn z o ns os rs)
   ended-as =
       let p = programIn z ns os rs in
-      subst (EndedAs z 511 e vs ys p) (end-is o (z .l) p (width-is h)) (ran .1 p (startOf p) (first-run h a begins))
+      subst (EndedAs z 511 e vs ys p) (end-is o (z .l) p (width-is h)) (ran .1 p (startOf p) (first-run h a tested begins))
 
   long-here : SameLong ws xs vs ys
   long-here = record { words = ran .0 .words; numbers = ran .0 .numbers ∙ a .long }

@@ -45,12 +45,13 @@ depth-off e = record { only = only-none _ _ _; depth = sym (if-false _ _ e) }
 
 -- ---- of the work in memory
 
-module _ {z : Shape} {p : Program} {w : Work} {n k : ℕ} {ws xs : List ℕ} (work : WorkIn z p w n k ws xs) where
+module _ {z : Shape} {p : Program} {w : Work} {n k peak : ℕ} {ws xs : List ℕ} (work : WorkIn z p w n k peak ws xs) where
   -- its levels stand in rows of their own
-  pub work-kept : {ys : List ℕ} → Only levelRows (z .u) xs ys → WorkIn z p w n k ws ys
+  pub work-kept : {ys : List ℕ} → Only levelRows (z .u) xs ys → WorkIn z p w n k peak ws ys
   unfolding member anyOf
   work-kept o = record {
     axes = held-rows (work .axes) o refl;
+    peak-is = work .peak-is;
     within = work .within;
     items = view-other o itemsRow (omega arith) refl itemSaid 0 k ∙ work .items;
     fits = work .fits;

@@ -1,5 +1,5 @@
 -- The end of a run that is not refused, and its counters. Assumes nothing.
-use mathlib.Core.Path.{_≡_, refl, sym, ap, _∙_}
+use mathlib.Core.Path.{_≡_, refl, sym, ap, _∙_, subst}
 use mathlib.Core.Bool.{false, not}
 use mathlib.Core.List.{List}
 use Prim.Native.Nat.{ℕ}
@@ -62,7 +62,7 @@ pub record DecidedAs (z : Shape) (o : Options) (ns os rs ws xs : List ℕ) (d : 
   pub given : Given z ns os rs
   pub hermitian : packed (programIn z ns os rs) .refused ≡ false
   pub granted : Granted z ws ys
-  pub work : WorkIn z (programIn z ns os rs) (endIn z o ns os rs) (d .axes) (d .items) ws ys
+  pub work : WorkIn z (programIn z ns os rs) (endIn z o ns os rs) (d .axes) (d .items) (endIn z o ns os rs .store .peak) ws ys
   pub counters : d .counters ≡ countersOf (rulesOf o) (programIn z ns os rs) (finishedIn z o ns os rs)
   pub changed : d .changed ≡ not (eqb (endIn z o ns os rs .absorbed) 0)
   pub long : length ys ≡ length xs
@@ -78,7 +78,7 @@ module _ {z : Shape} {o : Options} {ns os rs : List ℕ} {s : Started} {st : Sta
     granted : Granted z ws ys
     granted = granted-same (h .at .granted) refl (f .only .long)
 
-    work : WorkIn z (programIn z ns os rs) (endIn z o ns os rs) (st .axes) (st .out) ws ys
+    work : WorkIn z (programIn z ns os rs) (endIn z o ns os rs) (st .axes) (st .out) (st .peak) ws ys
     work = work-kept (h .at .work) (f .only)
 
     pub end-summary : SummaryPre z os ws ys (st .out)
@@ -94,6 +94,7 @@ module _ {z : Shape} {o : Options} {ns os rs : List ℕ} {s : Started} {st : Sta
       «depth_before» = s .depth;
       «depth_after» = d;
       «weight_before» = s .weight;
+      peak = st .peak;
     }
 
     counts-of : CountsOf (rulesOf o) (programIn z ns os rs) (finishedIn z o ns os rs) counts
@@ -104,6 +105,7 @@ module _ {z : Shape} {o : Options} {ns os rs : List ℕ} {s : Started} {st : Sta
       depth-before = h .depth;
       depth-after = depth-is (h .at .work) o (h .at .granted .sized .l-is ∙ ap width (sym (given-shape (h .given) .qubits))) f;
       weight-before = h .weight;
+      peak = sym (h .at .work .peak-is);
     }
 
     pub end-done : {c : Counters} → Summed z os ws ys (st .out) counts c
@@ -113,7 +115,8 @@ module _ {z : Shape} {o : Options} {ns os rs : List ℕ} {s : Started} {st : Sta
       given = h .given;
       hermitian = h .hermitian;
       granted = granted;
-      work = work;
+      work =
+          subst (λ (q : ℕ). WorkIn z (programIn z ns os rs) (endIn z o ns os rs) (st .axes) (st .out) q ws ys) (sym (work .peak-is)) work;
       counters =
           summary-is (h .given) (finishedIn z o ns os rs) granted work (end-barriers o (h .given) (h .hermitian))
           (well.work-range (h .at .well)) (rulesOf o) counts counts-of m;

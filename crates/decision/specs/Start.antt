@@ -18,7 +18,7 @@ use Rattle.records.specs.Given.{programIn}
 use Rattle.packing_states.specs.InMemory.{OfShape, given-shape}
 use Rattle.packing_answer.specs.declared.Packed.{Packed}
 use Rattle.packing_answer.specs.declared.Packed.the-variants.{Axes}
-use Rattle.packing_answer.specs.Answer.{accepted-so}
+use Rattle.packing_answer.specs.Answer.{AcceptedSo, accepted-so}
 use Rattle.packing.specs.Packed.{PackPre, PackedAs}
 use Rattle.work.specs.Work.{WorkIn}
 use Rattle.start.specs.Build.{BuildPre, ItemsBuilt}
@@ -31,18 +31,19 @@ use Rattle.counters.specs.Ended.{source-pre, weight-before-is}
 use Rattle.decision.specs.declared.Started.{Started}
 use Rattle.decision.specs.Depth.{DepthAs, work-kept, depth-is}
 
--- packing has stored n axes: what it was called with, and what it left
+-- packing has stored n axes: what it was called with, the largest sum that it tested, and what it left
 pub record PackedIn (z : Shape) (ns os rs : List ℕ) (n : ℕ) (ws xs : List ℕ) : Type 0 where
   pub ws₀ : List ℕ
   pub xs₀ : List ℕ
   pub answer : Packed
+  pub peak : ℕ
   pub pre : PackPre z ns os rs ws₀ xs₀
   pub done : PackedAs z (programIn z ns os rs) answer ws₀ xs₀ ws xs
-  pub accepted : answer ≡ Axes n
+  pub accepted : answer ≡ Axes n peak
 
 -- memory holds the start of the passes, and r its counts
 pub record StartedAs (z : Shape) (o : Options) (ns os rs : List ℕ) (n : ℕ) (ws xs : List ℕ) (r : Started) (ys : List ℕ) : Type 0 where
-  pub work : WorkIn z (programIn z ns os rs) (startOf (programIn z ns os rs)) n (r .items) ws ys
+  pub work : WorkIn z (programIn z ns os rs) (startOf (programIn z ns os rs)) n (r .items) (packed (programIn z ns os rs) .store .peak) ws ys
   pub weight : r .weight ≡ sourceWeight (programIn z ns os rs)
   pub depth : r .depth ≡ depthOf (rulesOf o) (programIn z ns os rs) (startOf (programIn z ns os rs))
   pub long : length ys ≡ length xs
@@ -57,9 +58,16 @@ module _ {z : Shape} {ns os rs : List ℕ} {n : ℕ} {ws xs : List ℕ} (h : Pac
   of-shape : OfShape p z
   of-shape = given-shape (h .pre .given)
 
+  so : AcceptedSo (z .limit) (packed p) (h .peak)
+  so = accepted-so (z .limit) (packed p) (sym (h .accepted) ∙ h .done .answer)
+
   -- no root was refused
   pub packed-hermitian : packed (programIn z ns os rs) .refused ≡ false
-  packed-hermitian = accepted-so (z .limit) (packed p) n (sym (h .accepted) ∙ h .done .answer) .1
+  packed-hermitian = so .going
+
+  -- the largest sum that it tested
+  pub packed-peak : h .peak ≡ packed (programIn z ns os rs) .store .peak
+  packed-peak = sym (so .peak-is)
 
   pub width-is : z .l ≡ width (programIn z ns os rs .qubits)
   width-is = packed-granted .sized .l-is ∙ ap width (sym (of-shape .qubits))
@@ -69,13 +77,13 @@ module _ {z : Shape} {ns os rs : List ℕ} {n : ℕ} {ws xs : List ℕ} (h : Pac
 
   pub start-weight : SourcePre z os ws xs
   start-weight =
-      source-pre (h .pre .given) packed-granted (h .done .axes n (h .accepted)) (axis-stored (h .pre) (h .done) (h .accepted))
+      source-pre (h .pre .given) packed-granted (h .done .axes n (h .peak) (h .accepted)) (axis-stored (h .pre) (h .done) (h .accepted))
 
   pub start-build : BuildPre z n os ws xs
   start-build = build-pre (h .pre) (h .done) (h .accepted)
 
   module _ {k : ℕ} {ys : List ℕ} (b : ItemsBuilt z n os ws xs (z .operations) k ys) where
-    here : WorkIn z (programIn z ns os rs) (startOf (programIn z ns os rs)) n k ws ys
+    here : WorkIn z (programIn z ns os rs) (startOf (programIn z ns os rs)) n k (packed p .store .peak) ws ys
     here = started (h .pre) (h .done) (h .accepted) b
 
     pub start-depth : DepthPre (sizesOf z n) ws ys k
@@ -87,7 +95,7 @@ module _ {z : Shape} {ns os rs : List ℕ} {n : ℕ} {ws xs : List ℕ} (h : Pac
     start-done o w d = record {
       work = work-kept here (d .only);
       weight =
-          weight-before-is (h .pre .given) packed-granted (h .done .axes n (h .accepted)) (axis-stored (h .pre) (h .done) (h .accepted))
+          weight-before-is (h .pre .given) packed-granted (h .done .axes n (h .peak) (h .accepted)) (axis-stored (h .pre) (h .done) (h .accepted))
           (axis-word (h .pre) (h .done) (h .accepted)) w;
       depth = depth-is here o width-is d;
       long = d .only .long ∙ b .only .long;

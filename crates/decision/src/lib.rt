@@ -1,6 +1,9 @@
 // A run up to its last refusal: packing, the items, the passes, the counters. Nothing but the work stores is written.
+ghost use mathlib.Core.Path.{_≡_};
+ghost use Rattle.model.specs.Packing.{packed};
 ghost use Rattle.axes.specs.Held.{sizesOf};
 ghost use Rattle.depth.specs.Contracts.{DepthPre};
+ghost use Rattle.records.specs.Given.{programIn};
 ghost use Rattle.packing.specs.Packed.{PackPre};
 ghost use Rattle.points.specs.Points.{OptionsIn};
 ghost use Rattle.decision.specs.Depth.{DepthAs};
@@ -112,6 +115,7 @@ fn end_run(
         depth_before: started.depth,
         depth_after: depth,
         weight_before: started.weight,
+        peak: run.peak,
     };
     let counters = counters::summary(operations, words, &numbers[..], shape, run.out, counts);
     Decided {
@@ -132,8 +136,10 @@ fn passes(
     shape: Shape,
     options: Options,
     axes: usize,
+    peak: usize,
 ) -> Decision
-    requires { ⌜ PackedIn shape (now nodes) (now operations) (now rows) axes (now words) (now numbers) × OptionsIn options ⌝ }
+    requires { ⌜ PackedIn shape (now nodes) (now operations) (now rows) axes (now words) (now numbers) × OptionsIn options
+        × (peak ≡ packed (programIn shape (now nodes) (now operations) (now rows)) .store .peak) ⌝ }
     ensures { λ d. ⌜ DecisionAs shape options (now (nodes .entry)) (now (operations .entry)) (now (rows .entry))
         (now (words .entry)) (now (numbers .entry)) d (now (words .exit)) (now (numbers .exit)) ⌝ }
 {
@@ -147,7 +153,7 @@ fn passes(
         options,
         axes,
     );
-    let first = steps::first_state(axes, s.items);
+    let first = steps::first_state(axes, peak, s.items);
     let e = rounds::passes(words, numbers, shape, options, first);
     let Step::Next(run) = e else {
         return Decision::Refused(Answer::ExpansionLimit);
@@ -180,8 +186,8 @@ pub fn decide(
         (now (words .entry)) (now (numbers .entry)) d (now (words .exit)) (now (numbers .exit)) ⌝ }
 {
     let p = packing::pack(nodes, operations, rows, words, numbers, shape);
-    let Packed::Axes(n) = p else {
+    let Packed::Axes { count, peak } = p else {
         return Decision::Refused(packing_answer::answer(p));
     };
-    passes(nodes, operations, rows, words, numbers, shape, options, n)
+    passes(nodes, operations, rows, words, numbers, shape, options, count, peak)
 }

@@ -61,7 +61,8 @@ module _ {z : Shape} (o : Options) {st : State} {s : Sizes} (same : s ≡ sizesO
           granted = granted-same (r .granted) refl (x .only .long);
           work = record {
             axes = held-as (held-rows (r .work .axes) (b .only) refl) (ap (λ (t : Store). t .axes) (e .2));
-            within = subst (λ (t : Store). t .peak ≤ z .limit) (e .2) (r .work .within);
+            peak-is = ap (λ (t : Store). t .peak) (sym (e .2)) ∙ r .work .peak-is;
+            within = r .work .within;
             items = e .0;
             fits = omega (arith, x .fewer, r .work .fits);
             frame = subst (λ (fs : List SignedAxis). FrameIn z p fs ys) (sym (same-rows (z .l) g w))

@@ -43,7 +43,8 @@ module _ {z : Shape} {st : State} {s : Sizes} (same : s ≡ sizesOf z (st .axes)
           granted = granted-same (r .granted) refl (x .only .long);
           work = record {
             axes = held-as (held-rows (r .work .axes) (b .only) refl) (ap (λ (v : Work). v .store .axes) (sym e));
-            within = subst (λ (v : Work). v .store .peak ≤ z .limit) (sym e) (r .work .within);
+            peak-is = ap (λ (v : Work). v .store .peak) e ∙ r .work .peak-is;
+            within = r .work .within;
             items = ap (λ (v : Work). v .items) (sym e);
             fits = omega (arith, x .size, r .work .fits);
             frame = subst (λ (v : Work). FrameIn z p (v .rows) ys) (sym e) (frame-other (b .only) refl (r .work .frame));

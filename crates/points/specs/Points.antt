@@ -23,7 +23,7 @@ most = 8589934592
 -- more, no counter runs over
 pub record RunAt (z : Shape) (i : ℕ) (st : State) (ws xs : List ℕ) (p : Program) (w : Work) : Type 0 where
   pub granted : Granted z ws xs
-  pub work : WorkIn z p w (st .axes) (st .out) ws xs
+  pub work : WorkIn z p w (st .axes) (st .out) (st .peak) ws xs
   pub well : WorkWell (z .l) (z .qubits) w
   pub merges : st .merges ≡ w .merges
   pub swaps : st .swaps ≡ w .swaps

@@ -38,15 +38,15 @@ stream-long left = record { words = left .words .long; numbers = left .numbers .
 
 module _ (o : Options) (merging : Bool) (st : State) {z : Shape} {ws xs : List ℕ} where
   stream-at : {i : ℕ} {p : Program} {w : Work} → RunAt z i st ws xs p w
-      → PassAtWork z (streamRules o merging) p w (st .axes) (st .out) ws xs (rulesOf o)
+      → PassAtWork z (streamRules o merging) p w (st .axes) (st .out) (st .peak) ws xs (rulesOf o)
   stream-at r = demands.stream-pre (r .granted) (r .work) (r .well) (streamRules o merging) (rulesOf o) (rules-as o merging)
 
   pub stream-pre : {i : ℕ} → SomeRun z i st ws xs
-      → SomeWork (λ prog w g. PassAtWork z (streamRules o merging) prog w (st .axes) (st .out) ws xs g)
+      → SomeWork (λ prog w g. PassAtWork z (streamRules o merging) prog w (st .axes) (st .out) (st .peak) ws xs g)
   stream-pre s = record { program = s .program; work = s .work; rules = rulesOf o; it = stream-at (s .at) }
 
   module _ {r : Step} {ws′ xs′ : List ℕ} (left : LeftP z ws xs ws′ xs′)
-      (call : (prog : Program) (w : Work) (g : Rules) → PassAtWork z (streamRules o merging) prog w (st .axes) (st .out) ws xs g
+      (call : (prog : Program) (w : Work) (g : Rules) → PassAtWork z (streamRules o merging) prog w (st .axes) (st .out) (st .peak) ws xs g
       → PassedAs z (streamRules o merging) prog w g r ws′ xs′) where
     pub stream-limit : r ≡ ExpansionLimit → (i : ℕ) (p : Program) (w : Work) → RunAt z i st ws xs p w
         → EndedAs z (i + 1) ExpansionLimit ws′ xs′ p (streamPass (z .l) (rulesOf o) merging w)

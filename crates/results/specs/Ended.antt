@@ -45,8 +45,8 @@ chunks-flat k (suc n) s =
 
 -- ---- operations
 
-module _ {z : Shape} {ns os rs : List ℕ} (given : Given z ns os rs) {w : Work} {n k : ℕ} {ws xs : List ℕ}
-    (granted : Granted z ws xs) (work : WorkIn z (programIn z ns os rs) w n k ws xs)
+module _ {z : Shape} {ns os rs : List ℕ} (given : Given z ns os rs) {w : Work} {n k peak : ℕ} {ws xs : List ℕ}
+    (granted : Granted z ws xs) (work : WorkIn z (programIn z ns os rs) w n k peak ws xs)
     (barriers : Every (BarrierOf (programIn z ns os rs .operations)) (barriersOf (w .items))) where
   abbrev p : Program
   p = programIn z ns os rs

@@ -41,8 +41,8 @@ pub finished : {z : Shape} {os : List ℕ} {k n : ℕ} {changed : Bool} {ws xs t
     → (ws′ ≡ zeroedFrom ws a) × (xs′ ≡ zeros xs) → Finished z os k n changed ws xs to rt ws′ xs′ to′ rt′
 finished {ws = ws} o r e c = record { operations = o; rows = r; words = c .0 ∙ ap (zeroedFrom ws) e; numbers = c .1 }
 
-module _ {z : Shape} {ns os rs : List ℕ} (given : Given z ns os rs) {w : Work} {n k : ℕ} {ws xs : List ℕ}
-    (granted : Granted z ws xs) (work : WorkIn z (programIn z ns os rs) w n k ws xs)
+module _ {z : Shape} {ns os rs : List ℕ} (given : Given z ns os rs) {w : Work} {n k peak : ℕ} {ws xs : List ℕ}
+    (granted : Granted z ws xs) (work : WorkIn z (programIn z ns os rs) w n k peak ws xs)
     (barriers : Every (BarrierOf (programIn z ns os rs .operations)) (barriersOf (w .items))) where
   pub finish-pre : (to rt : List ℕ) → 6 * z .operations ≤ length to → 8 * z .qubits ≤ length rt → FinishPre z os k n ws xs to rt
   finish-pre to rt a b = record {

@@ -11,6 +11,7 @@ use Rattle.packing_answer.specs.declared.Packed.{Packed}
 use Rattle.packing_answer.specs.declared.Packed.the-variants.{Axes, NonHermitianAxis, ExpansionLimit}
 use Rattle.packing_answer.specs.Answer.{packingAnswer}
 use Rattle.packing_answer.proofs.Packed.{the-type}
+use Rattle.decision.specs.Start.{packed-peak}
 use Rattle.decision.specs.Decision.{decide-passes, decide-refused}
 use native.Mathlib.Omega.{arith}
 use borrow.Author.Needs.{needs}
@@ -19,8 +20,8 @@ use Rattle.decision.proofs.decide.Tie as tie
 
 -- without axes packing refuses
 refuses : (r : Packed) → OneOf (1 ∷ 2 ∷ []) (tagOf the-type r) → packingAnswer r ≡ Accepted → ⊥
-refuses (Axes n) (inl e) g = omega (arith, e)
-refuses (Axes n) (inr e) g = omega (arith, e)
+refuses (Axes n q) (inl e) g = omega (arith, e)
+refuses (Axes n q) (inr e) g = omega (arith, e)
 refuses NonHermitianAxis k g = let z : _≡_ {A = ℕ} 9 0 = ap numberOf g in omega arith
 refuses ExpansionLimit k g = let z : _≡_ {A = ℕ} 10 0 = ap numberOf g in omega arith
 
@@ -51,7 +52,8 @@ passes-requires c κs =
     let p = c .before .before .before in
     let pack = p .before .before .before .before .before .before in
     let start = pack .before .before .before .before .before .before .before .before in
-    (record { ws₀ = _; xs₀ = _; answer = _; pre = start .pre .0; done = pack .pack .ensures; accepted = p .p .given .1 }, start .pre .1)
+    let packed = record { ws₀ = _; xs₀ = _; answer = _; peak = _; pre = start .pre .0; done = pack .pack .ensures; accepted = p .p .given .1 } in
+    (packed, (start .pre .1, packed-peak packed))
 
 same-length-3 : tie.Need-same-length-3
 same-length-3 c =
