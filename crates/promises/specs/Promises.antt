@@ -1,12 +1,14 @@
 -- The three demands about Rewriting, as theorems about its calls. `Called o j s a c t` (Calls): with options o, job j and slices s lent the
 -- code answered a and left counters c and slices t; this equation is the contract of `rewriting::rewriting`, for all arguments. Stores of
 -- two calls may differ in length and content. Under each promise stand two wrong programs that it rules out. Assumes nothing.
-use mathlib.Core.Path.{_≡_, refl, sym, ap, ap₂, _∙_}
+use mathlib.Core.Path.{_≡_, refl, sym, ap, ap₂, _∙_, subst}
 use mathlib.Core.Logic.{_⊎_, inl, inr, _↔_, ⊎-elim}
 use mathlib.Core.Bool.{Bool, false}
 use mathlib.Core.List.{List, flatten}
-use Prim.Native.Nat.{ℕ, _-_, _≤_, _<_}
+use Prim.Native.Nat.{ℕ, _+_, _-_, _≤_, _<_}
+use native.Mathlib.Decide.{decLt}
 use native.Mathlib.Omega.{arith}
+use lib.Dec.{eqb}
 use lib.ListN.{length}
 use Rattle.groups.specs.Abelian.{pow2}
 use Rattle.pauli.specs.Word.{width}
@@ -19,15 +21,16 @@ use Rattle.model.specs.Interface.{numberOf, accepts, noCounters}
 use Rattle.model.specs.Program.{Job, Program, programOf}
 use Rattle.model.specs.Rules.{rulesOf}
 use Rattle.model.specs.Rounds.{Work, mergeRounds, litinskiRounds}
-use Rattle.model.specs.Run.{startOf, answerOf}
+use Rattle.model.specs.Run.{Run, startOf, answerOf}
 use Rattle.model.specs.Results.{operationResults, rowResults, sourceTCount, resultTCount, countersOf}
 use Rattle.model.specs.Checking.{Lent, checking}
 use Rattle.model.specs.Rewriting.{Reply, thenZeros, zeros, refused, stopped, accepted, rewriting}
 use Rattle.theory.specs.Alike.{alike-program}
 use Rattle.theory.specs.Replies.{runOf, limitOf, refused-answer, run-answer, refusal-answer}
-use Rattle.theory.specs.Limit.{same-at-larger-limit, results-answer, results-counters}
-use Rattle.theory.specs.AcceptedRun.{finishOf}
-use Rattle.theory.specs.TCountCalls.{accepted-counters, accepted-reply, no-more-than-source, no-more-with-more-rounds}
+use Rattle.theory.specs.Checked.{accepts-only}
+use Rattle.theory.specs.Limit.{run-same, checks-again, same-at-larger-limit, results-answer, results-counters}
+use Rattle.theory.specs.AcceptedRun.{finishOf, hermitian-peak}
+use Rattle.theory.specs.TCountCalls.{accepted-hermitian, accepted-counters, accepted-reply, no-more-than-source, no-more-with-more-rounds}
 use Rattle.theory.specs.EqualRounds.{equal-rounds}
 use Rattle.theory.specs.Hermitian.{Hermitian, accepted-exactly, limit-exactly}
 use Rattle.run_wellformed.specs.Lengths.{SameLengths, same-lengths}
@@ -38,7 +41,7 @@ use Rattle.promises.specs.Calls.{Called, answer-is, counters-are, lent-i
 use Rattle.promises.specs.Calls.{number-stopped, nine-exactly}
 use Rattle.promises.specs.Strategies.{endWork, merge-end, litinski-end, no-rounds-end}
 use Rattle.promises.specs.Left.{operationsIn, rowsIn, wordsIn, operations-left, effect-left}
-use Rattle.promises.specs.Alike.{AlikeButRoundsAndLimit, AlikeButLimit, alike-rules, but-limit, not-two}
+use Rattle.promises.specs.Alike.{AlikeButRoundsAndLimit, AlikeButLimit, alike-rules, but-limit, limit-inside, not-two}
 
 -- ==== what the sentences speak of
 
@@ -165,7 +168,7 @@ module _ {o : Options} {j : Job} {s : Lent} {a : Answer} {c : Counters} {t : Len
       (λ e. nine-exactly o j s h .0 (answer-is call ∙ e), λ g. sym (answer-is call) ∙ nine-exactly o j s h .1 g)
 
 module _ {o : Options} {j : Job} {s : Lent} {c : Counters} {t : Lent} (call : Called o j s Accepted c t) where
-  -- all eleven counters are those of the run.
+  -- all twelve counters are those of the run.
   -- Rules out: merge counters made up; T-depths measured where `measure_depth` is off
   pub counters-of-run : c ≡ countersOf (rulesOf o) (programOf j) (finishOf (rulesOf o) (o .rounds) (programOf j))
   counters-of-run = sym (counters-are call) ∙ accepted-counters o j s (answer-is call)
@@ -249,3 +252,78 @@ module _ {o o′ : Options} {j j′ : Job} {s s′ : Lent} {a a′ : Answer} {c 
       let same = same-at-larger-limit o o′ j j′ s s′ (alike .others .job) (but-limit alike) h
       (⊎-elim (λ f. inl (answer-is x ∙ f)) (λ f. inr (answer-is x ∙ f)) e) not-2 (λ f. n (sym (answer-is y) ∙ f)) in
       (rw (← answer-is x, ← answer-is y) (results-answer same), rw (← counters-are x, ← counters-are y) (results-counters same))
+
+-- ==== Request M-103. "Report the words exactly"
+
+module _ {o : Options} {j : Job} {s : Lent} {a : Answer} {c : Counters} {t : Lent} (call : Called o j s a c t) where
+  -- "A rewriting should return the largest word sum that was tested": that of 01's run, which knows no limit.
+  -- Rules out: the sum tested last; the words that the axes take in the end
+  pub words-told : a ≡ Accepted → c .«packed_words» ≡ runOf o j .peak
+  unfolding countersOf
+  words-told e =
+      let yes′ = answer-is call ∙ e in
+      ap (λ (x : Counters). x .«packed_words») (sym (counters-are call) ∙ accepted-counters o j s yes′)
+      ∙ sym (hermitian-peak (rulesOf o) (o .rounds) (programOf j) (accepted-hermitian o j s yes′))
+
+  -- "0 .. on refusal", as every counter is.
+  -- Rules out: the sum that 10 refused; what an earlier call left there
+  pub words-refused : (a ≡ Accepted → ⊥) → c ≡ noCounters
+  words-refused n = go (decLt 0 (numberOf a)) (decLt 8 (numberOf a))
+    where
+      go : Dec (0 < numberOf a) → Dec (8 < numberOf a) → c ≡ noCounters
+      go (no p) q = absurd (n (accepts-only a (ap (λ (i : ℕ). eqb i 0) (let e : numberOf a ≡ 0 = omega arith in e))))
+      go (yes p) (yes q) = refusals-9-and-10 call q .1
+      go (yes p) (no q) = refusals-1-to-8 call p (omega arith) .1
+
+  -- "For a program with no non-Hermitian root, a run that passes the checks is then accepted exactly if the limit is no smaller than that
+  -- sum as the same run without a limit would test it."
+  -- Rules out: 10 where the limit is that sum; a limit that counts slots which are free again
+  pub accepted-by-the-words : Hermitian (programOf j) → checking o j s ≡ Accepted → (a ≡ Accepted) ↔ (runOf o j .peak ≤ limitOf o)
+  accepted-by-the-words even passed =
+      let exactly = accepted-where call passed in
+      (λ e. exactly .0 e .0, λ h. exactly .1 (h, even))
+
+-- a second call, alike but for the limit, with stores that are long enough for it
+module _ {o o′ : Options} {j j′ : Job} {s s′ : Lent} {a′ : Answer} {c c′ : Counters} {t t′ : Lent} (x : Called o j s Accepted c t)
+    (y : Called o′ j′ s′ a′ c′ t′) (alike : AlikeButLimit o o′ j j′) (long : a′ ≡ SliceShort → ⊥) where
+  -- the number that the first call returned is the sum that the second one's run tests
+  words-again : runOf o′ j′ .peak ≡ c .«packed_words»
+  words-again =
+      ap (λ (r : Run). r .peak) (run-same o o′ j j′ s s′ (alike .others .job) (but-limit alike)) ∙ sym (words-told x refl)
+
+  -- the first passed the checks, and so does the second
+  passed : checking o j s ≡ Accepted
+  passed = passed-checking x (inl refl)
+
+  passed-again : limitOf o′ ≤ 1048576 → checking o′ j′ s′ ≡ Accepted
+  passed-again k =
+      checks-again o o′ j j′ s s′ (alike .others .job) (but-limit alike) passed (not-two s s′ alike passed k)
+      (λ f. long (checks-itself y (ap accepts f) ∙ f))
+
+  -- it is accepted exactly if its limit is no smaller than the number that the first call returned.
+  -- Rules out: the limit itself returned; a number that counts what the stores held
+  pub accepted-by-the-number : limitOf o′ ≤ 1048576 → (a′ ≡ Accepted) ↔ (c .«packed_words» ≤ limitOf o′)
+  accepted-by-the-number k =
+      let even : Hermitian (programOf j′)
+      = rw (alike-program j j′ (alike .others .job)) (accepted-where x passed .0 refl .1) in
+      let exactly = accepted-by-the-words y even (passed-again k) in
+      (λ e. rw (← words-again) (exactly .0 e), λ h. exactly .1 (rw words-again h))
+
+  -- no number that is returned exceeds the limit
+  within-domain : c .«packed_words» ≤ 1048576
+  within-domain =
+      let h = accepted-where x passed .0 refl .0 in
+      omega (arith, h, words-told x refl, limit-inside s passed)
+
+  -- the number as the limit: accepted, with the same results and the same counters.
+  -- Rules out: a number that leaves out the images of F; results that depend on the limit
+  pub number-is-enough : limitOf o′ ≡ c .«packed_words» → (a′ ≡ Accepted) × (SameLeft t t′ × (c′ ≡ c))
+  number-is-enough e =
+      let yes′ = accepted-by-the-number (omega (arith, within-domain)) .1 (omega (arith, e)) in
+      (yes′, equal-rounds-equal-results x (subst (λ (b : Answer). Called o′ j′ s′ b c′ t′) yes′ y) alike)
+
+  -- one less: 10.
+  -- Rules out: a number that no sum of the run reaches; the limit tested by "no larger than" where a sum equals it
+  pub one-less-is-refused : limitOf o′ + 1 ≡ c .«packed_words» → a′ ≡ ExpansionLimit
+  one-less-is-refused e =
+      limit-where y (passed-again (omega (arith, within-domain))) .1 (omega (arith, e, words-again))

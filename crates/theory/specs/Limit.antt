@@ -57,7 +57,8 @@ pub record SameResults (o : Options) (j : Job) (s s′ : Lent) (x x′ : Reply) 
   pub that : x′ ≡ afterEnding (rulesOf o) (programOf j) s′ ending
 
 module _ (o o′ : Options) (j j′ : Job) (s s′ : Lent) (alike : Alike j j′) (same : SameButLimit o o′) where
-  run-same : runOf o′ j′ ≡ runOf o j
+  -- one run
+  pub run-same : runOf o′ j′ ≡ runOf o j
   run-same = rw (same .rules, same .rounds, alike-program j j′ alike) refl
 
   -- Checking has passed both, and the first call did not answer 10

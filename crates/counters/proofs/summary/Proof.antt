@@ -38,6 +38,7 @@ returns c =
       depth-after = refl;
       weight-before = refl;
       weight-after = weight .ensures;
+      packed-words = refl;
     }
 
 pub summary-spec : {M : Type 1} → statement M
