@@ -49,7 +49,7 @@ but-limit h = record { rules = alike-rules (h .others); rounds = h .rounds }
 abbrev otherOutside : Options → Bool
 otherOutside o = ltb 255 (o .rounds) || ltb 1048576 (o .lookback) || ltb 1048576 (o .window) || ltb 1048576 (o .candidates)
 
-module _ {o : Options} {j : Job} (s : Lent) (passed : checking o j s ≡ Accepted) where
+module _ (o : Options) (j : Job) (s : Lent) (passed : checking o j s ≡ Accepted) where
   options-inside : (otherOutside o ≡ false) × (ltb 1048576 (limitOf o) ≡ false)
   unfolding badOption checking
   options-inside =
@@ -65,7 +65,7 @@ module _ {o o′ : Options} {j j′ : Job} (s s′ : Lent) (alike : AlikeButLimi
   option-inside : limitOf o′ ≤ 1048576 → badOption o′ ≡ false
   unfolding badOption
   option-inside h =
-      rw (alike .rounds, alike .others .lookback, alike .others .window, alike .others .candidates, options-inside s passed .0)
+      rw (alike .rounds, alike .others .lookback, alike .others .window, alike .others .candidates, options-inside o j s passed .0)
       (le-ltb 1048576 (limitOf o′) h)
 
   -- so 2 does not refuse it there

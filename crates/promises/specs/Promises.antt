@@ -313,7 +313,7 @@ module _ {o o′ : Options} {j j′ : Job} {s s′ : Lent} {a′ : Answer} {c c�
   within-domain : c .«packed_words» ≤ 1048576
   within-domain =
       let h = accepted-where x passed .0 refl .0 in
-      omega (arith, h, words-told x refl, limit-inside s passed)
+      omega (arith, h, words-told x refl, limit-inside o j s passed)
 
   -- the number as the limit: accepted, with the same results and the same counters.
   -- Rules out: a number that leaves out the images of F; results that depend on the limit
