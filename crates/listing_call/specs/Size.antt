@@ -119,7 +119,8 @@ module _ (t : Read) (small : SmallText t) (yes′ : listingAnswer (some t) ≡ A
   rows-size : length (textOf (rowResults p e)) ≤ lineBytes 4 * 128
   rows-size = omega (arith, text-size (rowResults p e), row-records-fit p e, rowResults-length p e, few-rows)
 
-  within-limit : e .store .peak ≤ t .limit
+  -- its largest sum
+  pub within-limit : listedEnd t yes′ .store .peak ≤ t .limit
   within-limit =
       subst (λ (k : ℕ). k ≤ t .limit) (hermitian-peak (rulesOf (optionsOf t)) 8 p (listed-hermitian t yes′))
       (accepted-peak (t .limit) (rulesOf (optionsOf t)) 8 p (listed-passed t yes′ .1))
