@@ -49,6 +49,7 @@ fn example_is_rewritten(qubits: usize, strategy: Strategy) {
     let z = format!("Z{}", qubits - 1);
     assert_eq!(given, [FrameRow::Given(pauli(&y)), FrameRow::Given(pauli(&z))]);
     assert_eq!((rewritten.counted.t_before, rewritten.counted.t_after), (2, 0));
+    assert_eq!(rewritten.counted.packed_words, words);
     assert_eq!(run(&program, &options(words - 1)), Err(Refusal::ExpansionLimit));
 }
 
