@@ -4,7 +4,8 @@ mod lent;
 
 use lent::Lent;
 use werdutxa::{
-    FrameRow, Operation, Options, Pauli, Program, Refusal, Rewritten, Row, Sizes, Strategy, optimize, rewrite, smallest_limit, width,
+    FrameRow, Operation, Options, Pauli, Program, Refusal, Rewritten, Row, Sizes, Strategy, optimize, rewrite, smallest_limit,
+    width,
 };
 
 const STRATEGIES: [Strategy; 2] = [Strategy::Merge, Strategy::Litinski];
