@@ -62,7 +62,7 @@ enum { WERDUTXA_ROW_FIELDS = 4 };
 #define WERDUTXA_MINUS_ONE UINT32_C(4294967295)
 
 /* The bytes that Listing's output must have room for: the largest listing. */
-#define WERDUTXA_LISTING_BYTES ((size_t)215361)
+#define WERDUTXA_LISTING_BYTES ((size_t)215369)
 
 /* A program; it is only read. */
 struct werdutxa_program {
@@ -120,6 +120,7 @@ struct werdutxa_counted {
     size_t t_depth_after;
     size_t weight_before;      /* letters other than I of all rotations */
     size_t weight_after;
+    size_t packed_words;       /* the largest word sum that was tested: the least limit that the run is accepted with */
 };
 
 /* How many words a plane of an axis has: an axis has twice as many. */
@@ -167,7 +168,7 @@ uint32_t werdutxa_rewrite(
     struct werdutxa_counted *counted);
 
 /* Listing: 0, or a refusal 1 or 3 to 11. The first *size bytes of output are the listing that is printed, after a refusal its number and
- * seven zeros; an output below WERDUTXA_LISTING_BYTES is refused by 3, and nothing is printed. */
+ * eight zeros; an output below WERDUTXA_LISTING_BYTES is refused by 3, and nothing is printed. */
 uint32_t werdutxa_list(
     const uint8_t *text, size_t text_length,
     uint8_t *output, size_t output_length,

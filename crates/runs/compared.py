@@ -8,6 +8,7 @@ root = pathlib.Path(__file__).resolve().parents[2]
 specs = root / "crates/runs/specs"
 LARGEST = 9  # operations of a job that is taken
 JOBS = 32  # jobs in a file
+DIRECTED = 63  # directed cases in front of pinned.rs's, whose like are calls in specs/Options.antt
 NONE, MINUS_ONE = 65535, 4294967295
 
 
@@ -111,7 +112,7 @@ def outcome(qubits, answer):
         listed([result(r) for r in records]),
         listed([result_row(r) for r in rows]),
         axes(stored, qubits, letters),
-        numbers(first[1:6] + first[8:14]) + ")",
+        numbers(first[1:6] + first[8:]) + ")",
     ]
 
 
@@ -178,13 +179,17 @@ def write(name, title, theorems):
 
 def theorems(folder, name, wanted):
     pairs = zip(jobs(folder / (name + ".jobs")), answers(folder / (name + ".out")))
-    return [theorem("job-%d" % i, *job, answer) for i, (job, answer) in enumerate(pairs) if wanted(*job)]
+    return [theorem("job-%d" % i, *job, answer) for i, (job, answer) in enumerate(pairs) if wanted(i, *job)]
 
 
-def small(comment, head, parts):
+def small(i, comment, head, parts):
     return head[2] <= LARGEST and head[1] <= 30 and head[0] <= 3
+
+
+def directed(i, comment, head, parts):
+    return i < DIRECTED and not comment.startswith("*")
 
 
 oracle = root / "oracle"
 write("Fixed", "jobs of the oracle's fixed list", theorems(oracle / "fixed", "list", small))
-write("Directed", "the oracle's directed cases", theorems(oracle / "directed", "cases", lambda comment, head, parts: not comment.startswith("*")))
+write("Directed", "the oracle's directed cases", theorems(oracle / "directed", "cases", directed))

@@ -67,8 +67,8 @@ static void rewrite(size_t limit) {
     struct werdutxa_counted counted;
     uint32_t checked = werdutxa_check_program(&program, &options, &memory);
     uint32_t answer = werdutxa_rewrite_program(&program, &options, &memory, &counted);
-    printf("limit %zu: checking %" PRIu32 ", rewriting %" PRIu32 ", T-count %zu before, %zu after\n",
-           limit, checked, answer, counted.t_before, counted.t_after);
+    printf("limit %zu: checking %" PRIu32 ", rewriting %" PRIu32 ", T-count %zu before, %zu after, %zu words\n",
+           limit, checked, answer, counted.t_before, counted.t_after, counted.packed_words);
     if (answer != WERDUTXA_ACCEPTED)
         return;
     print_records(result_operations, counted.operations, WERDUTXA_OPERATION_FIELDS);

@@ -1,4 +1,4 @@
-//! Prints the smallest word limit that a program is accepted with.
+//! Prints the smallest word limit that a program is accepted with, by one call.
 //!
 //! limit               the paper's example
 //! limit - < listing   a listing; its own limit is passed over

@@ -139,7 +139,7 @@ pub fn check(records: &Records, options: &Options, memory: &Memory) -> Result<()
 ///     Memory { words: &mut words, numbers: &mut numbers, operations: &mut operations, rows: &mut rows };
 /// let counted = rewrite(&records, &options, &mut memory)?;
 ///
-/// assert_eq!((counted.operations, counted.axes), (1, 3));
+/// assert_eq!((counted.operations, counted.axes, counted.packed_words), (1, 3, 12));
 /// assert_eq!(operations[..6], [2, 2, MINUS_ONE, 0, 0, NONE]);
 /// assert_eq!(words[4..6], [1, 1]);
 /// # Ok::<(), werdutxa::Refusal>(())
@@ -147,7 +147,7 @@ pub fn check(records: &Records, options: &Options, memory: &Memory) -> Result<()
 pub fn rewrite(records: &Records, options: &Options, memory: &mut Memory) -> Result<Counted, Refusal> {
     let mut counted = Counted::default();
     // SAFETY: each pointer comes with the length of what it points into; `memory` and `counted` are lent for writing, so none of their
-    // parts overlaps another slice; `Counted` is 13 numbers in a row.
+    // parts overlaps another slice; `Counted` is 14 numbers in a row.
     let answer = unsafe {
         werdutxa_rewrite(
             records.qubits,

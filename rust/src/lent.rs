@@ -3,7 +3,7 @@
 use crate::options::Options;
 
 /// The bytes that a listing's output must have room for: the largest listing.
-pub const LISTING_BYTES: usize = 215_361;
+pub const LISTING_BYTES: usize = 215_369;
 
 /// No outcome or no target, in a record.
 pub const NONE: u32 = 65_535;
@@ -67,6 +67,8 @@ pub struct Counted {
     /// Letters other than I of all rotations.
     pub weight_before: usize,
     pub weight_after: usize,
+    /// The largest word sum that was tested, 0 if none was: the run is accepted exactly at the limits from it on.
+    pub packed_words: usize,
 }
 
 /// How long the lent slices must be.

@@ -8,7 +8,7 @@ use crate::refusal::Refusal;
 #[derive(Clone, Debug, PartialEq, Eq)]
 pub struct Listing {
     pub answer: Result<(), Refusal>,
-    /// After a refusal its number and seven zeros.
+    /// After a refusal its number and eight zeros.
     pub text: String,
 }
 
@@ -18,7 +18,7 @@ pub struct Listing {
 /// # use werdutxa::{Refusal, list};
 /// let listing = list("no listing");
 /// assert_eq!(listing.answer, Err(Refusal::BadText));
-/// assert_eq!(listing.text, "      11       0       0       0       0       0       0       0\n");
+/// assert_eq!(listing.text, "      11       0       0       0       0       0       0       0       0\n");
 /// ```
 pub fn list(text: &str) -> Listing {
     let sizes = Sizes::of_listing();

@@ -74,8 +74,8 @@ pub fn optimize(program: &Program, options: &Options) -> Result<Rewritten, Refus
     Ok(Rewritten::read(program.qubits(), counted, &memory))
 }
 
-/// The smallest word limit that a program is accepted with, or why none is, by bisection: what is accepted at a limit is accepted at every
-/// larger one.
+/// The smallest word limit that a program is accepted with, or why none is: one call at the largest limit, which tells the largest word sum
+/// that it tested.
 ///
 /// ```
 /// # use werdutxa::{NoPauli, Options, Program, smallest_limit};
@@ -85,17 +85,8 @@ pub fn optimize(program: &Program, options: &Options) -> Result<Rewritten, Refus
 /// # Ok::<(), NoPauli>(())
 /// ```
 pub fn smallest_limit(program: &Program, options: &Options) -> Result<usize, Refusal> {
-    let run = |max_packed_words| optimize(program, &Options { max_packed_words, ..*options });
-    run(LARGEST)?;
-    let (mut low, mut high) = (0, LARGEST);
-    while low < high {
-        let middle = (low + high) / 2;
-        match run(middle) {
-            Ok(_) => high = middle,
-            Err(_) => low = middle + 1,
-        }
-    }
-    Ok(high)
+    let rewritten = optimize(program, &Options { max_packed_words: LARGEST, ..*options })?;
+    Ok(rewritten.counted.packed_words)
 }
 
 impl Rewritten {

@@ -62,7 +62,7 @@ fn first_line(answer: Result<Counted, Refusal>) -> String {
     let c = answer.unwrap_or_default();
     let listed = [c.t_before, c.t_after, c.merges, c.swaps, c.cliffords_to_frame, c.operations, c.axes];
     let rotations = [c.rotations_before, c.rotations_after, c.t_depth_before, c.t_depth_after, c.weight_before, c.weight_after];
-    let counted: String = listed.iter().chain(&rotations).map(|field| format!(" {field}")).collect();
+    let counted: String = listed.iter().chain(&rotations).chain(&[c.packed_words]).map(|field| format!(" {field}")).collect();
     format!("{number}{counted}")
 }
 

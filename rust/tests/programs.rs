@@ -117,7 +117,7 @@ fn listings_and_rewriting_agree() {
         assert_eq!(rewritten.as_ref().err(), listing.answer.err().as_ref(), "{text}");
         let Ok(rewritten) = rewritten else { continue };
         let c = rewritten.counted;
-        let fields = [0, c.t_before, c.t_after, c.merges, c.swaps, c.cliffords_to_frame, c.operations, c.axes];
+        let fields = [0, c.t_before, c.t_after, c.merges, c.swaps, c.cliffords_to_frame, c.operations, c.axes, c.packed_words];
         let first: String = fields.iter().map(|field| format!("{field:8}")).collect();
         assert_eq!(listing.text.lines().next(), Some(&first[..]));
         let letters: usize = rewritten.axes.iter().map(|axis| axis.letters().len()).sum();

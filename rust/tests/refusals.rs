@@ -186,7 +186,7 @@ fn listings() {
     let of = |text: String, refusal: Refusal| {
         let listing = list(&text);
         assert_eq!(listing.answer, Err(refusal), "{text}");
-        assert_eq!(listing.text, format!("{:8}{}\n", refusal.number(), "       0".repeat(7)));
+        assert_eq!(listing.text, format!("{:8}{}\n", refusal.number(), "       0".repeat(8)));
     };
     assert_eq!(list(&one_operation(&[z], rotate, 4)).answer, Ok(()));
     of(listing(&[&[0, 0, 0, 0]]), Refusal::CountOutside);
@@ -216,7 +216,7 @@ fn short_slices_of_listings() {
         (answer, size)
     };
     assert_eq!(call(LISTING_BYTES - 1, 20), (Err(Refusal::SliceShort), 0));
-    assert_eq!(call(LISTING_BYTES, 19), (Err(Refusal::SliceShort), 65));
+    assert_eq!(call(LISTING_BYTES, 19), (Err(Refusal::SliceShort), 73));
     assert_eq!(call(LISTING_BYTES, 20).0, Ok(()));
     assert_eq!(call(LISTING_BYTES + 1, 20).0, Ok(()));
 }

@@ -4,7 +4,8 @@ mod lent;
 
 use lent::Lent;
 use werdutxa::{
-    FrameRow, Operation, Options, Pauli, Program, Refusal, Rewritten, Row, Sizes, Strategy, optimize, rewrite, width,
+    FrameRow, Operation, Options, Pauli, Program, Refusal, Rewritten, Row, Sizes, Strategy, optimize, rewrite, smallest_limit,
+    width,
 };
 
 const STRATEGIES: [Strategy; 2] = [Strategy::Merge, Strategy::Litinski];
@@ -49,6 +50,7 @@ fn example_is_rewritten(qubits: usize, strategy: Strategy) {
     let z = format!("Z{}", qubits - 1);
     assert_eq!(given, [FrameRow::Given(pauli(&y)), FrameRow::Given(pauli(&z))]);
     assert_eq!((rewritten.counted.t_before, rewritten.counted.t_after), (2, 0));
+    assert_eq!(rewritten.counted.packed_words, words);
     assert_eq!(run(&program, &options(words - 1)), Err(Refusal::ExpansionLimit));
 }
 
@@ -109,6 +111,17 @@ fn lent_slices() {
             assert!(zero_from(lent.rows.inside(), 8 * 4) && zero_from(lent.numbers.inside(), 0));
             assert!(lent.words.inside()[2 * counted.axes..].iter().all(|&word| word == 0));
         }
+    }
+}
+
+/// The words that a run tells are the least limit that accepts it.
+#[test]
+fn words_are_the_least_limit() {
+    for strategy in STRATEGIES {
+        let options = |max_packed_words| Options { strategy, max_packed_words, ..Options::default() };
+        let limit = smallest_limit(&mixed(), &options(0)).unwrap();
+        assert_eq!(run(&mixed(), &options(limit)).unwrap().counted.packed_words, limit);
+        assert_eq!(run(&mixed(), &options(limit - 1)), Err(Refusal::ExpansionLimit));
     }
 }
 

@@ -77,8 +77,8 @@ letters-size l e id (w ∷ ws) =
 
 -- ---- a result
 
-four-parts : (x : List ℕ) (o f l : List (List ℕ)) → length x ≡ 8
-    → length (textOf (x ∷ (o ++ (f ++ l)))) ≡ lineBytes 8 + (length (textOf o) + (length (textOf f) + length (textOf l)))
+four-parts : (x : List ℕ) (o f l : List (List ℕ)) → length x ≡ 9
+    → length (textOf (x ∷ (o ++ (f ++ l)))) ≡ lineBytes 9 + (length (textOf o) + (length (textOf f) + length (textOf l)))
 unfolding textOf flatten
 four-parts x o f l e =
     let a = length-append (lineOf x) (textOf (o ++ (f ++ l))) in
@@ -119,7 +119,8 @@ module _ (t : Read) (small : SmallText t) (yes′ : listingAnswer (some t) ≡ A
   rows-size : length (textOf (rowResults p e)) ≤ lineBytes 4 * 128
   rows-size = omega (arith, text-size (rowResults p e), row-records-fit p e, rowResults-length p e, few-rows)
 
-  within-limit : e .store .peak ≤ t .limit
+  -- its largest sum
+  pub within-limit : listedEnd t yes′ .store .peak ≤ t .limit
   within-limit =
       subst (λ (k : ℕ). k ≤ t .limit) (hermitian-peak (rulesOf (optionsOf t)) 8 p (listed-hermitian t yes′))
       (accepted-peak (t .limit) (rulesOf (optionsOf t)) 8 p (listed-passed t yes′ .1))
@@ -140,7 +141,7 @@ module _ (t : Read) (small : SmallText t) (yes′ : listingAnswer (some t) ≡ A
       let o = map resultLine (operationResults p e) in
       let f = rowResults p e in
       let l = letterLines (width (p .qubits)) 0 (e .store .axes) in
-      let all : length (textOf (jobLines t)) ≡ lineBytes 8 + (length (textOf o) + (length (textOf f) + length (textOf l))) =
+      let all : length (textOf (jobLines t)) ≡ lineBytes 9 + (length (textOf o) + (length (textOf f) + length (textOf l))) =
       ap (λ (ls : List (List ℕ)). length (textOf ls)) (listed-lines t yes′)
       ∙ four-parts (listedFirst t yes′) o f l (unfold firstLine in refl) in
       omega (
@@ -155,7 +156,7 @@ module _ (t : Read) (small : SmallText t) (yes′ : listingAnswer (some t) ≡ A
 -- ---- every listing
 
 -- a refusal's line
-pub refusal-size : (a : Answer) → length (textOf (refusalLines a)) ≡ lineBytes 8
+pub refusal-size : (a : Answer) → length (textOf (refusalLines a)) ≡ lineBytes 9
 unfolding refusalLines
 refusal-size a = text-size _ ∙ unfold flatten in refl
 
@@ -171,7 +172,7 @@ run-refused r p limit w =
     end-refused nonHermitian h = refl
     end-refused (finished f) h = absurd (true≢false h)
 
--- a listing that does not answer 0 prints its number and seven zeros
+-- a listing that does not answer 0 prints its number and eight zeros
 pub lines-refused : (x : Option Read) → accepts (listingAnswer x) ≡ false → linesOf x ≡ refusalLines (listingAnswer x)
 unfolding linesOf listingAnswer jobLines
 lines-refused none h = refl

@@ -32,7 +32,7 @@ use Rattle.listing_promises.specs.Calls.{printed, unread-by, called-by, 
 
 -- ---- the records of a printed text
 
--- "answer, T before, T after, merges, swaps, absorbed, operations, axes": field i of the first line
+-- "answer, T before, T after, merges, swaps, absorbed, operations, axes", and M-103's "ninth field": field i of the first line
 abbrev pub headField : List ℕ → ℕ → ℕ
 headField bytes i = fieldOf (firstBack bytes) i
 
@@ -80,7 +80,7 @@ refusal-lines a h e = record { lines = refusalLines a; text = e; inside = refusa
 
 module _ {text out : List ℕ} {s : Lent} {a : Answer} {size : ℕ} {out′ : List ℕ} {s′ : Lent} (call : ListingCalled text out s a size out′ s′)
     (room : mostBytes ≤ length out) where
-  -- 1 to 11: "its number and seven zeros"
+  -- 1 to 11: "its number and seven zeros", and one more for M-103's field
   pub refusal-by : accepts a ≡ false → printed size out′ ≡ textOf (refusalLines a)
   unfolding printedText
   refusal-by n = bytes-by call room ∙ go (read text) refl

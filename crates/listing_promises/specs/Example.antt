@@ -12,7 +12,7 @@ use Rattle.listing_promises.specs.Back.{operationsPrinted, rowsPrinted, 
 
 abbrev output : List ℕ
 output =
-    bytes "       0       2       0       1       0       1       1       3\n"
+    bytes "       0       2       0       1       0       1       1       3      12\n"
     ++ (bytes "       2       2      -1       0       0      -1\n"
     ++ (bytes "       0       0       2      -1\n"
     ++ (bytes "       0       1       0       1\n"
@@ -22,7 +22,7 @@ output =
 
 -- a -1 is 4,294,967,295, as in a lent slice; the axes are Z, X and Y of one qubit
 pub record Example : Type 0 where
-  pub first : firstBack output ≡ 0 ∷ 2 ∷ 0 ∷ 1 ∷ 0 ∷ 1 ∷ 1 ∷ 3 ∷ []
+  pub first : firstBack output ≡ 0 ∷ 2 ∷ 0 ∷ 1 ∷ 0 ∷ 1 ∷ 1 ∷ 3 ∷ 12 ∷ []
   pub operations : operationsPrinted output ≡ (2 ∷ 2 ∷ minusOne ∷ 0 ∷ 0 ∷ minusOne ∷ []) ∷ []
   pub rows : rowsPrinted 1 output ≡ (0 ∷ 0 ∷ 2 ∷ minusOne ∷ []) ∷ (0 ∷ 1 ∷ 0 ∷ 1 ∷ []) ∷ []
   pub axes : axesPrinted 1 output ≡ (0 ∷ 1 ∷ []) ∷ (1 ∷ 0 ∷ []) ∷ (1 ∷ 1 ∷ []) ∷ []

@@ -42,7 +42,7 @@ use Rattle.result_effect.specs.Listing.{SmallFields, fields-at, listed-fields, 
 use Rattle.promises.specs.Left.{AxisIn, left-in}
 use Rattle.listing_columns.specs.Digits.{InColumn}
 use Rattle.listing_call.specs.Reads.{SmallText}
-use Rattle.listing_call.specs.Size.{few-handed, few-rows, few-items, few-axes, one-word}
+use Rattle.listing_call.specs.Size.{few-handed, few-rows, few-items, within-limit, few-axes, one-word}
 use Rattle.listing_promises.specs.Counts.{default-counts}
 
 -- ---- fields
@@ -216,7 +216,10 @@ module _ (t : Read) (small : SmallText t) (yes′ : listingAnswer (some t) ≡ A
                 small-in _ (omega (arith, c .swaps)),
                 (
                   small-in _ (omega (arith, c .absorbed)),
-                  (small-in _ (omega arith), (small-in _ (omega arith), tt)),
+                  (
+                    small-in _ (omega arith),
+                    (small-in _ (omega arith), (small-in _ (omega (arith, within-limit t small yes′, small .limit)), tt)),
+                  ),
                 ),
               ),
             ),
@@ -259,4 +262,4 @@ pub refusal-in : (a : Answer) → numberOf a ≤ 11 → Every (Every InColumn) (
 unfolding refusalLines
 refusal-in a h =
     let none : InColumn 0 = small-in 0 (omega arith) in
-    ((small-in (numberOf a) (omega arith), (none, (none, (none, (none, (none, (none, (none, tt)))))))), tt)
+    ((small-in (numberOf a) (omega arith), (none, (none, (none, (none, (none, (none, (none, (none, tt))))))))), tt)

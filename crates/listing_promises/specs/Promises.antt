@@ -15,6 +15,7 @@ use Rattle.groups.specs.Abelian.{pow2}
 use Rattle.store.specs.Part.{put-length}
 use Rattle.model.specs.declared.Answer.{Answer}
 use Rattle.model.specs.declared.Answer.the-variants.{Accepted, SliceShort, BadText}
+use Rattle.model.specs.declared.Counters.{Counters}
 use Rattle.model.specs.Interface.{numberOf, accepts}
 use Rattle.model.specs.Program.{fieldOf, programOf}
 use Rattle.model.specs.Rules.{rulesOf}
@@ -23,8 +24,9 @@ use Rattle.model.specs.Checking.{Lent}
 use Rattle.model.specs.Rewriting.{rewriting}
 use Rattle.model.specs.Listing.{Read, read, textOf, resultLine, refusalLines, firstLine, listing}
 use Rattle.theory.specs.Checked.{accepts-only}
-use Rattle.theory.specs.AcceptedRun.{finishOf}
-use Rattle.theory.specs.ListingCalls.{optionsOf, listingAnswer, read-limit, same-text-at-larger-limit, no-more-listed}
+use Rattle.theory.specs.AcceptedRun.{finishOf, hermitian-peak}
+use Rattle.theory.specs.ListingCalls.{optionsOf, listedRun, listingAnswer, read-limit, same-text-at-larger-limit, accepted-from-peak-on}
+use Rattle.theory.specs.ListingCalls.{listed-hermitian, no-more-listed}
 use Rattle.run_wellformed.specs.Lengths.{SameLengths}
 use Rattle.result_effect.specs.Listing.{operations-are, rows-are, listed-axes}
 use Rattle.run_effect.specs.RunEffect.{Effects, sourceEffect, resultEffect}
@@ -39,7 +41,8 @@ use Rattle.listing_call.specs.Call.{ListingCalled, mostBytes, printedText, noRo
 use Rattle.listing_call.specs.Reads.{read-small}
 use Rattle.listing_call.specs.Replies.{printed-size}
 use Rattle.listing_call.specs.Rooms.{call-fits}
-use Rattle.listing_promises.specs.Fields.{listed-t}
+use Rattle.listing_call.specs.Size.{within-limit}
+use Rattle.listing_promises.specs.Fields.{listed-t, refusal-in}
 use Rattle.listing_promises.specs.Calls.{printed, without-room, room-of, unread-by, called-by, behind-by}
 use Rattle.listing_promises.specs.Calls.{output-by, listing-printed, listing-answered}
 use Rattle.listing_promises.specs.Alike.{AlikeTexts, alike-options, alike-back, ZeroOrNine, not-short}
@@ -50,7 +53,7 @@ use Rattle.listing_promises.specs.Back.{refusal-by, lines-by}
 
 -- t is what an accepted text says; bytes show what 01's rules give for it: the run's counters, and the work at its end
 pub record Shows (t : Read) (bytes : List ℕ) : Type 0 where
-  -- "answer, T before, T after, merges, swaps, absorbed, operations, axes"
+  -- "answer, T before, T after, merges, swaps, absorbed, operations, axes", and M-103's "ninth field"
   pub first : firstBack bytes
       ≡ firstLine (countersOf (rulesOf (optionsOf t)) (programOf (t .job)) (finishOf (rulesOf (optionsOf t)) 8 (programOf (t .job))))
       (endWork (optionsOf t) (t .job))
@@ -175,7 +178,7 @@ module _ {text out : List ℕ} {s : Lent} {a : Answer} {size : ℕ} {out′ : Li
           ap length (output-by call h)
           ∙ put-length out 0 (printedText (read text) a) (omega (arith, printed-size (read text) a (λ t e. read-small text t e)))
 
-  -- "A refusal prints its number and seven zeros", where there is room for a listing: by 3 too.
+  -- "A refusal prints its number and seven zeros", M-103's one more, where there is room for a listing: by 3 too.
   -- Rules out: nothing printed after 10; the counters of a run that was stopped
   pub refusal-printed : mostBytes ≤ length out → (a ≡ Accepted → ⊥) → printed size out′ ≡ textOf (refusalLines a)
   refusal-printed h n = refusal-by call h (not-accepted (accepts a) refl)
@@ -183,6 +186,12 @@ module _ {text out : List ℕ} {s : Lent} {a : Answer} {size : ℕ} {out′ : Li
       not-accepted : (b : Bool) → accepts a ≡ b → accepts a ≡ false
       not-accepted true e = absurd (n (accepts-only a e))
       not-accepted false e = e
+
+  -- M-103: the ninth field is "0 .. on refusal".
+  -- Rules out: the sum that was refused told by 10; the sums of packing told by 9
+  pub no-words-told : mostBytes ≤ length out → (a ≡ Accepted → ⊥) → headField (printed size out′) 8 ≡ 0
+  no-words-told h n =
+      rw (refusal-printed h n, lines-back (refusalLines a) (refusal-in a answers-0-to-11)) (unfold refusalLines in refl)
 
 -- "acceptance leaves results, axis words and zeros": the program is the text's, the options Rust's defaults.
 -- Rules out: the text's own records left in the result slices; slots of packing left behind the axis words
@@ -268,6 +277,24 @@ module _ {text out : List ℕ} {s : Lent} {size : ℕ} {out′ : List ℕ} {s′
   never-above-source =
       rw (results-printed call t reads .first) (unfold firstLine in (no-more-listed t (listed-accepted call t reads) .no-more))
 
+  -- M-103: "the listing's first line gets it as a ninth field": the run's `packed_words`, the largest sum that 01's run tests without a limit.
+  -- Rules out: the words of the axes that came out; the text's limit
+  pub words-told : (headField (printed size out′) 8 ≡ rewriting (optionsOf t) (t .job) s .counters .«packed_words»)
+      × (headField (printed size out′) 8 ≡ listedRun t .peak)
+  unfolding firstLine countersOf
+  words-told =
+      let called = called-by call (room-of call (not-short (inl refl))) t reads in
+      let first = ap (λ (f : List ℕ). fieldOf f 8) (results-printed call t reads .first) in (
+        first ∙ sym (ap (λ (c : Counters). c .«packed_words») (rewriting-promises.counters-of-run called)),
+        first ∙ sym (hermitian-peak (rulesOf (optionsOf t)) 8 (programOf (t .job)) (listed-hermitian t (listed-accepted call t reads))),
+      )
+
+  -- and it is within the text's limit.
+  -- Rules out: the work stores' length; the sums of several passes added up
+  pub words-within : headField (printed size out′) 8 ≤ t .limit
+  unfolding firstLine countersOf
+  words-within = rw (results-printed call t reads .first) (within-limit t (read-small text t reads) (listed-accepted call t reads))
+
 -- "an accepted or non-Hermitian run gets the same answer at every larger limit", and prints the same: a text that is read has a limit of at
 -- most 256, and 3 does not refuse the stores.
 -- Rules out: 10 at a limit above one that was enough; the limit printed among the counters
@@ -295,3 +322,23 @@ equal-bytes {size₁ = size₁} {size₂ = size₂} {left₁ = left₁} {left₂
     go : Dec (t′ .limit < t .limit) → printed size₂ left₂ ≡ printed size₁ left₁
     go (yes h) = sym (larger-limit-same-answer y x (alike-back alike) (inl refl) (omega arith) (not-short (inl refl)) .1)
     go (no h) = larger-limit-same-answer x y alike (inl refl) (omega arith) (not-short (inl refl)) .1
+
+-- M-103: "accepted exactly if the limit is no smaller than that sum": an accepted listing tells at which limits a text alike but for the limit
+-- is accepted.
+-- Rules out: the sum at the run's end told for the largest; a limit one above the sum asked for
+pub accepted-from-words-on : {text text′ out₁ out₂ : List ℕ} {s₁ s₂ : Lent} {a′ : Answer} {size₁ size₂ : ℕ} {left₁ left₂ : List ℕ}
+    {s₁′ s₂′ : Lent} {t t′ : Read} → ListingCalled text out₁ s₁ Accepted size₁ left₁ s₁′ → ListingCalled text′ out₂ s₂ a′ size₂ left₂ s₂′
+    → AlikeTexts text text′ t t′ → (a′ ≡ SliceShort → ⊥) → (a′ ≡ Accepted) ↔ (headField (printed size₁ left₁) 8 ≤ t′ .limit)
+accepted-from-words-on {text} {text′} {out₂ = out₂} {s₂ = s₂} {a′ = a′} {size₁ = size₁} {size₂} {left₁} {left₂} {s₂′ = s₂′} {t} {t′} x y alike n =
+    (there, back)
+  where
+    there : a′ ≡ Accepted → headField (printed size₁ left₁) 8 ≤ t′ .limit
+    there e =
+        let y′ = subst (λ (b : Answer). ListingCalled text′ out₂ s₂ b size₂ left₂ s₂′) e y in
+        omega (arith, words-within y′ t′ (alike .reads′), ap (λ (b : List ℕ). headField b 8) (equal-bytes x y′ alike))
+
+    back : headField (printed size₁ left₁) 8 ≤ t′ .limit → a′ ≡ Accepted
+    back h =
+        answers-the-listing y n ∙ ap listingAnswer (alike .reads′)
+        ∙ accepted-from-peak-on text text′ t t′ (alike .reads) (alike .reads′) (alike .job) (listed-accepted x t (alike .reads))
+        (omega (arith, words-told x t (alike .reads) .1))

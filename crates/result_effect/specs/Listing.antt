@@ -122,7 +122,7 @@ module _ (t : Read) (yes′ : listingAnswer (some t) ≡ Accepted) where
 
   -- ---- its lines
 
-  -- "answer, T before, T after, merges, swaps, absorbed, operations, axes"
+  -- "answer, T before, T after, merges, swaps, absorbed, operations, axes", and M-103's "ninth field"
   abbrev pub listedFirst : List ℕ
   listedFirst =
       let q = programOf (t .job) in

@@ -16,6 +16,7 @@ fn sizes(c: Counters) {
     next_number(c.t_depth_after);
     next_number(c.weight_before);
     next_number(c.weight_after);
+    next_number(c.packed_words);
     io::write_all(1, b"\n");
 }
 

@@ -19,7 +19,7 @@ job-0 : outcome 4096 (rules 1 0 16 lazy true Merge false) 1 (program 3
     (given- 0 0 6 ∷ given+ 0 1 0 ∷ given+ 1 0 4 ∷ given+ 1 1 1 ∷ given+ 2 0 5 ∷ given+ 2 1 2 ∷ [])
     ((0 ∷ 1 ∷ []) ∷ (0 ∷ 2 ∷ []) ∷ (0 ∷ 4 ∷ []) ∷ (1 ∷ 0 ∷ []) ∷ (2 ∷ 0 ∷ []) ∷ (4 ∷ 0 ∷ []) ∷ (1 ∷ 1 ∷ [])
     ∷ [])
-    (6 ∷ 4 ∷ 1 ∷ 0 ∷ 1 ∷ 7 ∷ 4 ∷ 0 ∷ 0 ∷ 7 ∷ 4 ∷ []))
+    (6 ∷ 4 ∷ 1 ∷ 0 ∷ 1 ∷ 7 ∷ 4 ∷ 0 ∷ 0 ∷ 7 ∷ 4 ∷ 20 ∷ []))
 unfolding everything
 job-0 = refl
 
@@ -32,7 +32,7 @@ job-1 : outcome 4096 (rules 0 1 0 off true Merge false) 3 (program 2
     (rotated 1 3 ∷ rotated 0 2 ∷ [])
     (kept 0 0 ∷ kept 0 1 ∷ kept 1 0 ∷ kept 1 1 ∷ [])
     ((2 ∷ 2 ∷ []) ∷ (1 ∷ 1 ∷ []) ∷ (1 ∷ 0 ∷ []) ∷ (0 ∷ 1 ∷ []) ∷ (2 ∷ 0 ∷ []) ∷ (0 ∷ 2 ∷ []) ∷ [])
-    (3 ∷ 1 ∷ 0 ∷ 3 ∷ 0 ∷ 5 ∷ 2 ∷ 0 ∷ 0 ∷ 5 ∷ 2 ∷ []))
+    (3 ∷ 1 ∷ 0 ∷ 3 ∷ 0 ∷ 5 ∷ 2 ∷ 0 ∷ 0 ∷ 5 ∷ 2 ∷ 14 ∷ []))
 unfolding everything
 job-1 = refl
 
@@ -46,7 +46,7 @@ job-2 : outcome 4096 (rules 0 2 0 off true Merge false) 3 (program 2
     (rotated 0 1 ∷ rotated 1 2 ∷ [])
     (kept 0 0 ∷ kept 0 1 ∷ kept 1 0 ∷ kept 1 1 ∷ [])
     ((3 ∷ 1 ∷ []) ∷ (2 ∷ 2 ∷ []) ∷ (0 ∷ 1 ∷ []) ∷ (0 ∷ 2 ∷ []) ∷ (1 ∷ 0 ∷ []) ∷ (2 ∷ 0 ∷ []) ∷ [])
-    (5 ∷ 1 ∷ 3 ∷ 1 ∷ 0 ∷ 9 ∷ 2 ∷ 0 ∷ 0 ∷ 12 ∷ 3 ∷ []))
+    (5 ∷ 1 ∷ 3 ∷ 1 ∷ 0 ∷ 9 ∷ 2 ∷ 0 ∷ 0 ∷ 12 ∷ 3 ∷ 16 ∷ []))
 unfolding everything
 job-2 = refl
 
@@ -61,7 +61,7 @@ job-3 : outcome 4096 (rules 1 3 16 atOnce true Merge false) 1 (program 3
     (given+ 0 0 6 ∷ given+ 0 1 3 ∷ given+ 1 0 7 ∷ given+ 1 1 4 ∷ given+ 2 0 2 ∷ given+ 2 1 9 ∷ [])
     ((3 ∷ 0 ∷ []) ∷ (3 ∷ 3 ∷ []) ∷ (4 ∷ 0 ∷ []) ∷ (0 ∷ 1 ∷ []) ∷ (0 ∷ 2 ∷ []) ∷ (0 ∷ 3 ∷ []) ∷ (1 ∷ 0 ∷ [])
     ∷ (2 ∷ 0 ∷ []) ∷ (0 ∷ 4 ∷ []) ∷ (4 ∷ 4 ∷ []) ∷ [])
-    (8 ∷ 6 ∷ 0 ∷ 1 ∷ 1 ∷ 8 ∷ 6 ∷ 0 ∷ 0 ∷ 11 ∷ 9 ∷ []))
+    (8 ∷ 6 ∷ 0 ∷ 1 ∷ 1 ∷ 8 ∷ 6 ∷ 0 ∷ 0 ∷ 11 ∷ 9 ∷ 26 ∷ []))
 unfolding everything
 job-3 = refl
 
@@ -76,7 +76,7 @@ job-4 : outcome 4096 (rules 0 3 16 atOnce false Merge false) 1 (program 3
     (given+ 0 0 6 ∷ given+ 0 1 3 ∷ given+ 1 0 7 ∷ given+ 1 1 4 ∷ given+ 2 0 2 ∷ given+ 2 1 9 ∷ [])
     ((3 ∷ 0 ∷ []) ∷ (3 ∷ 3 ∷ []) ∷ (4 ∷ 0 ∷ []) ∷ (0 ∷ 1 ∷ []) ∷ (0 ∷ 2 ∷ []) ∷ (0 ∷ 3 ∷ []) ∷ (1 ∷ 0 ∷ [])
     ∷ (2 ∷ 0 ∷ []) ∷ (0 ∷ 4 ∷ []) ∷ (4 ∷ 4 ∷ []) ∷ [])
-    (8 ∷ 6 ∷ 0 ∷ 1 ∷ 1 ∷ 8 ∷ 6 ∷ 0 ∷ 0 ∷ 11 ∷ 9 ∷ []))
+    (8 ∷ 6 ∷ 0 ∷ 1 ∷ 1 ∷ 8 ∷ 6 ∷ 0 ∷ 0 ∷ 11 ∷ 9 ∷ 26 ∷ []))
 unfolding everything
 job-4 = refl
 
@@ -89,7 +89,7 @@ job-5 : outcome 4096 (rules 1048576 0 16 atOnce true Merge false) 1 (program 1
     (rotated 0 1 ∷ rotated 0 1 ∷ [])
     (kept 0 0 ∷ kept 0 1 ∷ [])
     ((1 ∷ 0 ∷ []) ∷ (0 ∷ 1 ∷ []) ∷ [])
-    (6 ∷ 2 ∷ 2 ∷ 0 ∷ 0 ∷ 6 ∷ 2 ∷ 0 ∷ 0 ∷ 6 ∷ 2 ∷ []))
+    (6 ∷ 2 ∷ 2 ∷ 0 ∷ 0 ∷ 6 ∷ 2 ∷ 0 ∷ 0 ∷ 6 ∷ 2 ∷ 6 ∷ []))
 unfolding everything
 job-5 = refl
 
@@ -102,7 +102,7 @@ job-6 : outcome 4096 (rules 1048576 0 16 atOnce true Merge false) 2 (program 1
     []
     (given+ 0 0 0 ∷ given+ 0 1 2 ∷ [])
     ((1 ∷ 0 ∷ []) ∷ (0 ∷ 1 ∷ []) ∷ (1 ∷ 1 ∷ []) ∷ [])
-    (6 ∷ 0 ∷ 3 ∷ 0 ∷ 1 ∷ 6 ∷ 0 ∷ 0 ∷ 0 ∷ 6 ∷ 0 ∷ []))
+    (6 ∷ 0 ∷ 3 ∷ 0 ∷ 1 ∷ 6 ∷ 0 ∷ 0 ∷ 0 ∷ 6 ∷ 0 ∷ 12 ∷ []))
 unfolding everything
 job-6 = refl
 
@@ -116,7 +116,7 @@ job-7 : outcome 4096 (rules 1048576 2 16 atOnce true Merge false) 8 (program 2
     (given+ 0 0 4 ∷ given+ 0 1 6 ∷ given+ 1 0 5 ∷ given+ 1 1 7 ∷ [])
     ((3 ∷ 0 ∷ []) ∷ (3 ∷ 3 ∷ []) ∷ (0 ∷ 1 ∷ []) ∷ (0 ∷ 2 ∷ []) ∷ (1 ∷ 0 ∷ []) ∷ (2 ∷ 0 ∷ []) ∷ (3 ∷ 1 ∷ [])
     ∷ (3 ∷ 2 ∷ []) ∷ [])
-    (5 ∷ 3 ∷ 0 ∷ 1 ∷ 1 ∷ 5 ∷ 3 ∷ 0 ∷ 0 ∷ 8 ∷ 4 ∷ []))
+    (5 ∷ 3 ∷ 0 ∷ 1 ∷ 1 ∷ 5 ∷ 3 ∷ 0 ∷ 0 ∷ 8 ∷ 4 ∷ 28 ∷ []))
 unfolding everything
 job-7 = refl
 
@@ -129,7 +129,7 @@ job-8 : outcome 8 (rules 0 5 16 atOnce true Merge false) 1 (program 1
     (rotated 0 1 ∷ rotated 0 1 ∷ [])
     (kept 0 0 ∷ kept 0 1 ∷ [])
     ((1 ∷ 1 ∷ []) ∷ (0 ∷ 1 ∷ []) ∷ (1 ∷ 0 ∷ []) ∷ [])
-    (4 ∷ 2 ∷ 1 ∷ 0 ∷ 0 ∷ 4 ∷ 2 ∷ 0 ∷ 0 ∷ 4 ∷ 2 ∷ []))
+    (4 ∷ 2 ∷ 1 ∷ 0 ∷ 0 ∷ 4 ∷ 2 ∷ 0 ∷ 0 ∷ 4 ∷ 2 ∷ 8 ∷ []))
 unfolding everything
 job-8 = refl
 
@@ -160,7 +160,7 @@ job-11 : outcome 12 (rules 0 5 16 atOnce true Merge false) 2 (program 1
     []
     (given+ 0 0 1 ∷ given- 0 1 2 ∷ [])
     ((1 ∷ 1 ∷ []) ∷ (0 ∷ 1 ∷ []) ∷ (1 ∷ 0 ∷ []) ∷ [])
-    (4 ∷ 0 ∷ 2 ∷ 0 ∷ 1 ∷ 4 ∷ 0 ∷ 0 ∷ 0 ∷ 4 ∷ 0 ∷ []))
+    (4 ∷ 0 ∷ 2 ∷ 0 ∷ 1 ∷ 4 ∷ 0 ∷ 0 ∷ 0 ∷ 4 ∷ 0 ∷ 12 ∷ []))
 unfolding everything
 job-11 = refl
 
@@ -173,7 +173,7 @@ job-12 : outcome 4096 (rules 0 0 16 atOnce true Merge false) 1 (program 2
     []
     (given+ 0 0 0 ∷ given+ 0 1 5 ∷ given- 1 0 3 ∷ given- 1 1 4 ∷ [])
     ((1 ∷ 0 ∷ []) ∷ (3 ∷ 2 ∷ []) ∷ (0 ∷ 1 ∷ []) ∷ (2 ∷ 0 ∷ []) ∷ (0 ∷ 2 ∷ []) ∷ (1 ∷ 1 ∷ []) ∷ [])
-    (2 ∷ 0 ∷ 1 ∷ 0 ∷ 2 ∷ 3 ∷ 0 ∷ 0 ∷ 0 ∷ 4 ∷ 0 ∷ []))
+    (2 ∷ 0 ∷ 1 ∷ 0 ∷ 2 ∷ 3 ∷ 0 ∷ 0 ∷ 0 ∷ 4 ∷ 0 ∷ 24 ∷ []))
 unfolding everything
 job-12 = refl
 
@@ -186,7 +186,7 @@ job-13 : outcome 4096 (rules 0 0 16 lazy true Merge false) 1 (program 2
     (rotated 0 7 ∷ rotated 0 7 ∷ [])
     (given+ 0 0 0 ∷ given- 0 1 2 ∷ given- 1 0 3 ∷ given- 1 1 4 ∷ [])
     ((1 ∷ 0 ∷ []) ∷ (3 ∷ 2 ∷ []) ∷ (0 ∷ 1 ∷ []) ∷ (2 ∷ 0 ∷ []) ∷ (0 ∷ 2 ∷ []) ∷ [])
-    (2 ∷ 2 ∷ 0 ∷ 0 ∷ 1 ∷ 3 ∷ 2 ∷ 0 ∷ 0 ∷ 4 ∷ 2 ∷ []))
+    (2 ∷ 2 ∷ 0 ∷ 0 ∷ 1 ∷ 3 ∷ 2 ∷ 0 ∷ 0 ∷ 4 ∷ 2 ∷ 22 ∷ []))
 unfolding everything
 job-13 = refl
 
@@ -199,7 +199,7 @@ job-30 : outcome 4096 (rules 3 0 16 atOnce true Merge false) 1 (program 1
     (rotated 0 1 ∷ rotated 0 1 ∷ [])
     (kept 0 0 ∷ kept 0 1 ∷ [])
     ((1 ∷ 1 ∷ []) ∷ (1 ∷ 0 ∷ []) ∷ (0 ∷ 1 ∷ []) ∷ [])
-    (6 ∷ 2 ∷ 2 ∷ 0 ∷ 0 ∷ 6 ∷ 2 ∷ 0 ∷ 0 ∷ 6 ∷ 2 ∷ []))
+    (6 ∷ 2 ∷ 2 ∷ 0 ∷ 0 ∷ 6 ∷ 2 ∷ 0 ∷ 0 ∷ 6 ∷ 2 ∷ 8 ∷ []))
 unfolding everything
 job-30 = refl
 
@@ -212,7 +212,7 @@ job-31 : outcome 4096 (rules 1048576 0 16 atOnce true Merge false) 8 (program 1
     (rotated 0 1 ∷ measured+ 0 5 65535 ∷ rotated 0 1 ∷ [])
     (kept 0 0 ∷ kept 0 1 ∷ [])
     ((1 ∷ 0 ∷ []) ∷ (0 ∷ 1 ∷ []) ∷ [])
-    (2 ∷ 2 ∷ 0 ∷ 0 ∷ 0 ∷ 2 ∷ 2 ∷ 0 ∷ 0 ∷ 2 ∷ 2 ∷ []))
+    (2 ∷ 2 ∷ 0 ∷ 0 ∷ 0 ∷ 2 ∷ 2 ∷ 0 ∷ 0 ∷ 2 ∷ 2 ∷ 6 ∷ []))
 unfolding everything
 job-31 = refl
 
@@ -225,7 +225,7 @@ job-32 : outcome 4096 (rules 1048576 0 16 atOnce true Merge false) 8 (program 1
     (measured+ 0 7 65535 ∷ rotated 1 1 ∷ conditioned 0 5 7 ∷ rotated 1 1 ∷ [])
     (kept 0 0 ∷ kept 0 1 ∷ [])
     ((0 ∷ 1 ∷ []) ∷ (1 ∷ 0 ∷ []) ∷ [])
-    (3 ∷ 3 ∷ 0 ∷ 0 ∷ 0 ∷ 2 ∷ 2 ∷ 0 ∷ 0 ∷ 3 ∷ 3 ∷ []))
+    (3 ∷ 3 ∷ 0 ∷ 0 ∷ 0 ∷ 2 ∷ 2 ∷ 0 ∷ 0 ∷ 3 ∷ 3 ∷ 6 ∷ []))
 unfolding everything
 job-32 = refl
 
@@ -241,7 +241,7 @@ job-33 : outcome 4096 (rules 1048576 0 16 atOnce true Merge false) 8 (program 3
     ((0 ∷ 0 ∷ []) ∷ (4 ∷ 2 ∷ []) ∷ (0 ∷ 5 ∷ []) ∷ (5 ∷ 4 ∷ []) ∷ (1 ∷ 0 ∷ []) ∷ (0 ∷ 1 ∷ []) ∷ (2 ∷ 0 ∷ [])
     ∷ (0 ∷ 2 ∷ []) ∷ (4 ∷ 0 ∷ []) ∷ (0 ∷ 4 ∷ []) ∷ (4 ∷ 7 ∷ []) ∷ (1 ∷ 6 ∷ []) ∷ (6 ∷ 2 ∷ []) ∷ (4 ∷ 6
     ∷ []) ∷ [])
-    (1 ∷ 1 ∷ 0 ∷ 0 ∷ 1 ∷ 1 ∷ 0 ∷ 0 ∷ 0 ∷ 4 ∷ 3 ∷ []))
+    (1 ∷ 1 ∷ 0 ∷ 0 ∷ 1 ∷ 1 ∷ 0 ∷ 0 ∷ 0 ∷ 4 ∷ 3 ∷ 40 ∷ []))
 unfolding everything
 job-33 = refl
 
@@ -255,7 +255,7 @@ job-34 : outcome 4096 (rules 1048576 0 16 lazy true Merge false) 1 (program 2
     (given- 0 0 3 ∷ given+ 0 1 2 ∷ given+ 1 0 4 ∷ given+ 1 1 5 ∷ [])
     ((1 ∷ 1 ∷ []) ∷ (3 ∷ 0 ∷ []) ∷ (1 ∷ 0 ∷ []) ∷ (0 ∷ 1 ∷ []) ∷ (2 ∷ 0 ∷ []) ∷ (0 ∷ 2 ∷ []) ∷ (2 ∷ 1 ∷ [])
     ∷ [])
-    (0 ∷ 0 ∷ 0 ∷ 0 ∷ 1 ∷ 1 ∷ 0 ∷ 0 ∷ 0 ∷ 1 ∷ 0 ∷ []))
+    (0 ∷ 0 ∷ 0 ∷ 0 ∷ 1 ∷ 1 ∷ 0 ∷ 0 ∷ 0 ∷ 1 ∷ 0 ∷ 20 ∷ []))
 unfolding everything
 job-34 = refl
 
@@ -268,7 +268,7 @@ job-35 : outcome 4096 (rules 1048576 0 16 lazy true Merge false) 1 (program 1
     []
     (given+ 0 0 1 ∷ given+ 0 1 2 ∷ [])
     ((1 ∷ 1 ∷ []) ∷ (1 ∷ 0 ∷ []) ∷ (0 ∷ 1 ∷ []) ∷ [])
-    (2 ∷ 0 ∷ 1 ∷ 0 ∷ 2 ∷ 4 ∷ 0 ∷ 0 ∷ 0 ∷ 4 ∷ 0 ∷ []))
+    (2 ∷ 0 ∷ 1 ∷ 0 ∷ 2 ∷ 4 ∷ 0 ∷ 0 ∷ 0 ∷ 4 ∷ 0 ∷ 12 ∷ []))
 unfolding everything
 job-35 = refl
 
@@ -281,7 +281,7 @@ job-36 : outcome 4096 (rules 0 0 16 atOnce true Merge false) 1 (program 3
     (rotated 0 1 ∷ rotated 0 1 ∷ [])
     (given+ 0 0 3 ∷ given- 0 1 2 ∷ kept 1 0 ∷ kept 1 1 ∷ given+ 2 0 0 ∷ given+ 2 1 4 ∷ [])
     ((4 ∷ 0 ∷ []) ∷ (1 ∷ 1 ∷ []) ∷ (1 ∷ 0 ∷ []) ∷ (0 ∷ 1 ∷ []) ∷ (0 ∷ 4 ∷ []) ∷ [])
-    (4 ∷ 2 ∷ 1 ∷ 0 ∷ 1 ∷ 4 ∷ 2 ∷ 0 ∷ 0 ∷ 4 ∷ 2 ∷ []))
+    (4 ∷ 2 ∷ 1 ∷ 0 ∷ 1 ∷ 4 ∷ 2 ∷ 0 ∷ 0 ∷ 4 ∷ 2 ∷ 16 ∷ []))
 unfolding everything
 job-36 = refl
 
@@ -294,7 +294,7 @@ job-37 : outcome 12 (rules 0 0 16 lazy true Merge false) 2 (program 1
     []
     (given- 0 0 0 ∷ given+ 0 1 1 ∷ [])
     ((1 ∷ 0 ∷ []) ∷ (1 ∷ 1 ∷ []) ∷ (0 ∷ 1 ∷ []) ∷ [])
-    (8 ∷ 0 ∷ 5 ∷ 0 ∷ 2 ∷ 8 ∷ 0 ∷ 0 ∷ 0 ∷ 8 ∷ 0 ∷ []))
+    (8 ∷ 0 ∷ 5 ∷ 0 ∷ 2 ∷ 8 ∷ 0 ∷ 0 ∷ 0 ∷ 8 ∷ 0 ∷ 12 ∷ []))
 unfolding everything
 job-37 = refl
 
@@ -307,7 +307,7 @@ job-38 : outcome 8 (rules 1048576 0 16 atOnce true Merge false) 0 (program 1
     (rotated 0 1 ∷ rotated 0 1 ∷ rotated 0 1 ∷ rotated 0 1 ∷ rotated 1 1 ∷ [])
     (kept 0 0 ∷ kept 0 1 ∷ [])
     ((1 ∷ 0 ∷ []) ∷ (0 ∷ 1 ∷ []) ∷ [])
-    (5 ∷ 5 ∷ 0 ∷ 0 ∷ 0 ∷ 5 ∷ 5 ∷ 0 ∷ 0 ∷ 5 ∷ 5 ∷ []))
+    (5 ∷ 5 ∷ 0 ∷ 0 ∷ 0 ∷ 5 ∷ 5 ∷ 0 ∷ 0 ∷ 5 ∷ 5 ∷ 6 ∷ []))
 unfolding everything
 job-38 = refl
 
@@ -320,7 +320,7 @@ job-39 : outcome 6 (rules 1048576 0 16 atOnce true Merge false) 8 (program 2
     (rotated 0 1 ∷ [])
     (kept 0 0 ∷ kept 0 1 ∷ kept 1 0 ∷ kept 1 1 ∷ [])
     ((3 ∷ 0 ∷ []) ∷ [])
-    (1 ∷ 1 ∷ 0 ∷ 0 ∷ 0 ∷ 1 ∷ 1 ∷ 0 ∷ 0 ∷ 2 ∷ 2 ∷ []))
+    (1 ∷ 1 ∷ 0 ∷ 0 ∷ 0 ∷ 1 ∷ 1 ∷ 0 ∷ 0 ∷ 2 ∷ 2 ∷ 6 ∷ []))
 unfolding everything
 job-39 = refl
 
@@ -342,7 +342,7 @@ job-41 : outcome 4096 (rules 1048576 0 16 atOnce true Merge false) 8 (program 2
     (rotated 0 1 ∷ [])
     (kept 0 0 ∷ kept 0 1 ∷ kept 1 0 ∷ kept 1 1 ∷ [])
     ((1 ∷ 0 ∷ []) ∷ (0 ∷ 1 ∷ []) ∷ [])
-    (1 ∷ 1 ∷ 0 ∷ 0 ∷ 0 ∷ 1 ∷ 1 ∷ 0 ∷ 0 ∷ 1 ∷ 1 ∷ []))
+    (1 ∷ 1 ∷ 0 ∷ 0 ∷ 0 ∷ 1 ∷ 1 ∷ 0 ∷ 0 ∷ 1 ∷ 1 ∷ 6 ∷ []))
 unfolding everything
 job-41 = refl
 
@@ -355,7 +355,7 @@ job-42 : outcome 4096 (rules 1048576 0 16 atOnce true Merge false) 8 (program 2
     []
     (given+ 0 0 0 ∷ given+ 0 1 3 ∷ given+ 1 0 2 ∷ kept 1 1 ∷ [])
     ((1 ∷ 0 ∷ []) ∷ (0 ∷ 1 ∷ []) ∷ (2 ∷ 0 ∷ []) ∷ (1 ∷ 1 ∷ []) ∷ [])
-    (0 ∷ 0 ∷ 0 ∷ 0 ∷ 1 ∷ 1 ∷ 0 ∷ 0 ∷ 0 ∷ 1 ∷ 0 ∷ []))
+    (0 ∷ 0 ∷ 0 ∷ 0 ∷ 1 ∷ 1 ∷ 0 ∷ 0 ∷ 0 ∷ 1 ∷ 0 ∷ 14 ∷ []))
 unfolding everything
 job-42 = refl
 
@@ -370,7 +370,7 @@ job-43 : outcome 4096 (rules 1048576 0 16 atOnce true Merge false) 8 (program 3
     (given- 0 0 3 ∷ given+ 0 1 4 ∷ given- 1 0 5 ∷ given+ 1 1 6 ∷ given+ 2 0 7 ∷ given+ 2 1 8 ∷ [])
     ((0 ∷ 0 ∷ []) ∷ (3 ∷ 6 ∷ []) ∷ (0 ∷ 3 ∷ []) ∷ (1 ∷ 0 ∷ []) ∷ (0 ∷ 1 ∷ []) ∷ (2 ∷ 0 ∷ []) ∷ (0 ∷ 2 ∷ [])
     ∷ (4 ∷ 0 ∷ []) ∷ (0 ∷ 4 ∷ []) ∷ [])
-    (1 ∷ 0 ∷ 0 ∷ 0 ∷ 1 ∷ 3 ∷ 0 ∷ 0 ∷ 0 ∷ 5 ∷ 0 ∷ []))
+    (1 ∷ 0 ∷ 0 ∷ 0 ∷ 1 ∷ 3 ∷ 0 ∷ 0 ∷ 0 ∷ 5 ∷ 0 ∷ 30 ∷ []))
 unfolding everything
 job-43 = refl
 
@@ -392,7 +392,7 @@ job-45 : outcome 4096 (rules 1048576 0 16 atOnce true Merge false) 0 (program 1
     (rotated 0 2 ∷ [])
     (kept 0 0 ∷ kept 0 1 ∷ [])
     ((1 ∷ 1 ∷ []) ∷ (1 ∷ 0 ∷ []) ∷ (0 ∷ 1 ∷ []) ∷ [])
-    (0 ∷ 0 ∷ 0 ∷ 0 ∷ 0 ∷ 1 ∷ 1 ∷ 0 ∷ 0 ∷ 1 ∷ 1 ∷ []))
+    (0 ∷ 0 ∷ 0 ∷ 0 ∷ 0 ∷ 1 ∷ 1 ∷ 0 ∷ 0 ∷ 1 ∷ 1 ∷ 8 ∷ []))
 unfolding everything
 job-45 = refl
 
@@ -406,7 +406,7 @@ job-46 : outcome 4096 (rules 1048576 2 0 atOnce true Merge false) 1 (program 2
     (given- 0 0 8 ∷ given+ 0 1 5 ∷ given- 1 0 9 ∷ given+ 1 1 7 ∷ [])
     ((0 ∷ 3 ∷ []) ∷ (3 ∷ 0 ∷ []) ∷ (1 ∷ 1 ∷ []) ∷ (2 ∷ 2 ∷ []) ∷ (1 ∷ 0 ∷ []) ∷ (0 ∷ 1 ∷ []) ∷ (2 ∷ 0 ∷ [])
     ∷ (0 ∷ 2 ∷ []) ∷ (1 ∷ 3 ∷ []) ∷ (2 ∷ 3 ∷ []) ∷ [])
-    (5 ∷ 3 ∷ 0 ∷ 1 ∷ 1 ∷ 5 ∷ 3 ∷ 0 ∷ 0 ∷ 8 ∷ 4 ∷ []))
+    (5 ∷ 3 ∷ 0 ∷ 1 ∷ 1 ∷ 5 ∷ 3 ∷ 0 ∷ 0 ∷ 8 ∷ 4 ∷ 32 ∷ []))
 unfolding everything
 job-46 = refl
 
@@ -419,6 +419,6 @@ job-47 : outcome 4096 (rules 1048576 0 16 atOnce true Merge false) 8 (program 3
     (rotated 4 7 ∷ rotated 2 1 ∷ [])
     (given- 0 0 4 ∷ given+ 0 1 0 ∷ given+ 1 0 2 ∷ given+ 1 1 3 ∷ kept 2 0 ∷ kept 2 1 ∷ [])
     ((0 ∷ 1 ∷ []) ∷ (1 ∷ 0 ∷ []) ∷ (2 ∷ 0 ∷ []) ∷ (0 ∷ 2 ∷ []) ∷ (1 ∷ 1 ∷ []) ∷ [])
-    (2 ∷ 2 ∷ 0 ∷ 0 ∷ 1 ∷ 3 ∷ 2 ∷ 0 ∷ 0 ∷ 3 ∷ 2 ∷ []))
+    (2 ∷ 2 ∷ 0 ∷ 0 ∷ 1 ∷ 3 ∷ 2 ∷ 0 ∷ 0 ∷ 3 ∷ 2 ∷ 16 ∷ []))
 unfolding everything
 job-47 = refl

@@ -18,7 +18,7 @@ job-48 : outcome 4096 (rules 1048576 0 16 off true Merge false) 8 (program 1
     (rotated 0 2 ∷ rotated 1 2 ∷ rotated 0 2 ∷ [])
     (kept 0 0 ∷ kept 0 1 ∷ [])
     ((0 ∷ 1 ∷ []) ∷ (1 ∷ 0 ∷ []) ∷ [])
-    (4 ∷ 0 ∷ 2 ∷ 0 ∷ 0 ∷ 6 ∷ 3 ∷ 0 ∷ 0 ∷ 6 ∷ 3 ∷ []))
+    (4 ∷ 0 ∷ 2 ∷ 0 ∷ 0 ∷ 6 ∷ 3 ∷ 0 ∷ 0 ∷ 6 ∷ 3 ∷ 6 ∷ []))
 unfolding everything
 job-48 = refl
 
@@ -31,7 +31,7 @@ job-49 : outcome 4096 (rules 1048576 2 0 atOnce true Merge false) 1 (program 2
     (rotated 2 1 ∷ rotated 3 7 ∷ rotated 1 3 ∷ [])
     (kept 0 0 ∷ kept 0 1 ∷ kept 1 0 ∷ kept 1 1 ∷ [])
     ((3 ∷ 3 ∷ []) ∷ (0 ∷ 3 ∷ []) ∷ (2 ∷ 0 ∷ []) ∷ (1 ∷ 0 ∷ []) ∷ (0 ∷ 1 ∷ []) ∷ (0 ∷ 2 ∷ []) ∷ [])
-    (5 ∷ 3 ∷ 0 ∷ 1 ∷ 0 ∷ 5 ∷ 3 ∷ 0 ∷ 0 ∷ 8 ∷ 4 ∷ []))
+    (5 ∷ 3 ∷ 0 ∷ 1 ∷ 0 ∷ 5 ∷ 3 ∷ 0 ∷ 0 ∷ 8 ∷ 4 ∷ 16 ∷ []))
 unfolding everything
 job-49 = refl
 
@@ -44,7 +44,7 @@ job-50 : outcome 4096 (rules 1048576 1 0 off true Merge false) 1 (program 1
     (rotated 0 1 ∷ rotated 1 2 ∷ rotated 0 4 ∷ [])
     (kept 0 0 ∷ kept 0 1 ∷ [])
     ((1 ∷ 0 ∷ []) ∷ (0 ∷ 1 ∷ []) ∷ [])
-    (3 ∷ 1 ∷ 1 ∷ 0 ∷ 0 ∷ 4 ∷ 3 ∷ 0 ∷ 0 ∷ 4 ∷ 3 ∷ []))
+    (3 ∷ 1 ∷ 1 ∷ 0 ∷ 0 ∷ 4 ∷ 3 ∷ 0 ∷ 0 ∷ 4 ∷ 3 ∷ 6 ∷ []))
 unfolding everything
 job-50 = refl
 
@@ -59,7 +59,7 @@ job-51 : outcome 4096 (rules 0 3 2 atOnce true Merge false) 1 (program 3
     (kept 0 0 ∷ kept 0 1 ∷ kept 1 0 ∷ kept 1 1 ∷ kept 2 0 ∷ kept 2 1 ∷ [])
     ((6 ∷ 2 ∷ []) ∷ (0 ∷ 1 ∷ []) ∷ (0 ∷ 4 ∷ []) ∷ (6 ∷ 0 ∷ []) ∷ (2 ∷ 0 ∷ []) ∷ (1 ∷ 0 ∷ []) ∷ (0 ∷ 2 ∷ [])
     ∷ (4 ∷ 0 ∷ []) ∷ [])
-    (6 ∷ 6 ∷ 0 ∷ 0 ∷ 0 ∷ 6 ∷ 6 ∷ 0 ∷ 0 ∷ 8 ∷ 8 ∷ []))
+    (6 ∷ 6 ∷ 0 ∷ 0 ∷ 0 ∷ 6 ∷ 6 ∷ 0 ∷ 0 ∷ 8 ∷ 8 ∷ 20 ∷ []))
 unfolding everything
 job-51 = refl
 
@@ -74,7 +74,7 @@ job-52 : outcome 4096 (rules 0 3 3 atOnce true Merge false) 1 (program 3
     (given+ 0 0 8 ∷ given+ 0 1 1 ∷ given+ 1 0 4 ∷ given+ 1 1 6 ∷ given+ 2 0 7 ∷ given+ 2 1 2 ∷ [])
     ((6 ∷ 2 ∷ []) ∷ (0 ∷ 1 ∷ []) ∷ (0 ∷ 4 ∷ []) ∷ (6 ∷ 0 ∷ []) ∷ (2 ∷ 0 ∷ []) ∷ (1 ∷ 0 ∷ []) ∷ (0 ∷ 2 ∷ [])
     ∷ (4 ∷ 0 ∷ []) ∷ (1 ∷ 1 ∷ []) ∷ [])
-    (6 ∷ 4 ∷ 0 ∷ 1 ∷ 1 ∷ 6 ∷ 4 ∷ 0 ∷ 0 ∷ 8 ∷ 6 ∷ []))
+    (6 ∷ 4 ∷ 0 ∷ 1 ∷ 1 ∷ 6 ∷ 4 ∷ 0 ∷ 0 ∷ 8 ∷ 6 ∷ 24 ∷ []))
 unfolding everything
 job-52 = refl
 
@@ -90,7 +90,7 @@ job-53 : outcome 4096 (rules 2 2 0 atOnce false Merge false) 1 (program 2
     (given+ 0 0 10 ∷ given+ 0 1 8 ∷ given- 1 0 2 ∷ given+ 1 1 11 ∷ [])
     ((2 ∷ 1 ∷ []) ∷ (3 ∷ 2 ∷ []) ∷ (0 ∷ 2 ∷ []) ∷ (1 ∷ 1 ∷ []) ∷ (1 ∷ 0 ∷ []) ∷ (0 ∷ 3 ∷ []) ∷ (3 ∷ 0 ∷ [])
     ∷ (2 ∷ 2 ∷ []) ∷ (0 ∷ 1 ∷ []) ∷ (2 ∷ 0 ∷ []) ∷ (1 ∷ 3 ∷ []) ∷ (2 ∷ 3 ∷ []) ∷ [])
-    (12 ∷ 6 ∷ 1 ∷ 2 ∷ 2 ∷ 12 ∷ 6 ∷ 0 ∷ 0 ∷ 18 ∷ 9 ∷ []))
+    (12 ∷ 6 ∷ 1 ∷ 2 ∷ 2 ∷ 12 ∷ 6 ∷ 0 ∷ 0 ∷ 18 ∷ 9 ∷ 36 ∷ []))
 unfolding everything
 job-53 = refl
 
@@ -104,7 +104,7 @@ job-54 : outcome 4096 (rules 1048576 2 0 atOnce true Merge false) 1 (program 2
     (kept 0 0 ∷ kept 0 1 ∷ kept 1 0 ∷ kept 1 1 ∷ [])
     ((1 ∷ 0 ∷ []) ∷ (1 ∷ 2 ∷ []) ∷ (3 ∷ 1 ∷ []) ∷ (2 ∷ 2 ∷ []) ∷ (0 ∷ 1 ∷ []) ∷ (2 ∷ 0 ∷ []) ∷ (0 ∷ 2 ∷ [])
     ∷ [])
-    (6 ∷ 6 ∷ 0 ∷ 0 ∷ 0 ∷ 6 ∷ 6 ∷ 0 ∷ 0 ∷ 9 ∷ 9 ∷ []))
+    (6 ∷ 6 ∷ 0 ∷ 0 ∷ 0 ∷ 6 ∷ 6 ∷ 0 ∷ 0 ∷ 9 ∷ 9 ∷ 18 ∷ []))
 unfolding everything
 job-54 = refl
 
@@ -119,7 +119,7 @@ job-55 : outcome 4096 (rules 1 2 0 atOnce true Merge false) 1 (program 2
     (kept 0 0 ∷ kept 0 1 ∷ kept 1 0 ∷ kept 1 1 ∷ [])
     ((2 ∷ 3 ∷ []) ∷ (1 ∷ 2 ∷ []) ∷ (1 ∷ 1 ∷ []) ∷ (2 ∷ 0 ∷ []) ∷ (1 ∷ 0 ∷ []) ∷ (0 ∷ 1 ∷ []) ∷ (0 ∷ 2 ∷ [])
     ∷ [])
-    (12 ∷ 4 ∷ 3 ∷ 1 ∷ 0 ∷ 12 ∷ 4 ∷ 0 ∷ 0 ∷ 18 ∷ 6 ∷ []))
+    (12 ∷ 4 ∷ 3 ∷ 1 ∷ 0 ∷ 12 ∷ 4 ∷ 0 ∷ 0 ∷ 18 ∷ 6 ∷ 18 ∷ []))
 unfolding everything
 job-55 = refl
 
@@ -135,7 +135,7 @@ job-56 : outcome 4096 (rules 0 4 0 atOnce false Merge false) 1 (program 2
     (kept 0 0 ∷ kept 0 1 ∷ kept 1 0 ∷ kept 1 1 ∷ [])
     ((1 ∷ 1 ∷ []) ∷ (0 ∷ 2 ∷ []) ∷ (3 ∷ 2 ∷ []) ∷ (0 ∷ 3 ∷ []) ∷ (3 ∷ 0 ∷ []) ∷ (2 ∷ 2 ∷ []) ∷ (1 ∷ 0 ∷ [])
     ∷ (0 ∷ 1 ∷ []) ∷ (2 ∷ 0 ∷ []) ∷ [])
-    (10 ∷ 4 ∷ 1 ∷ 1 ∷ 0 ∷ 10 ∷ 4 ∷ 0 ∷ 0 ∷ 14 ∷ 6 ∷ []))
+    (10 ∷ 4 ∷ 1 ∷ 1 ∷ 0 ∷ 10 ∷ 4 ∷ 0 ∷ 0 ∷ 14 ∷ 6 ∷ 22 ∷ []))
 unfolding everything
 job-56 = refl
 
@@ -148,7 +148,7 @@ job-57 : outcome 4096 (rules 0 1 0 atOnce true Merge false) 1 (program 2
     (rotated 1 1 ∷ [])
     (given+ 0 0 1 ∷ given+ 0 1 2 ∷ given+ 1 0 4 ∷ given- 1 1 3 ∷ [])
     ((2 ∷ 2 ∷ []) ∷ (1 ∷ 0 ∷ []) ∷ (0 ∷ 1 ∷ []) ∷ (2 ∷ 0 ∷ []) ∷ (0 ∷ 2 ∷ []) ∷ [])
-    (3 ∷ 1 ∷ 0 ∷ 1 ∷ 1 ∷ 3 ∷ 1 ∷ 0 ∷ 0 ∷ 3 ∷ 1 ∷ []))
+    (3 ∷ 1 ∷ 0 ∷ 1 ∷ 1 ∷ 3 ∷ 1 ∷ 0 ∷ 0 ∷ 3 ∷ 1 ∷ 16 ∷ []))
 unfolding everything
 job-57 = refl
 
@@ -161,7 +161,7 @@ job-58 : outcome 4096 (rules 1048576 0 16 atOnce true Litinski false) 1 (program
     (rotated 0 1 ∷ [])
     (kept 0 0 ∷ kept 0 1 ∷ [])
     ((1 ∷ 0 ∷ []) ∷ (0 ∷ 1 ∷ []) ∷ [])
-    (3 ∷ 1 ∷ 2 ∷ 0 ∷ 0 ∷ 3 ∷ 1 ∷ 0 ∷ 0 ∷ 3 ∷ 1 ∷ []))
+    (3 ∷ 1 ∷ 2 ∷ 0 ∷ 0 ∷ 3 ∷ 1 ∷ 0 ∷ 0 ∷ 3 ∷ 1 ∷ 6 ∷ []))
 unfolding everything
 job-58 = refl
 
@@ -174,7 +174,7 @@ job-59 : outcome 4096 (rules 1048576 0 16 atOnce true Litinski false) 1 (program
     (rotated 0 7 ∷ rotated 2 7 ∷ rotated 1 1 ∷ rotated 3 7 ∷ [])
     (kept 0 0 ∷ kept 0 1 ∷ kept 1 0 ∷ kept 1 1 ∷ [])
     ((1 ∷ 1 ∷ []) ∷ (1 ∷ 0 ∷ []) ∷ (0 ∷ 2 ∷ []) ∷ (2 ∷ 2 ∷ []) ∷ (0 ∷ 1 ∷ []) ∷ (2 ∷ 0 ∷ []) ∷ [])
-    (6 ∷ 4 ∷ 2 ∷ 0 ∷ 0 ∷ 6 ∷ 4 ∷ 0 ∷ 0 ∷ 6 ∷ 4 ∷ []))
+    (6 ∷ 4 ∷ 2 ∷ 0 ∷ 0 ∷ 6 ∷ 4 ∷ 0 ∷ 0 ∷ 6 ∷ 4 ∷ 14 ∷ []))
 unfolding everything
 job-59 = refl
 
@@ -187,7 +187,7 @@ job-60 : outcome 4096 (rules 1048576 0 16 atOnce true Litinski true) 8 (program 
     (rotated 0 1 ∷ rotated 2 1 ∷ rotated 3 1 ∷ [])
     (given+ 0 0 1 ∷ given+ 0 1 4 ∷ given+ 1 0 3 ∷ given+ 1 1 2 ∷ [])
     ((0 ∷ 1 ∷ []) ∷ (1 ∷ 0 ∷ []) ∷ (0 ∷ 2 ∷ []) ∷ (2 ∷ 0 ∷ []) ∷ (1 ∷ 1 ∷ []) ∷ [])
-    (7 ∷ 3 ∷ 2 ∷ 0 ∷ 1 ∷ 7 ∷ 3 ∷ 3 ∷ 2 ∷ 7 ∷ 3 ∷ []))
+    (7 ∷ 3 ∷ 2 ∷ 0 ∷ 1 ∷ 7 ∷ 3 ∷ 3 ∷ 2 ∷ 7 ∷ 3 ∷ 16 ∷ []))
 unfolding everything
 job-60 = refl
 
@@ -200,7 +200,7 @@ job-61 : outcome 4096 (rules 1048576 0 16 atOnce true Litinski false) 0 (program
     (rotated 0 2 ∷ rotated 0 1 ∷ rotated 0 1 ∷ [])
     (kept 0 0 ∷ kept 0 1 ∷ [])
     ((1 ∷ 0 ∷ []) ∷ (0 ∷ 1 ∷ []) ∷ [])
-    (2 ∷ 2 ∷ 0 ∷ 0 ∷ 0 ∷ 3 ∷ 3 ∷ 0 ∷ 0 ∷ 3 ∷ 3 ∷ []))
+    (2 ∷ 2 ∷ 0 ∷ 0 ∷ 0 ∷ 3 ∷ 3 ∷ 0 ∷ 0 ∷ 3 ∷ 3 ∷ 6 ∷ []))
 unfolding everything
 job-61 = refl
 
@@ -214,6 +214,6 @@ job-62 : outcome 4096 (rules 1048576 0 16 off true Merge true) 0 (program 1
     (rotated 0 1 ∷ rotated 1 2 ∷ rotated 0 1 ∷ measured+ 0 0 65535 ∷ conditioned 1 1 0 ∷ rotated 2 2 ∷ rotated 2 1 ∷ rotated 1 1 ∷ [])
     (kept 0 0 ∷ kept 0 1 ∷ [])
     ((1 ∷ 0 ∷ []) ∷ (0 ∷ 1 ∷ []) ∷ (1 ∷ 1 ∷ []) ∷ [])
-    (5 ∷ 5 ∷ 0 ∷ 0 ∷ 0 ∷ 6 ∷ 6 ∷ 4 ∷ 4 ∷ 7 ∷ 7 ∷ []))
+    (5 ∷ 5 ∷ 0 ∷ 0 ∷ 0 ∷ 6 ∷ 6 ∷ 4 ∷ 4 ∷ 7 ∷ 7 ∷ 8 ∷ []))
 unfolding everything
 job-62 = refl

@@ -25,7 +25,7 @@ job-1 : outcome 2 (rules 1048576 3 5 lazy true Merge false) 1 (program 1
     []
     (kept 0 0 ∷ kept 0 1 ∷ [])
     []
-    (0 ∷ 0 ∷ 0 ∷ 0 ∷ 0 ∷ 0 ∷ 0 ∷ 0 ∷ 0 ∷ 0 ∷ 0 ∷ []))
+    (0 ∷ 0 ∷ 0 ∷ 0 ∷ 0 ∷ 0 ∷ 0 ∷ 0 ∷ 0 ∷ 0 ∷ 0 ∷ 0 ∷ []))
 unfolding everything
 job-1 = refl
 
@@ -46,7 +46,7 @@ job-5 : outcome 9 (rules 0 2 16 atOnce false Litinski false) 2 (program 1
     (measured+ 0 0 65535 ∷ [])
     (kept 0 0 ∷ kept 0 1 ∷ [])
     ((0 ∷ 0 ∷ []) ∷ (1 ∷ 0 ∷ []) ∷ (0 ∷ 1 ∷ []) ∷ [])
-    (0 ∷ 0 ∷ 0 ∷ 0 ∷ 0 ∷ 7 ∷ 0 ∷ 0 ∷ 0 ∷ 0 ∷ 0 ∷ []))
+    (0 ∷ 0 ∷ 0 ∷ 0 ∷ 0 ∷ 7 ∷ 0 ∷ 0 ∷ 0 ∷ 0 ∷ 0 ∷ 8 ∷ []))
 unfolding everything
 job-5 = refl
 
@@ -58,7 +58,7 @@ job-7 : outcome 50 (rules 1048576 0 2 lazy true Litinski false) 0 (program 1
     []
     (kept 0 0 ∷ kept 0 1 ∷ [])
     ((1 ∷ 0 ∷ []) ∷ (0 ∷ 1 ∷ []) ∷ (0 ∷ 0 ∷ []) ∷ [])
-    (1 ∷ 0 ∷ 0 ∷ 0 ∷ 0 ∷ 1 ∷ 0 ∷ 0 ∷ 0 ∷ 0 ∷ 0 ∷ []))
+    (1 ∷ 0 ∷ 0 ∷ 0 ∷ 0 ∷ 1 ∷ 0 ∷ 0 ∷ 0 ∷ 0 ∷ 0 ∷ 10 ∷ []))
 unfolding everything
 job-7 = refl
 
@@ -71,7 +71,7 @@ job-8 : outcome 16 (rules 2 0 16 atOnce false Merge false) 0 (program 3
     (rotated 0 2 ∷ rotated 1 2 ∷ rotated 2 2 ∷ rotated 3 6 ∷ rotated 0 2 ∷ rotated 3 4 ∷ rotated 1 1 ∷ rotated 0 4 ∷ [])
     (kept 0 0 ∷ kept 0 1 ∷ kept 1 0 ∷ kept 1 1 ∷ kept 2 0 ∷ kept 2 1 ∷ [])
     ((6 ∷ 6 ∷ []) ∷ (0 ∷ 6 ∷ []) ∷ (2 ∷ 0 ∷ []) ∷ (4 ∷ 0 ∷ []) ∷ (0 ∷ 2 ∷ []) ∷ (0 ∷ 4 ∷ []) ∷ [])
-    (1 ∷ 1 ∷ 0 ∷ 0 ∷ 0 ∷ 8 ∷ 8 ∷ 0 ∷ 0 ∷ 13 ∷ 13 ∷ []))
+    (1 ∷ 1 ∷ 0 ∷ 0 ∷ 0 ∷ 8 ∷ 8 ∷ 0 ∷ 0 ∷ 13 ∷ 13 ∷ 16 ∷ []))
 unfolding everything
 job-8 = refl
 
@@ -83,7 +83,7 @@ job-9 : outcome 1 (rules 0 6 0 atOnce false Merge false) 2 (program 1
     []
     (kept 0 0 ∷ kept 0 1 ∷ [])
     []
-    (0 ∷ 0 ∷ 0 ∷ 0 ∷ 0 ∷ 0 ∷ 0 ∷ 0 ∷ 0 ∷ 0 ∷ 0 ∷ []))
+    (0 ∷ 0 ∷ 0 ∷ 0 ∷ 0 ∷ 0 ∷ 0 ∷ 0 ∷ 0 ∷ 0 ∷ 0 ∷ 0 ∷ []))
 unfolding everything
 job-9 = refl
 
@@ -105,7 +105,7 @@ job-12 : outcome 0 (rules 1 2 2 off true Merge false) 6 (program 2
     []
     (kept 0 0 ∷ kept 0 1 ∷ kept 1 0 ∷ kept 1 1 ∷ [])
     []
-    (0 ∷ 0 ∷ 0 ∷ 0 ∷ 0 ∷ 0 ∷ 0 ∷ 0 ∷ 0 ∷ 0 ∷ 0 ∷ []))
+    (0 ∷ 0 ∷ 0 ∷ 0 ∷ 0 ∷ 0 ∷ 0 ∷ 0 ∷ 0 ∷ 0 ∷ 0 ∷ 0 ∷ []))
 unfolding everything
 job-12 = refl
 
@@ -117,7 +117,7 @@ job-13 : outcome 10 (rules 0 4 5 off false Litinski true) 2 (program 1
     (rotated 0 7 ∷ rotated 1 2 ∷ rotated 0 1 ∷ rotated 1 7 ∷ [])
     (kept 0 0 ∷ kept 0 1 ∷ [])
     ((1 ∷ 1 ∷ []) ∷ (0 ∷ 1 ∷ []) ∷ (1 ∷ 0 ∷ []) ∷ [])
-    (5 ∷ 3 ∷ 1 ∷ 0 ∷ 0 ∷ 5 ∷ 4 ∷ 4 ∷ 3 ∷ 5 ∷ 4 ∷ []))
+    (5 ∷ 3 ∷ 1 ∷ 0 ∷ 0 ∷ 5 ∷ 4 ∷ 4 ∷ 3 ∷ 5 ∷ 4 ∷ 8 ∷ []))
 unfolding everything
 job-13 = refl
 
@@ -129,7 +129,7 @@ job-14 : outcome 12 (rules 1048576 2 0 atOnce true Merge false) 3 (program 1
     []
     (given- 0 0 2 ∷ given+ 0 1 0 ∷ [])
     ((0 ∷ 1 ∷ []) ∷ (1 ∷ 1 ∷ []) ∷ (1 ∷ 0 ∷ []) ∷ [])
-    (2 ∷ 0 ∷ 1 ∷ 0 ∷ 3 ∷ 5 ∷ 0 ∷ 0 ∷ 0 ∷ 5 ∷ 0 ∷ []))
+    (2 ∷ 0 ∷ 1 ∷ 0 ∷ 3 ∷ 5 ∷ 0 ∷ 0 ∷ 0 ∷ 5 ∷ 0 ∷ 12 ∷ []))
 unfolding everything
 job-14 = refl
 
@@ -144,7 +144,7 @@ job-17 : outcome 18 (rules 0 2 0 off true Merge true) 6 (program 3
     (kept 0 0 ∷ kept 0 1 ∷ kept 1 0 ∷ kept 1 1 ∷ kept 2 0 ∷ kept 2 1 ∷ [])
     ((0 ∷ 0 ∷ []) ∷ (0 ∷ 2 ∷ []) ∷ (4 ∷ 0 ∷ []) ∷ (1 ∷ 0 ∷ []) ∷ (1 ∷ 5 ∷ []) ∷ (4 ∷ 1 ∷ []) ∷ (4 ∷ 4 ∷ [])
     ∷ [])
-    (7 ∷ 4 ∷ 0 ∷ 1 ∷ 0 ∷ 7 ∷ 5 ∷ 4 ∷ 2 ∷ 9 ∷ 8 ∷ []))
+    (7 ∷ 4 ∷ 0 ∷ 1 ∷ 0 ∷ 7 ∷ 5 ∷ 4 ∷ 2 ∷ 9 ∷ 8 ∷ 18 ∷ []))
 unfolding everything
 job-17 = refl
 
@@ -164,7 +164,7 @@ job-21 : outcome 52 (rules 1048576 3 3 atOnce false Merge false) 1 (program 2
     []
     (kept 0 0 ∷ kept 0 1 ∷ given+ 1 0 2 ∷ given+ 1 1 1 ∷ [])
     ((0 ∷ 2 ∷ []) ∷ (2 ∷ 2 ∷ []) ∷ (2 ∷ 0 ∷ []) ∷ [])
-    (0 ∷ 0 ∷ 0 ∷ 0 ∷ 3 ∷ 3 ∷ 0 ∷ 0 ∷ 0 ∷ 3 ∷ 0 ∷ []))
+    (0 ∷ 0 ∷ 0 ∷ 0 ∷ 3 ∷ 3 ∷ 0 ∷ 0 ∷ 0 ∷ 3 ∷ 0 ∷ 12 ∷ []))
 unfolding everything
 job-21 = refl
 
@@ -194,7 +194,7 @@ job-24 : outcome 1 (rules 0 1 2 off true Merge false) 4 (program 2
     []
     (kept 0 0 ∷ kept 0 1 ∷ kept 1 0 ∷ kept 1 1 ∷ [])
     []
-    (0 ∷ 0 ∷ 0 ∷ 0 ∷ 0 ∷ 0 ∷ 0 ∷ 0 ∷ 0 ∷ 0 ∷ 0 ∷ []))
+    (0 ∷ 0 ∷ 0 ∷ 0 ∷ 0 ∷ 0 ∷ 0 ∷ 0 ∷ 0 ∷ 0 ∷ 0 ∷ 0 ∷ []))
 unfolding everything
 job-24 = refl
 
@@ -206,7 +206,7 @@ job-25 : outcome 7 (rules 3 0 1 lazy true Litinski false) 6 (program 2
     []
     (kept 0 0 ∷ kept 0 1 ∷ kept 1 0 ∷ kept 1 1 ∷ [])
     []
-    (0 ∷ 0 ∷ 0 ∷ 0 ∷ 0 ∷ 0 ∷ 0 ∷ 0 ∷ 0 ∷ 0 ∷ 0 ∷ []))
+    (0 ∷ 0 ∷ 0 ∷ 0 ∷ 0 ∷ 0 ∷ 0 ∷ 0 ∷ 0 ∷ 0 ∷ 0 ∷ 0 ∷ []))
 unfolding everything
 job-25 = refl
 
@@ -219,7 +219,7 @@ job-27 : outcome 12 (rules 1048576 3 3 off false Merge true) 6 (program 2
     (rotated 0 4 ∷ rotated 1 4 ∷ rotated 2 4 ∷ rotated 0 2 ∷ rotated 3 2 ∷ rotated 1 4 ∷ [])
     (kept 0 0 ∷ kept 0 1 ∷ kept 1 0 ∷ kept 1 1 ∷ [])
     ((1 ∷ 1 ∷ []) ∷ (0 ∷ 3 ∷ []) ∷ (3 ∷ 0 ∷ []) ∷ (2 ∷ 2 ∷ []) ∷ [])
-    (0 ∷ 0 ∷ 1 ∷ 0 ∷ 0 ∷ 7 ∷ 6 ∷ 0 ∷ 0 ∷ 10 ∷ 9 ∷ []))
+    (0 ∷ 0 ∷ 1 ∷ 0 ∷ 0 ∷ 7 ∷ 6 ∷ 0 ∷ 0 ∷ 10 ∷ 9 ∷ 12 ∷ []))
 unfolding everything
 job-27 = refl
 
@@ -241,7 +241,7 @@ job-29 : outcome 25 (rules 0 6 8 atOnce true Litinski false) 4 (program 3
     (rotated 0 7 ∷ [])
     (kept 0 0 ∷ kept 0 1 ∷ kept 1 0 ∷ kept 1 1 ∷ kept 2 0 ∷ kept 2 1 ∷ [])
     ((0 ∷ 1 ∷ []) ∷ (0 ∷ 0 ∷ []) ∷ (1 ∷ 4 ∷ []) ∷ (5 ∷ 5 ∷ []) ∷ (0 ∷ 5 ∷ []) ∷ [])
-    (5 ∷ 1 ∷ 2 ∷ 0 ∷ 0 ∷ 5 ∷ 1 ∷ 0 ∷ 0 ∷ 3 ∷ 1 ∷ []))
+    (5 ∷ 1 ∷ 2 ∷ 0 ∷ 0 ∷ 5 ∷ 1 ∷ 0 ∷ 0 ∷ 3 ∷ 1 ∷ 18 ∷ []))
 unfolding everything
 job-29 = refl
 
@@ -254,7 +254,7 @@ job-30 : outcome 13 (rules 3 0 1 atOnce true Merge true) 0 (program 1
     (rotated 0 2 ∷ rotated 0 6 ∷ rotated 0 6 ∷ measured+ 0 3 65535 ∷ rotated 0 2 ∷ rotated 0 6 ∷ rotated 0 2 ∷ [])
     (kept 0 0 ∷ kept 0 1 ∷ [])
     ((1 ∷ 1 ∷ []) ∷ (1 ∷ 0 ∷ []) ∷ [])
-    (0 ∷ 0 ∷ 0 ∷ 0 ∷ 0 ∷ 6 ∷ 6 ∷ 0 ∷ 0 ∷ 6 ∷ 6 ∷ []))
+    (0 ∷ 0 ∷ 0 ∷ 0 ∷ 0 ∷ 6 ∷ 6 ∷ 0 ∷ 0 ∷ 6 ∷ 6 ∷ 6 ∷ []))
 unfolding everything
 job-30 = refl
 
@@ -274,7 +274,7 @@ job-33 : outcome 7 (rules 1 3 0 off true Merge true) 8 (program 2
     (rotated 0 1 ∷ [])
     (kept 0 0 ∷ kept 0 1 ∷ kept 1 0 ∷ kept 1 1 ∷ [])
     ((1 ∷ 0 ∷ []) ∷ (0 ∷ 1 ∷ []) ∷ [])
-    (3 ∷ 1 ∷ 2 ∷ 0 ∷ 0 ∷ 3 ∷ 1 ∷ 1 ∷ 1 ∷ 3 ∷ 1 ∷ []))
+    (3 ∷ 1 ∷ 2 ∷ 0 ∷ 0 ∷ 3 ∷ 1 ∷ 1 ∷ 1 ∷ 3 ∷ 1 ∷ 6 ∷ []))
 unfolding everything
 job-33 = refl
 
@@ -314,7 +314,7 @@ job-40 : outcome 8 (rules 3 1 0 atOnce true Litinski true) 2 (program 3
     (measured+ 0 40464 1 ∷ rotated 0 1 ∷ measured+ 0 1 65534 ∷ [])
     (given- 0 0 0 ∷ given- 0 1 0 ∷ given- 1 0 0 ∷ given- 1 1 0 ∷ given- 2 0 0 ∷ given- 2 1 0 ∷ [])
     ((4 ∷ 4 ∷ []) ∷ [])
-    (5 ∷ 1 ∷ 3 ∷ 0 ∷ 1 ∷ 5 ∷ 1 ∷ 2 ∷ 1 ∷ 5 ∷ 1 ∷ []))
+    (5 ∷ 1 ∷ 3 ∷ 0 ∷ 1 ∷ 5 ∷ 1 ∷ 2 ∷ 1 ∷ 5 ∷ 1 ∷ 8 ∷ []))
 unfolding everything
 job-40 = refl
 
@@ -353,6 +353,6 @@ job-49 : outcome 22 (rules 1 0 2 atOnce true Litinski true) 1 (program 2
     (rotated 0 1 ∷ [])
     (given+ 0 0 1 ∷ given+ 0 1 0 ∷ kept 1 0 ∷ given+ 1 1 3 ∷ [])
     ((3 ∷ 2 ∷ []) ∷ (2 ∷ 2 ∷ []) ∷ (1 ∷ 1 ∷ []) ∷ (2 ∷ 3 ∷ []) ∷ [])
-    (1 ∷ 1 ∷ 0 ∷ 0 ∷ 5 ∷ 6 ∷ 1 ∷ 1 ∷ 1 ∷ 12 ∷ 2 ∷ []))
+    (1 ∷ 1 ∷ 0 ∷ 0 ∷ 5 ∷ 6 ∷ 1 ∷ 1 ∷ 1 ∷ 12 ∷ 2 ∷ 20 ∷ []))
 unfolding everything
 job-49 = refl

@@ -28,7 +28,7 @@ job-51 : outcome 28 (rules 3 4 16 atOnce true Merge true) 6 (program 2
     (given+ 0 0 1 ∷ given- 0 1 0 ∷ given+ 1 0 2 ∷ given+ 1 1 3 ∷ [])
     ((1 ∷ 0 ∷ []) ∷ (0 ∷ 1 ∷ []) ∷ (2 ∷ 0 ∷ []) ∷ (0 ∷ 2 ∷ []) ∷ (1 ∷ 1 ∷ []) ∷ (0 ∷ 0 ∷ []) ∷ (2 ∷ 2 ∷ [])
     ∷ [])
-    (3 ∷ 0 ∷ 1 ∷ 0 ∷ 2 ∷ 4 ∷ 0 ∷ 1 ∷ 0 ∷ 3 ∷ 0 ∷ []))
+    (3 ∷ 0 ∷ 1 ∷ 0 ∷ 2 ∷ 4 ∷ 0 ∷ 1 ∷ 0 ∷ 3 ∷ 0 ∷ 26 ∷ []))
 unfolding everything
 job-51 = refl
 
@@ -42,7 +42,7 @@ job-52 : outcome 58 (rules 2 0 16 atOnce false Litinski true) 1 (program 2
     (kept 0 0 ∷ kept 0 1 ∷ kept 1 0 ∷ kept 1 1 ∷ [])
     ((2 ∷ 0 ∷ []) ∷ (1 ∷ 3 ∷ []) ∷ (2 ∷ 1 ∷ []) ∷ (1 ∷ 0 ∷ []) ∷ (2 ∷ 2 ∷ []) ∷ (0 ∷ 1 ∷ []) ∷ (0 ∷ 2 ∷ [])
     ∷ [])
-    (9 ∷ 5 ∷ 3 ∷ 0 ∷ 0 ∷ 9 ∷ 5 ∷ 4 ∷ 3 ∷ 12 ∷ 8 ∷ []))
+    (9 ∷ 5 ∷ 3 ∷ 0 ∷ 0 ∷ 9 ∷ 5 ∷ 4 ∷ 3 ∷ 12 ∷ 8 ∷ 18 ∷ []))
 unfolding everything
 job-52 = refl
 
@@ -57,7 +57,7 @@ job-55 : outcome 30 (rules 1048576 3 3 atOnce false Merge true) 4 (program 3
     (kept 0 0 ∷ kept 0 1 ∷ given- 1 0 5 ∷ given+ 1 1 7 ∷ given- 2 0 6 ∷ given+ 2 1 8 ∷ [])
     ((4 ∷ 4 ∷ []) ∷ (6 ∷ 0 ∷ []) ∷ (6 ∷ 6 ∷ []) ∷ (0 ∷ 2 ∷ []) ∷ (0 ∷ 4 ∷ []) ∷ (2 ∷ 0 ∷ []) ∷ (4 ∷ 0 ∷ [])
     ∷ (6 ∷ 2 ∷ []) ∷ (6 ∷ 4 ∷ []) ∷ [])
-    (3 ∷ 3 ∷ 0 ∷ 0 ∷ 3 ∷ 7 ∷ 3 ∷ 2 ∷ 2 ∷ 10 ∷ 3 ∷ []))
+    (3 ∷ 3 ∷ 0 ∷ 0 ∷ 3 ∷ 7 ∷ 3 ∷ 2 ∷ 2 ∷ 10 ∷ 3 ∷ 30 ∷ []))
 unfolding everything
 job-55 = refl
 
@@ -79,7 +79,7 @@ job-57 : outcome 8 (rules 1048576 0 16 atOnce true Merge true) 2 (program 1
     []
     (kept 0 0 ∷ kept 0 1 ∷ [])
     ((1 ∷ 0 ∷ []) ∷ (0 ∷ 1 ∷ []) ∷ (1 ∷ 1 ∷ []) ∷ [])
-    (4 ∷ 0 ∷ 2 ∷ 0 ∷ 0 ∷ 4 ∷ 0 ∷ 1 ∷ 0 ∷ 4 ∷ 0 ∷ []))
+    (4 ∷ 0 ∷ 2 ∷ 0 ∷ 0 ∷ 4 ∷ 0 ∷ 1 ∷ 0 ∷ 4 ∷ 0 ∷ 8 ∷ []))
 unfolding everything
 job-57 = refl
 
@@ -92,7 +92,7 @@ job-60 : outcome 17 (rules 1 1 1 off true Merge true) 4 (program 1
     (rotated 2 6 ∷ [])
     (kept 0 0 ∷ kept 0 1 ∷ [])
     ((1 ∷ 0 ∷ []) ∷ (0 ∷ 1 ∷ []) ∷ (1 ∷ 1 ∷ []) ∷ (0 ∷ 0 ∷ []) ∷ [])
-    (7 ∷ 0 ∷ 1 ∷ 0 ∷ 0 ∷ 9 ∷ 1 ∷ 1 ∷ 0 ∷ 3 ∷ 1 ∷ []))
+    (7 ∷ 0 ∷ 1 ∷ 0 ∷ 0 ∷ 9 ∷ 1 ∷ 1 ∷ 0 ∷ 3 ∷ 1 ∷ 10 ∷ []))
 unfolding everything
 job-60 = refl
 
@@ -105,7 +105,7 @@ job-61 : outcome 9 (rules 1048576 0 1 off false Merge true) 1 (program 3
     (rotated 2 1 ∷ [])
     (kept 0 0 ∷ kept 0 1 ∷ kept 1 0 ∷ kept 1 1 ∷ kept 2 0 ∷ kept 2 1 ∷ [])
     ((2 ∷ 0 ∷ []) ∷ (0 ∷ 2 ∷ []) ∷ (2 ∷ 2 ∷ []) ∷ [])
-    (5 ∷ 1 ∷ 4 ∷ 0 ∷ 0 ∷ 7 ∷ 1 ∷ 1 ∷ 1 ∷ 7 ∷ 1 ∷ []))
+    (5 ∷ 1 ∷ 4 ∷ 0 ∷ 0 ∷ 7 ∷ 1 ∷ 1 ∷ 1 ∷ 7 ∷ 1 ∷ 8 ∷ []))
 unfolding everything
 job-61 = refl
 
@@ -117,7 +117,7 @@ job-62 : outcome 15 (rules 1 3 3 off false Merge true) 3 (program 1
     (rotated 2 7 ∷ [])
     (kept 0 0 ∷ kept 0 1 ∷ [])
     ((1 ∷ 0 ∷ []) ∷ (0 ∷ 1 ∷ []) ∷ (1 ∷ 1 ∷ []) ∷ [])
-    (1 ∷ 1 ∷ 2 ∷ 0 ∷ 0 ∷ 4 ∷ 1 ∷ 1 ∷ 1 ∷ 4 ∷ 1 ∷ []))
+    (1 ∷ 1 ∷ 2 ∷ 0 ∷ 0 ∷ 4 ∷ 1 ∷ 1 ∷ 1 ∷ 4 ∷ 1 ∷ 8 ∷ []))
 unfolding everything
 job-62 = refl
 
@@ -141,7 +141,7 @@ job-64 : outcome 25 (rules 0 0 16 atOnce false Litinski false) 6 (program 2
     (rotated 4 7 ∷ rotated 2 5 ∷ [])
     (given+ 0 0 0 ∷ given+ 0 1 5 ∷ given- 1 0 4 ∷ given+ 1 1 2 ∷ [])
     ((1 ∷ 0 ∷ []) ∷ (2 ∷ 0 ∷ []) ∷ (0 ∷ 2 ∷ []) ∷ (0 ∷ 1 ∷ []) ∷ (2 ∷ 2 ∷ []) ∷ (1 ∷ 1 ∷ []) ∷ [])
-    (4 ∷ 2 ∷ 1 ∷ 0 ∷ 5 ∷ 9 ∷ 2 ∷ 0 ∷ 0 ∷ 9 ∷ 2 ∷ []))
+    (4 ∷ 2 ∷ 1 ∷ 0 ∷ 5 ∷ 9 ∷ 2 ∷ 0 ∷ 0 ∷ 9 ∷ 2 ∷ 24 ∷ []))
 unfolding everything
 job-64 = refl
 
@@ -158,7 +158,7 @@ job-65 : outcome 27 (rules 1048576 1 3 atOnce true Merge true) 2 (program 2
     (given- 0 0 5 ∷ given- 0 1 1 ∷ given- 1 0 6 ∷ given- 1 1 3 ∷ [])
     ((3 ∷ 0 ∷ []) ∷ (0 ∷ 3 ∷ []) ∷ (2 ∷ 0 ∷ []) ∷ (0 ∷ 1 ∷ []) ∷ (0 ∷ 2 ∷ []) ∷ (2 ∷ 2 ∷ []) ∷ (3 ∷ 2 ∷ [])
     ∷ [])
-    (3 ∷ 1 ∷ 1 ∷ 0 ∷ 1 ∷ 3 ∷ 1 ∷ 1 ∷ 1 ∷ 3 ∷ 1 ∷ []))
+    (3 ∷ 1 ∷ 1 ∷ 0 ∷ 1 ∷ 3 ∷ 1 ∷ 1 ∷ 1 ∷ 3 ∷ 1 ∷ 20 ∷ []))
 unfolding everything
 job-65 = refl
 
@@ -178,7 +178,7 @@ job-73 : outcome 10 (rules 0 2 3 off true Merge false) 4 (program 2
     (rotated 1 1 ∷ rotated 0 2 ∷ measured+ 1 1 0 ∷ rotated 0 6 ∷ [])
     (kept 0 0 ∷ kept 0 1 ∷ kept 1 0 ∷ kept 1 1 ∷ [])
     ((1 ∷ 0 ∷ []) ∷ (0 ∷ 1 ∷ []) ∷ (0 ∷ 0 ∷ []) ∷ [])
-    (1 ∷ 1 ∷ 2 ∷ 0 ∷ 0 ∷ 7 ∷ 3 ∷ 0 ∷ 0 ∷ 7 ∷ 3 ∷ []))
+    (1 ∷ 1 ∷ 2 ∷ 0 ∷ 0 ∷ 7 ∷ 3 ∷ 0 ∷ 0 ∷ 7 ∷ 3 ∷ 10 ∷ []))
 unfolding everything
 job-73 = refl
 
@@ -190,7 +190,7 @@ job-76 : outcome 6 (rules 1048576 0 16 atOnce false Merge false) 2 (program 2
     []
     (kept 0 0 ∷ kept 0 1 ∷ kept 1 0 ∷ kept 1 1 ∷ [])
     ((2 ∷ 0 ∷ []) ∷ (0 ∷ 2 ∷ []) ∷ [])
-    (6 ∷ 0 ∷ 3 ∷ 0 ∷ 0 ∷ 6 ∷ 0 ∷ 0 ∷ 0 ∷ 6 ∷ 0 ∷ []))
+    (6 ∷ 0 ∷ 3 ∷ 0 ∷ 0 ∷ 6 ∷ 0 ∷ 0 ∷ 0 ∷ 6 ∷ 0 ∷ 6 ∷ []))
 unfolding everything
 job-76 = refl
 
@@ -224,7 +224,7 @@ job-81 : outcome 12 (rules 1048576 3 8 lazy true Merge false) 3 (program 2
     []
     (given+ 0 0 0 ∷ given- 0 1 2 ∷ kept 1 0 ∷ kept 1 1 ∷ [])
     ((1 ∷ 0 ∷ []) ∷ (0 ∷ 1 ∷ []) ∷ (1 ∷ 1 ∷ []) ∷ [])
-    (2 ∷ 0 ∷ 1 ∷ 0 ∷ 1 ∷ 2 ∷ 0 ∷ 0 ∷ 0 ∷ 2 ∷ 0 ∷ []))
+    (2 ∷ 0 ∷ 1 ∷ 0 ∷ 1 ∷ 2 ∷ 0 ∷ 0 ∷ 0 ∷ 2 ∷ 0 ∷ 12 ∷ []))
 unfolding everything
 job-81 = refl
 
@@ -236,7 +236,7 @@ job-82 : outcome 46 (rules 1 0 1 atOnce false Litinski false) 1 (program 2
     (rotated 1 5 ∷ [])
     (kept 0 0 ∷ kept 0 1 ∷ kept 1 0 ∷ kept 1 1 ∷ [])
     ((2 ∷ 0 ∷ []) ∷ (2 ∷ 2 ∷ []) ∷ [])
-    (5 ∷ 1 ∷ 4 ∷ 0 ∷ 0 ∷ 5 ∷ 1 ∷ 0 ∷ 0 ∷ 5 ∷ 1 ∷ []))
+    (5 ∷ 1 ∷ 4 ∷ 0 ∷ 0 ∷ 5 ∷ 1 ∷ 0 ∷ 0 ∷ 5 ∷ 1 ∷ 6 ∷ []))
 unfolding everything
 job-82 = refl
 
@@ -248,7 +248,7 @@ job-83 : outcome 14 (rules 1048576 0 5 atOnce true Litinski false) 1 (program 3
     []
     (kept 0 0 ∷ kept 0 1 ∷ given- 1 0 3 ∷ given+ 1 1 2 ∷ kept 2 0 ∷ kept 2 1 ∷ [])
     ((0 ∷ 0 ∷ []) ∷ (2 ∷ 2 ∷ []) ∷ (2 ∷ 0 ∷ []) ∷ (0 ∷ 2 ∷ []) ∷ [])
-    (0 ∷ 0 ∷ 0 ∷ 0 ∷ 3 ∷ 4 ∷ 0 ∷ 0 ∷ 0 ∷ 3 ∷ 0 ∷ []))
+    (0 ∷ 0 ∷ 0 ∷ 0 ∷ 3 ∷ 4 ∷ 0 ∷ 0 ∷ 0 ∷ 3 ∷ 0 ∷ 14 ∷ []))
 unfolding everything
 job-83 = refl
 
@@ -261,7 +261,7 @@ job-84 : outcome 58 (rules 2 3 3 atOnce true Merge true) 2 (program 2
     (kept 0 0 ∷ kept 0 1 ∷ kept 1 0 ∷ kept 1 1 ∷ [])
     ((2 ∷ 2 ∷ []) ∷ (3 ∷ 0 ∷ []) ∷ (3 ∷ 3 ∷ []) ∷ (0 ∷ 1 ∷ []) ∷ (0 ∷ 2 ∷ []) ∷ (1 ∷ 0 ∷ []) ∷ (2 ∷ 0 ∷ [])
     ∷ [])
-    (7 ∷ 5 ∷ 1 ∷ 0 ∷ 0 ∷ 7 ∷ 5 ∷ 4 ∷ 3 ∷ 10 ∷ 8 ∷ []))
+    (7 ∷ 5 ∷ 1 ∷ 0 ∷ 0 ∷ 7 ∷ 5 ∷ 4 ∷ 3 ∷ 10 ∷ 8 ∷ 18 ∷ []))
 unfolding everything
 job-84 = refl
 
@@ -276,7 +276,7 @@ job-90 : outcome 29 (rules 3 0 3 off false Merge true) 2 (program 3
     (kept 0 0 ∷ kept 0 1 ∷ kept 1 0 ∷ kept 1 1 ∷ kept 2 0 ∷ kept 2 1 ∷ [])
     ((1 ∷ 0 ∷ []) ∷ (0 ∷ 1 ∷ []) ∷ (2 ∷ 0 ∷ []) ∷ (0 ∷ 2 ∷ []) ∷ (4 ∷ 0 ∷ []) ∷ (0 ∷ 4 ∷ []) ∷ (6 ∷ 2 ∷ [])
     ∷ (2 ∷ 2 ∷ []) ∷ (0 ∷ 0 ∷ []) ∷ [])
-    (8 ∷ 3 ∷ 3 ∷ 0 ∷ 0 ∷ 8 ∷ 4 ∷ 2 ∷ 2 ∷ 12 ∷ 6 ∷ []))
+    (8 ∷ 3 ∷ 3 ∷ 0 ∷ 0 ∷ 8 ∷ 4 ∷ 2 ∷ 2 ∷ 12 ∷ 6 ∷ 22 ∷ []))
 unfolding everything
 job-90 = refl
 
@@ -290,7 +290,7 @@ job-92 : outcome 15 (rules 1048576 0 16 off true Merge true) 4 (program 1
     (rotated 0 3 ∷ [])
     (kept 0 0 ∷ kept 0 1 ∷ [])
     ((1 ∷ 1 ∷ []) ∷ (1 ∷ 0 ∷ []) ∷ (0 ∷ 1 ∷ []) ∷ [])
-    (9 ∷ 1 ∷ 8 ∷ 0 ∷ 0 ∷ 9 ∷ 1 ∷ 1 ∷ 1 ∷ 9 ∷ 1 ∷ []))
+    (9 ∷ 1 ∷ 8 ∷ 0 ∷ 0 ∷ 9 ∷ 1 ∷ 1 ∷ 1 ∷ 9 ∷ 1 ∷ 8 ∷ []))
 unfolding everything
 job-92 = refl
 
@@ -310,7 +310,7 @@ job-95 : outcome 12 (rules 1 1 16 atOnce true Litinski true) 4 (program 1
     (rotated 2 1 ∷ [])
     (given- 0 0 0 ∷ given- 0 1 1 ∷ [])
     ((1 ∷ 1 ∷ []) ∷ (0 ∷ 1 ∷ []) ∷ (1 ∷ 0 ∷ []) ∷ [])
-    (3 ∷ 1 ∷ 1 ∷ 0 ∷ 1 ∷ 3 ∷ 1 ∷ 2 ∷ 1 ∷ 3 ∷ 1 ∷ []))
+    (3 ∷ 1 ∷ 1 ∷ 0 ∷ 1 ∷ 3 ∷ 1 ∷ 2 ∷ 1 ∷ 3 ∷ 1 ∷ 12 ∷ []))
 unfolding everything
 job-95 = refl
 
@@ -324,7 +324,7 @@ job-96 : outcome 18 (rules 3 5 8 off false Litinski false) 6 (program 2
     (measured+ 1 5 0 ∷ rotated 0 2 ∷ [])
     (kept 0 0 ∷ kept 0 1 ∷ kept 1 0 ∷ kept 1 1 ∷ [])
     ((1 ∷ 1 ∷ []) ∷ (0 ∷ 0 ∷ []) ∷ (0 ∷ 1 ∷ []) ∷ (2 ∷ 3 ∷ []) ∷ (3 ∷ 0 ∷ []) ∷ [])
-    (0 ∷ 0 ∷ 2 ∷ 0 ∷ 0 ∷ 6 ∷ 1 ∷ 0 ∷ 0 ∷ 3 ∷ 1 ∷ []))
+    (0 ∷ 0 ∷ 2 ∷ 0 ∷ 0 ∷ 6 ∷ 1 ∷ 0 ∷ 0 ∷ 3 ∷ 1 ∷ 18 ∷ []))
 unfolding everything
 job-96 = refl
 
@@ -340,7 +340,7 @@ job-97 : outcome 43 (rules 0 5 8 atOnce false Merge false) 4 (program 3
     (given+ 0 0 3 ∷ kept 0 1 ∷ given- 1 0 1 ∷ given+ 1 1 10 ∷ given+ 2 0 11 ∷ given- 2 1 2 ∷ [])
     ((0 ∷ 4 ∷ []) ∷ (2 ∷ 1 ∷ []) ∷ (4 ∷ 1 ∷ []) ∷ (1 ∷ 6 ∷ []) ∷ (0 ∷ 2 ∷ []) ∷ (0 ∷ 0 ∷ []) ∷ (0 ∷ 6 ∷ [])
     ∷ (6 ∷ 0 ∷ []) ∷ (2 ∷ 2 ∷ []) ∷ (4 ∷ 4 ∷ []) ∷ (6 ∷ 2 ∷ []) ∷ (6 ∷ 4 ∷ []) ∷ [])
-    (6 ∷ 3 ∷ 0 ∷ 1 ∷ 1 ∷ 6 ∷ 3 ∷ 0 ∷ 0 ∷ 8 ∷ 4 ∷ []))
+    (6 ∷ 3 ∷ 0 ∷ 1 ∷ 1 ∷ 6 ∷ 3 ∷ 0 ∷ 0 ∷ 8 ∷ 4 ∷ 36 ∷ []))
 unfolding everything
 job-97 = refl
 
@@ -352,7 +352,7 @@ job-98 : outcome 8 (rules 1048576 2 16 lazy true Merge true) 8 (program 2
     (rotated 0 5 ∷ [])
     (kept 0 0 ∷ kept 0 1 ∷ kept 1 0 ∷ kept 1 1 ∷ [])
     ((0 ∷ 1 ∷ []) ∷ (1 ∷ 1 ∷ []) ∷ [])
-    (1 ∷ 1 ∷ 2 ∷ 0 ∷ 0 ∷ 3 ∷ 1 ∷ 1 ∷ 1 ∷ 3 ∷ 1 ∷ []))
+    (1 ∷ 1 ∷ 2 ∷ 0 ∷ 0 ∷ 3 ∷ 1 ∷ 1 ∷ 1 ∷ 3 ∷ 1 ∷ 6 ∷ []))
 unfolding everything
 job-98 = refl
 
@@ -365,7 +365,7 @@ job-100 : outcome 13 (rules 1 3 3 off true Merge true) 6 (program 1
     (rotated 1 4 ∷ measured+ 1 5 65535 ∷ rotated 1 6 ∷ measured- 1 6 0 ∷ [])
     (kept 0 0 ∷ kept 0 1 ∷ [])
     ((1 ∷ 0 ∷ []) ∷ (1 ∷ 1 ∷ []) ∷ [])
-    (6 ∷ 0 ∷ 4 ∷ 0 ∷ 0 ∷ 6 ∷ 2 ∷ 2 ∷ 0 ∷ 6 ∷ 2 ∷ []))
+    (6 ∷ 0 ∷ 4 ∷ 0 ∷ 0 ∷ 6 ∷ 2 ∷ 2 ∷ 0 ∷ 6 ∷ 2 ∷ 6 ∷ []))
 unfolding everything
 job-100 = refl
 
@@ -377,7 +377,7 @@ job-103 : outcome 8 (rules 1048576 3 5 atOnce false Merge false) 8 (program 1
     []
     (kept 0 0 ∷ kept 0 1 ∷ [])
     ((1 ∷ 1 ∷ []) ∷ (1 ∷ 0 ∷ []) ∷ (0 ∷ 1 ∷ []) ∷ [])
-    (2 ∷ 0 ∷ 1 ∷ 0 ∷ 0 ∷ 6 ∷ 0 ∷ 0 ∷ 0 ∷ 6 ∷ 0 ∷ []))
+    (2 ∷ 0 ∷ 1 ∷ 0 ∷ 0 ∷ 6 ∷ 0 ∷ 0 ∷ 0 ∷ 6 ∷ 0 ∷ 8 ∷ []))
 unfolding everything
 job-103 = refl
 
@@ -390,7 +390,7 @@ job-104 : outcome 14 (rules 1048576 3 2 atOnce false Merge false) 3 (program 1
     []
     (given+ 0 0 2 ∷ given+ 0 1 0 ∷ [])
     ((1 ∷ 0 ∷ []) ∷ (1 ∷ 1 ∷ []) ∷ (0 ∷ 1 ∷ []) ∷ [])
-    (6 ∷ 0 ∷ 3 ∷ 0 ∷ 4 ∷ 8 ∷ 0 ∷ 0 ∷ 0 ∷ 8 ∷ 0 ∷ []))
+    (6 ∷ 0 ∷ 3 ∷ 0 ∷ 4 ∷ 8 ∷ 0 ∷ 0 ∷ 0 ∷ 8 ∷ 0 ∷ 12 ∷ []))
 unfolding everything
 job-104 = refl
 

@@ -21,7 +21,7 @@ job-106 : outcome 41 (rules 1048576 4 16 lazy true Litinski true) 6 (program 3
     ((3 ∷ 1 ∷ []) ∷ (1 ∷ 3 ∷ []) ∷ (4 ∷ 6 ∷ []) ∷ (2 ∷ 4 ∷ []) ∷ (4 ∷ 0 ∷ []) ∷ (2 ∷ 2 ∷ []) ∷ (1 ∷ 0 ∷ [])
     ∷ (0 ∷ 1 ∷ []) ∷ (2 ∷ 0 ∷ []) ∷ (0 ∷ 2 ∷ []) ∷ (0 ∷ 4 ∷ []) ∷ (0 ∷ 3 ∷ []) ∷ (1 ∷ 2 ∷ []) ∷ (3 ∷ 3
     ∷ []) ∷ [])
-    (4 ∷ 4 ∷ 0 ∷ 0 ∷ 1 ∷ 8 ∷ 4 ∷ 3 ∷ 3 ∷ 14 ∷ 6 ∷ []))
+    (4 ∷ 4 ∷ 0 ∷ 0 ∷ 1 ∷ 8 ∷ 4 ∷ 3 ∷ 3 ∷ 14 ∷ 6 ∷ 40 ∷ []))
 unfolding everything
 job-106 = refl
 
@@ -34,7 +34,7 @@ job-108 : outcome 22 (rules 2 2 16 atOnce true Merge false) 8 (program 2
     (rotated 3 7 ∷ rotated 4 1 ∷ rotated 2 7 ∷ [])
     (kept 0 0 ∷ kept 0 1 ∷ kept 1 0 ∷ kept 1 1 ∷ [])
     ((0 ∷ 1 ∷ []) ∷ (0 ∷ 2 ∷ []) ∷ (1 ∷ 2 ∷ []) ∷ (2 ∷ 3 ∷ []) ∷ (3 ∷ 1 ∷ []) ∷ (0 ∷ 0 ∷ []) ∷ [])
-    (6 ∷ 3 ∷ 1 ∷ 0 ∷ 0 ∷ 6 ∷ 3 ∷ 0 ∷ 0 ∷ 10 ∷ 6 ∷ []))
+    (6 ∷ 3 ∷ 1 ∷ 0 ∷ 0 ∷ 6 ∷ 3 ∷ 0 ∷ 0 ∷ 10 ∷ 6 ∷ 20 ∷ []))
 unfolding everything
 job-108 = refl
 
@@ -47,7 +47,7 @@ job-109 : outcome 15 (rules 1048576 0 2 atOnce true Litinski true) 1 (program 1
     (rotated 1 1 ∷ rotated 3 7 ∷ [])
     (kept 0 0 ∷ given+ 0 1 0 ∷ [])
     ((0 ∷ 0 ∷ []) ∷ (1 ∷ 1 ∷ []) ∷ (1 ∷ 0 ∷ []) ∷ (0 ∷ 1 ∷ []) ∷ [])
-    (2 ∷ 2 ∷ 0 ∷ 0 ∷ 4 ∷ 8 ∷ 2 ∷ 2 ∷ 2 ∷ 6 ∷ 2 ∷ []))
+    (2 ∷ 2 ∷ 0 ∷ 0 ∷ 4 ∷ 8 ∷ 2 ∷ 2 ∷ 2 ∷ 6 ∷ 2 ∷ 14 ∷ []))
 unfolding everything
 job-109 = refl
 
@@ -60,7 +60,7 @@ job-113 : outcome 52 (rules 1048576 0 0 lazy true Merge true) 2 (program 2
     (rotated 1 5 ∷ rotated 0 7 ∷ rotated 1 5 ∷ rotated 0 3 ∷ [])
     (given+ 0 0 1 ∷ given- 0 1 2 ∷ kept 1 0 ∷ kept 1 1 ∷ [])
     ((0 ∷ 1 ∷ []) ∷ (1 ∷ 0 ∷ []) ∷ (1 ∷ 1 ∷ []) ∷ [])
-    (8 ∷ 4 ∷ 2 ∷ 0 ∷ 1 ∷ 8 ∷ 4 ∷ 5 ∷ 4 ∷ 8 ∷ 4 ∷ []))
+    (8 ∷ 4 ∷ 2 ∷ 0 ∷ 1 ∷ 8 ∷ 4 ∷ 5 ∷ 4 ∷ 8 ∷ 4 ∷ 12 ∷ []))
 unfolding everything
 job-113 = refl
 
@@ -98,7 +98,7 @@ job-118 : outcome 7 (rules 1048576 5 3 off true Litinski false) 8 (program 2
     (rotated 0 2 ∷ [])
     (kept 0 0 ∷ kept 0 1 ∷ kept 1 0 ∷ kept 1 1 ∷ [])
     ((0 ∷ 1 ∷ []) ∷ (1 ∷ 0 ∷ []) ∷ [])
-    (2 ∷ 0 ∷ 5 ∷ 0 ∷ 0 ∷ 9 ∷ 1 ∷ 0 ∷ 0 ∷ 9 ∷ 1 ∷ []))
+    (2 ∷ 0 ∷ 5 ∷ 0 ∷ 0 ∷ 9 ∷ 1 ∷ 0 ∷ 0 ∷ 9 ∷ 1 ∷ 6 ∷ []))
 unfolding everything
 job-118 = refl
 
@@ -111,7 +111,7 @@ job-120 : outcome 21 (rules 1 2 0 atOnce true Merge false) 2 (program 3
     (rotated 2 1 ∷ rotated 3 1 ∷ rotated 0 7 ∷ [])
     (kept 0 0 ∷ kept 0 1 ∷ kept 1 0 ∷ kept 1 1 ∷ kept 2 0 ∷ kept 2 1 ∷ [])
     ((0 ∷ 5 ∷ []) ∷ (5 ∷ 0 ∷ []) ∷ (1 ∷ 1 ∷ []) ∷ (4 ∷ 4 ∷ []) ∷ [])
-    (9 ∷ 3 ∷ 2 ∷ 1 ∷ 1 ∷ 9 ∷ 3 ∷ 0 ∷ 0 ∷ 16 ∷ 4 ∷ []))
+    (9 ∷ 3 ∷ 2 ∷ 1 ∷ 1 ∷ 9 ∷ 3 ∷ 0 ∷ 0 ∷ 16 ∷ 4 ∷ 20 ∷ []))
 unfolding everything
 job-120 = refl
 
@@ -123,7 +123,7 @@ job-121 : outcome 11 (rules 3 5 16 off false Merge true) 1 (program 2
     (rotated 0 2 ∷ [])
     (kept 0 0 ∷ kept 0 1 ∷ kept 1 0 ∷ kept 1 1 ∷ [])
     ((0 ∷ 1 ∷ []) ∷ [])
-    (2 ∷ 0 ∷ 5 ∷ 0 ∷ 0 ∷ 6 ∷ 1 ∷ 1 ∷ 0 ∷ 6 ∷ 1 ∷ []))
+    (2 ∷ 0 ∷ 5 ∷ 0 ∷ 0 ∷ 6 ∷ 1 ∷ 1 ∷ 0 ∷ 6 ∷ 1 ∷ 4 ∷ []))
 unfolding everything
 job-121 = refl
 
@@ -135,7 +135,7 @@ job-125 : outcome 50 (rules 3 6 2 off false Merge true) 2 (program 1
     []
     (kept 0 0 ∷ kept 0 1 ∷ [])
     ((0 ∷ 1 ∷ []) ∷ (1 ∷ 0 ∷ []) ∷ (1 ∷ 1 ∷ []) ∷ [])
-    (2 ∷ 0 ∷ 5 ∷ 0 ∷ 0 ∷ 8 ∷ 0 ∷ 2 ∷ 0 ∷ 8 ∷ 0 ∷ []))
+    (2 ∷ 0 ∷ 5 ∷ 0 ∷ 0 ∷ 8 ∷ 0 ∷ 2 ∷ 0 ∷ 8 ∷ 0 ∷ 10 ∷ []))
 unfolding everything
 job-125 = refl
 
@@ -150,7 +150,7 @@ job-131 : outcome 72 (rules 2 6 5 lazy true Merge true) 1 (program 2
     (given- 0 0 8 ∷ given+ 0 1 0 ∷ given+ 1 0 2 ∷ given+ 1 1 9 ∷ [])
     ((0 ∷ 1 ∷ []) ∷ (2 ∷ 0 ∷ []) ∷ (0 ∷ 2 ∷ []) ∷ (1 ∷ 1 ∷ []) ∷ (0 ∷ 0 ∷ []) ∷ (3 ∷ 3 ∷ []) ∷ (0 ∷ 3 ∷ [])
     ∷ (1 ∷ 0 ∷ []) ∷ (1 ∷ 2 ∷ []) ∷ (2 ∷ 3 ∷ []) ∷ [])
-    (0 ∷ 0 ∷ 1 ∷ 0 ∷ 5 ∷ 7 ∷ 0 ∷ 0 ∷ 0 ∷ 10 ∷ 0 ∷ []))
+    (0 ∷ 0 ∷ 1 ∷ 0 ∷ 5 ∷ 7 ∷ 0 ∷ 0 ∷ 0 ∷ 10 ∷ 0 ∷ 32 ∷ []))
 unfolding everything
 job-131 = refl
 
@@ -165,7 +165,7 @@ job-132 : outcome 28 (rules 1 0 0 atOnce true Merge true) 1 (program 3
     (given+ 0 0 6 ∷ given+ 0 1 1 ∷ given+ 1 0 3 ∷ given+ 1 1 7 ∷ kept 2 0 ∷ kept 2 1 ∷ [])
     ((1 ∷ 0 ∷ []) ∷ (0 ∷ 1 ∷ []) ∷ (2 ∷ 0 ∷ []) ∷ (0 ∷ 2 ∷ []) ∷ (3 ∷ 0 ∷ []) ∷ (3 ∷ 3 ∷ []) ∷ (1 ∷ 1 ∷ [])
     ∷ (2 ∷ 2 ∷ []) ∷ [])
-    (0 ∷ 0 ∷ 0 ∷ 0 ∷ 2 ∷ 5 ∷ 0 ∷ 0 ∷ 0 ∷ 8 ∷ 0 ∷ []))
+    (0 ∷ 0 ∷ 0 ∷ 0 ∷ 2 ∷ 5 ∷ 0 ∷ 0 ∷ 0 ∷ 8 ∷ 0 ∷ 28 ∷ []))
 unfolding everything
 job-132 = refl
 
@@ -178,7 +178,7 @@ job-136 : outcome 13 (rules 1 2 2 atOnce false Merge true) 8 (program 2
     (rotated 2 3 ∷ [])
     (kept 0 0 ∷ kept 0 1 ∷ given- 1 0 2 ∷ given+ 1 1 1 ∷ [])
     ((2 ∷ 0 ∷ []) ∷ (0 ∷ 2 ∷ []) ∷ (2 ∷ 2 ∷ []) ∷ [])
-    (9 ∷ 1 ∷ 4 ∷ 0 ∷ 4 ∷ 9 ∷ 1 ∷ 4 ∷ 1 ∷ 9 ∷ 1 ∷ []))
+    (9 ∷ 1 ∷ 4 ∷ 0 ∷ 4 ∷ 9 ∷ 1 ∷ 4 ∷ 1 ∷ 9 ∷ 1 ∷ 12 ∷ []))
 unfolding everything
 job-136 = refl
 
@@ -192,7 +192,7 @@ job-138 : outcome 33 (rules 2 1 3 atOnce false Merge false) 6 (program 3
     (given+ 0 0 4 ∷ given- 0 1 3 ∷ given+ 1 0 0 ∷ given- 1 1 1 ∷ given- 2 0 2 ∷ kept 2 1 ∷ [])
     ((2 ∷ 0 ∷ []) ∷ (0 ∷ 2 ∷ []) ∷ (5 ∷ 0 ∷ []) ∷ (0 ∷ 5 ∷ []) ∷ (1 ∷ 5 ∷ []) ∷ (3 ∷ 0 ∷ []) ∷ (0 ∷ 0 ∷ [])
     ∷ [])
-    (1 ∷ 1 ∷ 0 ∷ 0 ∷ 1 ∷ 2 ∷ 0 ∷ 0 ∷ 0 ∷ 2 ∷ 0 ∷ []))
+    (1 ∷ 1 ∷ 0 ∷ 0 ∷ 1 ∷ 2 ∷ 0 ∷ 0 ∷ 0 ∷ 2 ∷ 0 ∷ 26 ∷ []))
 unfolding everything
 job-138 = refl
 
@@ -214,7 +214,7 @@ job-143 : outcome 26 (rules 2 0 16 atOnce false Merge true) 1 (program 3
     (given- 0 0 0 ∷ given- 0 1 0 ∷ given- 1 0 0 ∷ given- 1 1 0 ∷ given- 2 0 0 ∷ given- 2 1 0 ∷ [])
     ((2 ∷ 0 ∷ []) ∷ (1 ∷ 1 ∷ []) ∷ (6 ∷ 0 ∷ []) ∷ (6 ∷ 6 ∷ []) ∷ (0 ∷ 2 ∷ []) ∷ (0 ∷ 4 ∷ []) ∷ (6 ∷ 2 ∷ [])
     ∷ [])
-    (7 ∷ 7 ∷ 0 ∷ 0 ∷ 1 ∷ 9 ∷ 7 ∷ 4 ∷ 4 ∷ 13 ∷ 11 ∷ []))
+    (7 ∷ 7 ∷ 0 ∷ 0 ∷ 1 ∷ 9 ∷ 7 ∷ 4 ∷ 4 ∷ 13 ∷ 11 ∷ 26 ∷ []))
 unfolding everything
 job-143 = refl
 
@@ -227,7 +227,7 @@ job-145 : outcome 8 (rules 1048576 1 1 lazy false Merge true) 1 (program 3
     (rotated 0 5 ∷ [])
     (kept 0 0 ∷ kept 0 1 ∷ kept 1 0 ∷ kept 1 1 ∷ kept 2 0 ∷ kept 2 1 ∷ [])
     ((4 ∷ 0 ∷ []) ∷ (0 ∷ 0 ∷ []) ∷ [])
-    (1 ∷ 1 ∷ 1 ∷ 0 ∷ 0 ∷ 3 ∷ 1 ∷ 1 ∷ 1 ∷ 2 ∷ 1 ∷ []))
+    (1 ∷ 1 ∷ 1 ∷ 0 ∷ 0 ∷ 3 ∷ 1 ∷ 1 ∷ 1 ∷ 2 ∷ 1 ∷ 6 ∷ []))
 unfolding everything
 job-145 = refl
 
@@ -247,7 +247,7 @@ job-147 : outcome 14 (rules 1048576 4 1 lazy false Merge true) 2 (program 1
     (rotated 0 7 ∷ [])
     (given+ 0 0 1 ∷ given+ 0 1 0 ∷ [])
     ((0 ∷ 1 ∷ []) ∷ (1 ∷ 0 ∷ []) ∷ (1 ∷ 1 ∷ []) ∷ [])
-    (5 ∷ 1 ∷ 2 ∷ 0 ∷ 1 ∷ 5 ∷ 1 ∷ 3 ∷ 1 ∷ 5 ∷ 1 ∷ []))
+    (5 ∷ 1 ∷ 2 ∷ 0 ∷ 1 ∷ 5 ∷ 1 ∷ 3 ∷ 1 ∷ 5 ∷ 1 ∷ 12 ∷ []))
 unfolding everything
 job-147 = refl
 
@@ -260,7 +260,7 @@ job-151 : outcome 14 (rules 1048576 4 16 atOnce false Merge true) 1 (program 1
     (rotated 3 1 ∷ [])
     (given- 0 0 1 ∷ given- 0 1 1 ∷ [])
     ((1 ∷ 1 ∷ []) ∷ (0 ∷ 0 ∷ []) ∷ (0 ∷ 1 ∷ []) ∷ (1 ∷ 0 ∷ []) ∷ [])
-    (3 ∷ 1 ∷ 1 ∷ 0 ∷ 5 ∷ 9 ∷ 1 ∷ 2 ∷ 1 ∷ 8 ∷ 1 ∷ []))
+    (3 ∷ 1 ∷ 1 ∷ 0 ∷ 5 ∷ 9 ∷ 1 ∷ 2 ∷ 1 ∷ 8 ∷ 1 ∷ 14 ∷ []))
 unfolding everything
 job-151 = refl
 
@@ -287,7 +287,7 @@ job-155 : outcome 19 (rules 0 2 3 off true Merge false) 4 (program 3
     (rotated 0 2 ∷ rotated 3 1 ∷ rotated 1 7 ∷ rotated 2 6 ∷ [])
     (kept 0 0 ∷ kept 0 1 ∷ kept 1 0 ∷ kept 1 1 ∷ kept 2 0 ∷ kept 2 1 ∷ [])
     ((1 ∷ 1 ∷ []) ∷ (2 ∷ 3 ∷ []) ∷ (1 ∷ 2 ∷ []) ∷ (2 ∷ 0 ∷ []) ∷ [])
-    (6 ∷ 2 ∷ 1 ∷ 1 ∷ 0 ∷ 6 ∷ 4 ∷ 0 ∷ 0 ∷ 9 ∷ 6 ∷ []))
+    (6 ∷ 2 ∷ 1 ∷ 1 ∷ 0 ∷ 6 ∷ 4 ∷ 0 ∷ 0 ∷ 9 ∷ 6 ∷ 12 ∷ []))
 unfolding everything
 job-155 = refl
 
@@ -306,7 +306,7 @@ job-157 : outcome 20 (rules 3 3 3 atOnce true Litinski false) 8 (program 3
     (kept 0 0 ∷ kept 0 1 ∷ kept 1 0 ∷ kept 1 1 ∷ kept 2 0 ∷ kept 2 1 ∷ [])
     ((1 ∷ 1 ∷ []) ∷ (0 ∷ 0 ∷ []) ∷ (4 ∷ 1 ∷ []) ∷ (5 ∷ 4 ∷ []) ∷ (0 ∷ 4 ∷ []) ∷ (1 ∷ 0 ∷ []) ∷ (0 ∷ 1 ∷ [])
     ∷ (4 ∷ 0 ∷ []) ∷ [])
-    (9 ∷ 5 ∷ 1 ∷ 0 ∷ 0 ∷ 9 ∷ 5 ∷ 0 ∷ 0 ∷ 10 ∷ 8 ∷ []))
+    (9 ∷ 5 ∷ 1 ∷ 0 ∷ 0 ∷ 9 ∷ 5 ∷ 0 ∷ 0 ∷ 10 ∷ 8 ∷ 20 ∷ []))
 unfolding everything
 job-157 = refl
 
@@ -318,7 +318,7 @@ job-158 : outcome 7 (rules 2 6 16 off false Litinski true) 3 (program 3
     (rotated 0 6 ∷ [])
     (kept 0 0 ∷ kept 0 1 ∷ kept 1 0 ∷ kept 1 1 ∷ kept 2 0 ∷ kept 2 1 ∷ [])
     ((0 ∷ 4 ∷ []) ∷ (4 ∷ 0 ∷ []) ∷ [])
-    (2 ∷ 0 ∷ 7 ∷ 0 ∷ 0 ∷ 8 ∷ 1 ∷ 1 ∷ 0 ∷ 8 ∷ 1 ∷ []))
+    (2 ∷ 0 ∷ 7 ∷ 0 ∷ 0 ∷ 8 ∷ 1 ∷ 1 ∷ 0 ∷ 8 ∷ 1 ∷ 6 ∷ []))
 unfolding everything
 job-158 = refl
 
@@ -349,7 +349,7 @@ job-170 : outcome 13 (rules 1048576 5 2 atOnce true Merge true) 2 (program 1
     (measured+ 2 0 0 ∷ rotated 2 5 ∷ measured+ 2 3 65535 ∷ rotated 2 3 ∷ [])
     (given- 0 0 0 ∷ given- 0 1 1 ∷ [])
     ((1 ∷ 0 ∷ []) ∷ (0 ∷ 1 ∷ []) ∷ (1 ∷ 1 ∷ []) ∷ [])
-    (2 ∷ 2 ∷ 0 ∷ 0 ∷ 4 ∷ 7 ∷ 2 ∷ 2 ∷ 2 ∷ 7 ∷ 2 ∷ []))
+    (2 ∷ 2 ∷ 0 ∷ 0 ∷ 4 ∷ 7 ∷ 2 ∷ 2 ∷ 2 ∷ 7 ∷ 2 ∷ 12 ∷ []))
 unfolding everything
 job-170 = refl
 
@@ -383,7 +383,7 @@ job-175 : outcome 49 (rules 1 0 16 lazy false Litinski false) 8 (program 3
     (given- 0 0 0 ∷ given- 0 1 1 ∷ given+ 1 0 11 ∷ given+ 1 1 5 ∷ given- 2 0 4 ∷ given- 2 1 7 ∷ [])
     ((1 ∷ 0 ∷ []) ∷ (0 ∷ 1 ∷ []) ∷ (0 ∷ 4 ∷ []) ∷ (2 ∷ 2 ∷ []) ∷ (6 ∷ 2 ∷ []) ∷ (0 ∷ 6 ∷ []) ∷ (3 ∷ 7 ∷ [])
     ∷ (6 ∷ 0 ∷ []) ∷ (3 ∷ 3 ∷ []) ∷ (6 ∷ 4 ∷ []) ∷ (5 ∷ 7 ∷ []) ∷ (4 ∷ 6 ∷ []) ∷ [])
-    (2 ∷ 0 ∷ 1 ∷ 0 ∷ 6 ∷ 8 ∷ 0 ∷ 0 ∷ 0 ∷ 14 ∷ 0 ∷ []))
+    (2 ∷ 0 ∷ 1 ∷ 0 ∷ 6 ∷ 8 ∷ 0 ∷ 0 ∷ 0 ∷ 14 ∷ 0 ∷ 42 ∷ []))
 unfolding everything
 job-175 = refl
 
@@ -395,6 +395,6 @@ job-176 : outcome 52 (rules 1048576 0 16 lazy true Litinski true) 8 (program 2
     (rotated 0 3 ∷ [])
     (kept 0 0 ∷ kept 0 1 ∷ given+ 1 0 2 ∷ given+ 1 1 0 ∷ [])
     ((0 ∷ 2 ∷ []) ∷ (2 ∷ 0 ∷ []) ∷ (2 ∷ 2 ∷ []) ∷ [])
-    (1 ∷ 1 ∷ 0 ∷ 0 ∷ 1 ∷ 2 ∷ 1 ∷ 1 ∷ 1 ∷ 2 ∷ 1 ∷ []))
+    (1 ∷ 1 ∷ 0 ∷ 0 ∷ 1 ∷ 2 ∷ 1 ∷ 1 ∷ 1 ∷ 2 ∷ 1 ∷ 12 ∷ []))
 unfolding everything
 job-176 = refl

@@ -17,7 +17,7 @@ job-177 : outcome 12 (rules 1048576 4 1 lazy false Litinski true) 2 (program 2
     (rotated 0 1 ∷ [])
     (kept 0 0 ∷ kept 0 1 ∷ given+ 1 0 0 ∷ given+ 1 1 2 ∷ [])
     ((2 ∷ 0 ∷ []) ∷ (0 ∷ 2 ∷ []) ∷ (2 ∷ 2 ∷ []) ∷ [])
-    (1 ∷ 1 ∷ 0 ∷ 0 ∷ 1 ∷ 3 ∷ 1 ∷ 1 ∷ 1 ∷ 3 ∷ 1 ∷ []))
+    (1 ∷ 1 ∷ 0 ∷ 0 ∷ 1 ∷ 3 ∷ 1 ∷ 1 ∷ 1 ∷ 3 ∷ 1 ∷ 12 ∷ []))
 unfolding everything
 job-177 = refl
 
@@ -29,7 +29,7 @@ job-181 : outcome 14 (rules 1048576 0 1 atOnce true Merge false) 2 (program 1
     []
     (given+ 0 0 2 ∷ given- 0 1 1 ∷ [])
     ((1 ∷ 1 ∷ []) ∷ (1 ∷ 0 ∷ []) ∷ (0 ∷ 1 ∷ []) ∷ [])
-    (0 ∷ 0 ∷ 0 ∷ 0 ∷ 1 ∷ 1 ∷ 0 ∷ 0 ∷ 0 ∷ 1 ∷ 0 ∷ []))
+    (0 ∷ 0 ∷ 0 ∷ 0 ∷ 1 ∷ 1 ∷ 0 ∷ 0 ∷ 0 ∷ 1 ∷ 0 ∷ 12 ∷ []))
 unfolding everything
 job-181 = refl
 
@@ -50,6 +50,6 @@ job-185 : outcome 46 (rules 1 2 1 off true Merge false) 6 (program 1
     (rotated 0 5 ∷ measured+ 0 4 65535 ∷ [])
     (kept 0 0 ∷ kept 0 1 ∷ [])
     ((1 ∷ 0 ∷ []) ∷ (0 ∷ 1 ∷ []) ∷ [])
-    (3 ∷ 1 ∷ 2 ∷ 0 ∷ 0 ∷ 4 ∷ 1 ∷ 0 ∷ 0 ∷ 4 ∷ 1 ∷ []))
+    (3 ∷ 1 ∷ 2 ∷ 0 ∷ 0 ∷ 4 ∷ 1 ∷ 0 ∷ 0 ∷ 4 ∷ 1 ∷ 6 ∷ []))
 unfolding everything
 job-185 = refl

@@ -205,7 +205,7 @@ pub record AfterCalls : Type 0 where
   pub accepted-numbers : rewriting options listed slices .lent .numbers ≡ replicate 361 0
   pub accepted-operations : rewriting options listed slices .lent .operations ≡ measured- 2 0 65535 ++ replicate 13 0
   pub accepted-rows : rewriting options listed slices .lent .rows ≡ given- 0 0 2 ++ (given+ 0 1 0 ++ (0 ∷ []))
-  pub accepted-counters : allCounters (rewriting options listed slices .counters) ≡ 2 ∷ 0 ∷ 1 ∷ 0 ∷ 1 ∷ 2 ∷ 0 ∷ 0 ∷ 0 ∷ 2 ∷ 0 ∷ []
+  pub accepted-counters : allCounters (rewriting options listed slices .counters) ≡ 2 ∷ 0 ∷ 1 ∷ 0 ∷ 1 ∷ 2 ∷ 0 ∷ 0 ∷ 0 ∷ 2 ∷ 0 ∷ 12 ∷ []
   -- 10: the work stores are zero, the results as they were, the counters 0
   pub ten : rewriting (defaultsAt 11) listed slices ≡ record {
     answer = ExpansionLimit;

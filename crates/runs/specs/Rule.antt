@@ -16,7 +16,7 @@ newer-place-cleared : shown (rules 1 0 16 lazy true Merge false) 1 (program 3
     (rotated 3 1 ∷ rotated 5 1 ∷ rotated 1 1 ∷ rotated 1 1 ∷ [])
     (given- 0 0 6 ∷ given+ 0 1 1 ∷ given+ 1 0 2 ∷ given+ 1 1 3 ∷ given+ 2 0 4 ∷ given+ 2 1 5 ∷ [])
     ((1 ∷ 0 ∷ []) ∷ (0 ∷ 1 ∷ []) ∷ (2 ∷ 0 ∷ []) ∷ (0 ∷ 2 ∷ []) ∷ (4 ∷ 0 ∷ []) ∷ (0 ∷ 4 ∷ []) ∷ (1 ∷ 1 ∷ []) ∷ [])
-    (6 ∷ 4 ∷ 1 ∷ 0 ∷ 1 ∷ 7 ∷ 4 ∷ 0 ∷ 0 ∷ 7 ∷ 4 ∷ [])
+    (6 ∷ 4 ∷ 1 ∷ 0 ∷ 1 ∷ 7 ∷ 4 ∷ 0 ∷ 0 ∷ 7 ∷ 4 ∷ 20 ∷ [])
 unfolding everything
 newer-place-cleared = refl
 
@@ -29,7 +29,7 @@ absorbed-clears-last : shown (rules 2 50 2 lazy true Merge true) 8 (program 1
     []
     (given+ 0 0 1 ∷ given- 0 1 0 ∷ [])
     ((1 ∷ 0 ∷ []) ∷ (1 ∷ 1 ∷ []) ∷ (0 ∷ 1 ∷ []) ∷ [])
-    (2 ∷ 0 ∷ 1 ∷ 0 ∷ 3 ∷ 4 ∷ 0 ∷ 1 ∷ 0 ∷ 4 ∷ 0 ∷ [])
+    (2 ∷ 0 ∷ 1 ∷ 0 ∷ 3 ∷ 4 ∷ 0 ∷ 1 ∷ 0 ∷ 4 ∷ 0 ∷ 12 ∷ [])
 unfolding everything
 absorbed-clears-last = refl
 
@@ -42,7 +42,7 @@ carried-again : shown (rules 3 1 16 lazy false Merge true) 8 (program 1
     []
     (given+ 0 0 2 ∷ given+ 0 1 1 ∷ [])
     ((0 ∷ 1 ∷ []) ∷ (1 ∷ 1 ∷ []) ∷ (1 ∷ 0 ∷ []) ∷ [])
-    (0 ∷ 0 ∷ 0 ∷ 0 ∷ 2 ∷ 2 ∷ 0 ∷ 0 ∷ 0 ∷ 2 ∷ 0 ∷ [])
+    (0 ∷ 0 ∷ 0 ∷ 0 ∷ 2 ∷ 2 ∷ 0 ∷ 0 ∷ 0 ∷ 2 ∷ 0 ∷ 12 ∷ [])
 unfolding everything
 carried-again = refl
 
@@ -55,7 +55,7 @@ zero-clears-last : shown (rules 5 3 2 lazy true Merge false) 1 (program 1
     []
     (kept 0 0 ∷ kept 0 1 ∷ [])
     ((0 ∷ 1 ∷ []) ∷ [])
-    (4 ∷ 0 ∷ 2 ∷ 0 ∷ 0 ∷ 4 ∷ 0 ∷ 0 ∷ 0 ∷ 4 ∷ 0 ∷ [])
+    (4 ∷ 0 ∷ 2 ∷ 0 ∷ 0 ∷ 4 ∷ 0 ∷ 0 ∷ 0 ∷ 4 ∷ 0 ∷ 4 ∷ [])
 unfolding everything
 zero-clears-last = refl
 
@@ -68,7 +68,7 @@ zeros-count-in-lookback : shown (rules 0 50 16 lazy true Merge true) 1 (program 
     (rotated 1 7 ∷ rotated 1 1 ∷ [])
     (kept 0 0 ∷ kept 0 1 ∷ [])
     ((1 ∷ 0 ∷ []) ∷ (1 ∷ 1 ∷ []) ∷ (0 ∷ 1 ∷ []) ∷ [])
-    (4 ∷ 2 ∷ 1 ∷ 0 ∷ 0 ∷ 4 ∷ 2 ∷ 3 ∷ 1 ∷ 4 ∷ 2 ∷ [])
+    (4 ∷ 2 ∷ 1 ∷ 0 ∷ 0 ∷ 4 ∷ 2 ∷ 3 ∷ 1 ∷ 4 ∷ 2 ∷ 8 ∷ [])
 unfolding everything
 zeros-count-in-lookback = refl
 
@@ -82,7 +82,7 @@ exchange-goes-on : shown (rules 0 3 0 off true Merge false) 4 (program 2
     (rotated 3 4 ∷ rotated 5 4 ∷ rotated 2 6 ∷ [])
     (kept 0 0 ∷ kept 0 1 ∷ kept 1 0 ∷ kept 1 1 ∷ [])
     ((1 ∷ 0 ∷ []) ∷ (0 ∷ 1 ∷ []) ∷ (2 ∷ 0 ∷ []) ∷ (2 ∷ 2 ∷ []) ∷ (0 ∷ 2 ∷ []) ∷ (3 ∷ 0 ∷ []) ∷ (3 ∷ 2 ∷ []) ∷ [])
-    (2 ∷ 0 ∷ 1 ∷ 2 ∷ 0 ∷ 10 ∷ 3 ∷ 0 ∷ 0 ∷ 15 ∷ 4 ∷ [])
+    (2 ∷ 0 ∷ 1 ∷ 2 ∷ 0 ∷ 10 ∷ 3 ∷ 0 ∷ 0 ∷ 15 ∷ 4 ∷ 22 ∷ [])
 unfolding everything
 exchange-goes-on = refl
 
@@ -95,7 +95,7 @@ first-with-second-first : shown (rules 0 1 16 off true Merge true) 8 (program 3
     (rotated 1 1 ∷ rotated 2 2 ∷ [])
     (kept 0 0 ∷ kept 0 1 ∷ kept 1 0 ∷ kept 1 1 ∷ kept 2 0 ∷ kept 2 1 ∷ [])
     ((0 ∷ 0 ∷ []) ∷ (4 ∷ 4 ∷ []) ∷ (2 ∷ 2 ∷ []) ∷ [])
-    (4 ∷ 1 ∷ 0 ∷ 1 ∷ 0 ∷ 4 ∷ 2 ∷ 1 ∷ 1 ∷ 3 ∷ 2 ∷ [])
+    (4 ∷ 1 ∷ 0 ∷ 1 ∷ 0 ∷ 4 ∷ 2 ∷ 1 ∷ 1 ∷ 3 ∷ 2 ∷ 8 ∷ [])
 unfolding everything
 first-with-second-first = refl
 
@@ -108,7 +108,7 @@ candidates-0 : shown (rules 0 1 0 off true Merge true) 3 (program 2
     (rotated 3 1 ∷ rotated 4 7 ∷ rotated 2 2 ∷ [])
     (kept 0 0 ∷ kept 0 1 ∷ kept 1 0 ∷ kept 1 1 ∷ [])
     ((1 ∷ 1 ∷ []) ∷ (2 ∷ 0 ∷ []) ∷ (2 ∷ 2 ∷ []) ∷ (3 ∷ 3 ∷ []) ∷ (3 ∷ 2 ∷ []) ∷ (3 ∷ 0 ∷ []) ∷ [])
-    (4 ∷ 2 ∷ 0 ∷ 1 ∷ 0 ∷ 4 ∷ 3 ∷ 2 ∷ 2 ∷ 6 ∷ 5 ∷ [])
+    (4 ∷ 2 ∷ 0 ∷ 1 ∷ 0 ∷ 4 ∷ 3 ∷ 2 ∷ 2 ∷ 6 ∷ 5 ∷ 20 ∷ [])
 unfolding everything
 candidates-0 = refl
 
@@ -121,7 +121,7 @@ odd-angles-shared : shown (rules 0 3 16 off false Merge true) 1 (program 2
     (rotated 3 7 ∷ rotated 3 1 ∷ rotated 6 2 ∷ rotated 5 6 ∷ rotated 6 7 ∷ rotated 3 6 ∷ [])
     (kept 0 0 ∷ kept 0 1 ∷ kept 1 0 ∷ kept 1 1 ∷ [])
     ((1 ∷ 0 ∷ []) ∷ (0 ∷ 1 ∷ []) ∷ (2 ∷ 0 ∷ []) ∷ (2 ∷ 2 ∷ []) ∷ (0 ∷ 2 ∷ []) ∷ (0 ∷ 3 ∷ []) ∷ (3 ∷ 0 ∷ []) ∷ [])
-    (3 ∷ 3 ∷ 1 ∷ 0 ∷ 0 ∷ 8 ∷ 6 ∷ 3 ∷ 2 ∷ 13 ∷ 9 ∷ [])
+    (3 ∷ 3 ∷ 1 ∷ 0 ∷ 0 ∷ 8 ∷ 6 ∷ 3 ∷ 2 ∷ 13 ∷ 9 ∷ 22 ∷ [])
 unfolding everything
 odd-angles-shared = refl
 
@@ -134,7 +134,7 @@ eager-swap : shown (rules 0 1 16 off true Merge true) 1 (program 2
     (rotated 0 1 ∷ rotated 5 3 ∷ rotated 4 1 ∷ [])
     (kept 0 0 ∷ kept 0 1 ∷ kept 1 0 ∷ kept 1 1 ∷ [])
     ((1 ∷ 0 ∷ []) ∷ (0 ∷ 1 ∷ []) ∷ (2 ∷ 0 ∷ []) ∷ (0 ∷ 2 ∷ []) ∷ (3 ∷ 3 ∷ []) ∷ (3 ∷ 0 ∷ []) ∷ [])
-    (3 ∷ 3 ∷ 0 ∷ 1 ∷ 0 ∷ 4 ∷ 3 ∷ 2 ∷ 2 ∷ 7 ∷ 5 ∷ [])
+    (3 ∷ 3 ∷ 0 ∷ 1 ∷ 0 ∷ 4 ∷ 3 ∷ 2 ∷ 2 ∷ 7 ∷ 5 ∷ 22 ∷ [])
 unfolding everything
 eager-swap = refl
 
@@ -147,7 +147,7 @@ no-eager-swap : shown (rules 1048576 3 16 atOnce false Merge false) 8 (program 2
     (rotated 4 1 ∷ rotated 5 1 ∷ rotated 1 1 ∷ rotated 3 7 ∷ rotated 4 1 ∷ rotated 5 3 ∷ [])
     (kept 0 0 ∷ kept 0 1 ∷ kept 1 0 ∷ kept 1 1 ∷ [])
     ((1 ∷ 0 ∷ []) ∷ (0 ∷ 1 ∷ []) ∷ (2 ∷ 0 ∷ []) ∷ (0 ∷ 2 ∷ []) ∷ (3 ∷ 0 ∷ []) ∷ (3 ∷ 3 ∷ []) ∷ [])
-    (6 ∷ 6 ∷ 0 ∷ 0 ∷ 0 ∷ 6 ∷ 6 ∷ 0 ∷ 0 ∷ 10 ∷ 10 ∷ [])
+    (6 ∷ 6 ∷ 0 ∷ 0 ∷ 0 ∷ 6 ∷ 6 ∷ 0 ∷ 0 ∷ 10 ∷ 10 ∷ 22 ∷ [])
 unfolding everything
 no-eager-swap = refl
 
@@ -160,7 +160,7 @@ whole-sums : shown (rules 1048576 3 2 off true Merge true) 3 (program 1
     (rotated 0 2 ∷ rotated 1 2 ∷ rotated 0 4 ∷ [])
     (kept 0 0 ∷ kept 0 1 ∷ [])
     ((1 ∷ 0 ∷ []) ∷ (0 ∷ 1 ∷ []) ∷ [])
-    (0 ∷ 0 ∷ 1 ∷ 0 ∷ 0 ∷ 4 ∷ 3 ∷ 0 ∷ 0 ∷ 4 ∷ 3 ∷ [])
+    (0 ∷ 0 ∷ 1 ∷ 0 ∷ 0 ∷ 4 ∷ 3 ∷ 0 ∷ 0 ∷ 4 ∷ 3 ∷ 6 ∷ [])
 unfolding everything
 whole-sums = refl
 
@@ -173,7 +173,7 @@ start-after-a-swap : shown (rules 0 1 0 lazy true Merge false) 1 (program 2
     (rotated 2 7 ∷ rotated 4 7 ∷ [])
     (given+ 0 0 0 ∷ given+ 0 1 1 ∷ given+ 1 0 2 ∷ given- 1 1 3 ∷ [])
     ((1 ∷ 0 ∷ []) ∷ (0 ∷ 1 ∷ []) ∷ (2 ∷ 0 ∷ []) ∷ (0 ∷ 2 ∷ []) ∷ (3 ∷ 1 ∷ []) ∷ [])
-    (6 ∷ 2 ∷ 0 ∷ 2 ∷ 1 ∷ 6 ∷ 2 ∷ 0 ∷ 0 ∷ 9 ∷ 3 ∷ [])
+    (6 ∷ 2 ∷ 0 ∷ 2 ∷ 1 ∷ 6 ∷ 2 ∷ 0 ∷ 0 ∷ 9 ∷ 3 ∷ 16 ∷ [])
 unfolding everything
 start-after-a-swap = refl
 
@@ -188,7 +188,7 @@ local-merge : shown (rules 0 3 16 atOnce true Merge false) 1 (program 4
     ((1 ∷ 0 ∷ []) ∷ (0 ∷ 1 ∷ []) ∷ (2 ∷ 0 ∷ []) ∷ (0 ∷ 2 ∷ []) ∷ (4 ∷ 0 ∷ []) ∷ (0 ∷ 4 ∷ []) ∷ (8 ∷ 0 ∷ [])
     ∷ (0 ∷ 8 ∷ []) ∷ (3 ∷ 0 ∷ [])
     ∷ (3 ∷ 3 ∷ []) ∷ (1 ∷ 1 ∷ []) ∷ (4 ∷ 4 ∷ []) ∷ [])
-    (8 ∷ 4 ∷ 0 ∷ 1 ∷ 2 ∷ 8 ∷ 4 ∷ 0 ∷ 0 ∷ 10 ∷ 6 ∷ [])
+    (8 ∷ 4 ∷ 0 ∷ 1 ∷ 2 ∷ 8 ∷ 4 ∷ 0 ∷ 0 ∷ 10 ∷ 6 ∷ 36 ∷ [])
 unfolding everything
 local-merge = refl
 
@@ -203,7 +203,7 @@ local-merge-blocked : shown (rules 0 3 16 atOnce true Merge false) 1 (program 4
     ((1 ∷ 0 ∷ []) ∷ (0 ∷ 1 ∷ []) ∷ (2 ∷ 0 ∷ []) ∷ (0 ∷ 2 ∷ []) ∷ (4 ∷ 0 ∷ []) ∷ (0 ∷ 4 ∷ []) ∷ (8 ∷ 0 ∷ [])
     ∷ (0 ∷ 8 ∷ []) ∷ (3 ∷ 0 ∷ [])
     ∷ (3 ∷ 3 ∷ []) ∷ (4 ∷ 4 ∷ []) ∷ [])
-    (8 ∷ 6 ∷ 0 ∷ 1 ∷ 1 ∷ 8 ∷ 6 ∷ 0 ∷ 0 ∷ 10 ∷ 8 ∷ [])
+    (8 ∷ 6 ∷ 0 ∷ 1 ∷ 1 ∷ 8 ∷ 6 ∷ 0 ∷ 0 ∷ 10 ∷ 8 ∷ 30 ∷ [])
 unfolding everything
 local-merge-blocked = refl
 
@@ -216,7 +216,7 @@ leaf-I-mentions : shown (rules 3 2 0 off true Litinski false) 0 (program 1
     (rotated 0 7 ∷ [])
     (kept 0 0 ∷ kept 0 1 ∷ [])
     ((1 ∷ 0 ∷ []) ∷ (0 ∷ 0 ∷ []) ∷ [])
-    (1 ∷ 1 ∷ 0 ∷ 0 ∷ 0 ∷ 1 ∷ 1 ∷ 0 ∷ 0 ∷ 1 ∷ 1 ∷ [])
+    (1 ∷ 1 ∷ 0 ∷ 0 ∷ 0 ∷ 1 ∷ 1 ∷ 0 ∷ 0 ∷ 1 ∷ 1 ∷ 6 ∷ [])
 unfolding everything
 leaf-I-mentions = refl
 
@@ -233,7 +233,7 @@ sweeps-until-none-moves : shown (rules 5 0 1048576 off false Litinski true) 8 (p
     (rotated 3 4 ∷ rotated 2 4 ∷ rotated 1 6 ∷ rotated 0 2 ∷ rotated 3 4 ∷ [])
     (kept 0 0 ∷ kept 0 1 ∷ kept 1 0 ∷ kept 1 1 ∷ [])
     ((1 ∷ 1 ∷ []) ∷ (1 ∷ 0 ∷ []) ∷ (2 ∷ 0 ∷ []) ∷ (0 ∷ 1 ∷ []) ∷ [])
-    (0 ∷ 0 ∷ 1 ∷ 0 ∷ 0 ∷ 6 ∷ 5 ∷ 0 ∷ 0 ∷ 6 ∷ 5 ∷ [])
+    (0 ∷ 0 ∷ 1 ∷ 0 ∷ 0 ∷ 6 ∷ 5 ∷ 0 ∷ 0 ∷ 6 ∷ 5 ∷ 10 ∷ [])
 unfolding everything
 sweeps-until-none-moves = refl
 
@@ -246,6 +246,6 @@ even-adds-no-depth : shown (rules 5 0 2 off true Litinski true) 3 (program 1
     (rotated 1 2 ∷ rotated 0 7 ∷ [])
     (kept 0 0 ∷ kept 0 1 ∷ [])
     ((0 ∷ 1 ∷ []) ∷ (1 ∷ 0 ∷ []) ∷ [])
-    (1 ∷ 1 ∷ 0 ∷ 0 ∷ 0 ∷ 2 ∷ 2 ∷ 1 ∷ 1 ∷ 2 ∷ 2 ∷ [])
+    (1 ∷ 1 ∷ 0 ∷ 0 ∷ 0 ∷ 2 ∷ 2 ∷ 1 ∷ 1 ∷ 2 ∷ 2 ∷ 8 ∷ [])
 unfolding everything
 even-adds-no-depth = refl

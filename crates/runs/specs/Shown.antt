@@ -102,11 +102,11 @@ pub data Shown : Type 0 where
   -- peak; operations; rows; axes; counters
   shows : ℕ → List (List ℕ) → List (List ℕ) → List (List ℕ) → List ℕ → Shown
 
--- T before, T after, merges, swaps, absorbed, rotations, T-depth and weight before and after
+-- T before, T after, merges, swaps, absorbed, rotations, T-depth and weight before and after, the largest sum
 abbrev pub allCounters : Counters → List ℕ
 allCounters c =
     c .«t_before» ∷ c .«t_after» ∷ c .merges ∷ c .swaps ∷ c .«cliffords_to_frame» ∷ c .«rotations_before» ∷ c .«rotations_after»
-    ∷ c .«t_depth_before» ∷ c .«t_depth_after» ∷ c .«weight_before» ∷ c .«weight_after» ∷ []
+    ∷ c .«t_depth_before» ∷ c .«t_depth_after» ∷ c .«weight_before» ∷ c .«weight_after» ∷ c .«packed_words» ∷ []
 
 abbrev pub shownEnding : Rules → Program → ℕ → Ending → Shown
 shownEnding r p peak nonHermitian = nonHermitianAt peak

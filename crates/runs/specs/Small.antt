@@ -18,7 +18,7 @@ the-listing : shown (rules 1048576 0 16 atOnce true Merge false) 8 (program 1
     (measured- 2 0 65535 ∷ [])
     (given- 0 0 2 ∷ given+ 0 1 0 ∷ [])
     ((0 ∷ 1 ∷ []) ∷ (1 ∷ 0 ∷ []) ∷ (1 ∷ 1 ∷ []) ∷ [])
-    (2 ∷ 0 ∷ 1 ∷ 0 ∷ 1 ∷ 2 ∷ 0 ∷ 0 ∷ 0 ∷ 2 ∷ 0 ∷ [])
+    (2 ∷ 0 ∷ 1 ∷ 0 ∷ 1 ∷ 2 ∷ 0 ∷ 0 ∷ 0 ∷ 2 ∷ 0 ∷ 12 ∷ [])
 unfolding everything
 the-listing = refl
 
@@ -31,7 +31,7 @@ lookback-1 : shown (rules 1 0 16 atOnce true Merge false) 8 (program 2
     (rotated 3 1 ∷ [])
     (given- 0 0 4 ∷ given+ 0 1 1 ∷ given+ 1 0 2 ∷ given+ 1 1 3 ∷ [])
     ((1 ∷ 0 ∷ []) ∷ (0 ∷ 1 ∷ []) ∷ (2 ∷ 0 ∷ []) ∷ (0 ∷ 2 ∷ []) ∷ (1 ∷ 1 ∷ []) ∷ [])
-    (3 ∷ 1 ∷ 1 ∷ 0 ∷ 1 ∷ 3 ∷ 1 ∷ 0 ∷ 0 ∷ 3 ∷ 1 ∷ [])
+    (3 ∷ 1 ∷ 1 ∷ 0 ∷ 1 ∷ 3 ∷ 1 ∷ 0 ∷ 0 ∷ 3 ∷ 1 ∷ 16 ∷ [])
 unfolding everything
 lookback-1 = refl
 
@@ -44,7 +44,7 @@ lookback-0 : shown (rules 0 0 16 atOnce true Merge false) 8 (program 2
     (rotated 1 1 ∷ rotated 3 1 ∷ rotated 1 1 ∷ [])
     (kept 0 0 ∷ kept 0 1 ∷ kept 1 0 ∷ kept 1 1 ∷ [])
     ((1 ∷ 0 ∷ []) ∷ (0 ∷ 1 ∷ []) ∷ (2 ∷ 0 ∷ []) ∷ (0 ∷ 2 ∷ []) ∷ [])
-    (3 ∷ 3 ∷ 0 ∷ 0 ∷ 0 ∷ 3 ∷ 3 ∷ 0 ∷ 0 ∷ 3 ∷ 3 ∷ [])
+    (3 ∷ 3 ∷ 0 ∷ 0 ∷ 0 ∷ 3 ∷ 3 ∷ 0 ∷ 0 ∷ 3 ∷ 3 ∷ 10 ∷ [])
 unfolding everything
 lookback-0 = refl
 
@@ -57,7 +57,7 @@ blocked : shown (rules 1048576 0 16 atOnce true Merge false) 8 (program 1
     (rotated 1 1 ∷ rotated 0 1 ∷ rotated 1 1 ∷ [])
     (kept 0 0 ∷ kept 0 1 ∷ [])
     ((1 ∷ 0 ∷ []) ∷ (0 ∷ 1 ∷ []) ∷ [])
-    (3 ∷ 3 ∷ 0 ∷ 0 ∷ 0 ∷ 3 ∷ 3 ∷ 0 ∷ 0 ∷ 3 ∷ 3 ∷ [])
+    (3 ∷ 3 ∷ 0 ∷ 0 ∷ 0 ∷ 3 ∷ 3 ∷ 0 ∷ 0 ∷ 3 ∷ 3 ∷ 6 ∷ [])
 unfolding everything
 blocked = refl
 
@@ -70,7 +70,7 @@ three-alike : shown (rules 1048576 0 16 atOnce true Merge false) 1 (program 1
     (rotated 1 1 ∷ [])
     (given- 0 0 2 ∷ given+ 0 1 1 ∷ [])
     ((1 ∷ 0 ∷ []) ∷ (0 ∷ 1 ∷ []) ∷ (1 ∷ 1 ∷ []) ∷ [])
-    (3 ∷ 1 ∷ 1 ∷ 0 ∷ 1 ∷ 3 ∷ 1 ∷ 0 ∷ 0 ∷ 3 ∷ 1 ∷ [])
+    (3 ∷ 1 ∷ 1 ∷ 0 ∷ 1 ∷ 3 ∷ 1 ∷ 0 ∷ 0 ∷ 3 ∷ 1 ∷ 12 ∷ [])
 unfolding everything
 three-alike = refl
 
@@ -92,7 +92,7 @@ product-root : shown (rules 1048576 0 16 atOnce true Merge false) 8 (program 1
     (rotated 2 1 ∷ [])
     (kept 0 0 ∷ kept 0 1 ∷ [])
     ((1 ∷ 0 ∷ []) ∷ (0 ∷ 1 ∷ []) ∷ (1 ∷ 1 ∷ []) ∷ [])
-    (1 ∷ 1 ∷ 0 ∷ 0 ∷ 0 ∷ 1 ∷ 1 ∷ 0 ∷ 0 ∷ 1 ∷ 1 ∷ [])
+    (1 ∷ 1 ∷ 0 ∷ 0 ∷ 0 ∷ 1 ∷ 1 ∷ 0 ∷ 0 ∷ 1 ∷ 1 ∷ 10 ∷ [])
 unfolding everything
 product-root = refl
 
@@ -105,7 +105,7 @@ no-operations : shown (rules 1048576 0 16 atOnce true Merge false) 8 (program 2
     []
     (kept 0 0 ∷ kept 0 1 ∷ kept 1 0 ∷ kept 1 1 ∷ [])
     []
-    (0 ∷ 0 ∷ 0 ∷ 0 ∷ 0 ∷ 0 ∷ 0 ∷ 0 ∷ 0 ∷ 0 ∷ 0 ∷ [])
+    (0 ∷ 0 ∷ 0 ∷ 0 ∷ 0 ∷ 0 ∷ 0 ∷ 0 ∷ 0 ∷ 0 ∷ 0 ∷ 0 ∷ [])
 unfolding everything
 no-operations = refl
 
@@ -118,7 +118,7 @@ one-round : shown (rules 1048576 0 16 atOnce true Merge false) 1 (program 1
     (rotated 0 1 ∷ rotated 0 1 ∷ [])
     (kept 0 0 ∷ kept 0 1 ∷ [])
     ((1 ∷ 0 ∷ []) ∷ (0 ∷ 1 ∷ []) ∷ [])
-    (6 ∷ 2 ∷ 2 ∷ 0 ∷ 0 ∷ 6 ∷ 2 ∷ 0 ∷ 0 ∷ 6 ∷ 2 ∷ [])
+    (6 ∷ 2 ∷ 2 ∷ 0 ∷ 0 ∷ 6 ∷ 2 ∷ 0 ∷ 0 ∷ 6 ∷ 2 ∷ 6 ∷ [])
 unfolding everything
 one-round = refl
 
@@ -131,7 +131,7 @@ two-rounds : shown (rules 1048576 0 16 atOnce true Merge false) 2 (program 1
     []
     (given+ 0 0 0 ∷ given+ 0 1 2 ∷ [])
     ((1 ∷ 0 ∷ []) ∷ (0 ∷ 1 ∷ []) ∷ (1 ∷ 1 ∷ []) ∷ [])
-    (6 ∷ 0 ∷ 3 ∷ 0 ∷ 1 ∷ 6 ∷ 0 ∷ 0 ∷ 0 ∷ 6 ∷ 0 ∷ [])
+    (6 ∷ 0 ∷ 3 ∷ 0 ∷ 1 ∷ 6 ∷ 0 ∷ 0 ∷ 0 ∷ 6 ∷ 0 ∷ 12 ∷ [])
 unfolding everything
 two-rounds = refl
 
@@ -145,7 +145,7 @@ smallest-exchange : shown (rules 1048576 2 16 atOnce true Merge false) 8 (progra
     (given+ 0 0 0 ∷ given+ 0 1 6 ∷ given+ 1 0 2 ∷ given+ 1 1 7 ∷ [])
     ((1 ∷ 0 ∷ []) ∷ (0 ∷ 1 ∷ []) ∷ (2 ∷ 0 ∷ []) ∷ (0 ∷ 2 ∷ []) ∷ (3 ∷ 0 ∷ []) ∷ (3 ∷ 3 ∷ []) ∷ (3 ∷ 1 ∷ [])
     ∷ (3 ∷ 2 ∷ []) ∷ [])
-    (5 ∷ 3 ∷ 0 ∷ 1 ∷ 1 ∷ 5 ∷ 3 ∷ 0 ∷ 0 ∷ 8 ∷ 4 ∷ [])
+    (5 ∷ 3 ∷ 0 ∷ 1 ∷ 1 ∷ 5 ∷ 3 ∷ 0 ∷ 0 ∷ 8 ∷ 4 ∷ 28 ∷ [])
 unfolding everything
 smallest-exchange = refl
 
@@ -158,7 +158,7 @@ window-0 : shown (rules 1048576 0 16 atOnce true Merge false) 8 (program 2
     (rotated 4 1 ∷ rotated 5 1 ∷ rotated 1 1 ∷ rotated 3 1 ∷ rotated 4 1 ∷ [])
     (kept 0 0 ∷ kept 0 1 ∷ kept 1 0 ∷ kept 1 1 ∷ [])
     ((1 ∷ 0 ∷ []) ∷ (0 ∷ 1 ∷ []) ∷ (2 ∷ 0 ∷ []) ∷ (0 ∷ 2 ∷ []) ∷ (3 ∷ 0 ∷ []) ∷ (3 ∷ 3 ∷ []) ∷ [])
-    (5 ∷ 5 ∷ 0 ∷ 0 ∷ 0 ∷ 5 ∷ 5 ∷ 0 ∷ 0 ∷ 8 ∷ 8 ∷ [])
+    (5 ∷ 5 ∷ 0 ∷ 0 ∷ 0 ∷ 5 ∷ 5 ∷ 0 ∷ 0 ∷ 8 ∷ 8 ∷ 22 ∷ [])
 unfolding everything
 window-0 = refl
 
@@ -171,7 +171,7 @@ peak-of-one-round : shown (rules 0 5 16 atOnce true Merge false) 1 (program 1
     (rotated 1 1 ∷ rotated 1 1 ∷ [])
     (kept 0 0 ∷ kept 0 1 ∷ [])
     ((1 ∷ 0 ∷ []) ∷ (1 ∷ 1 ∷ []) ∷ (0 ∷ 1 ∷ []) ∷ [])
-    (4 ∷ 2 ∷ 1 ∷ 0 ∷ 0 ∷ 4 ∷ 2 ∷ 0 ∷ 0 ∷ 4 ∷ 2 ∷ [])
+    (4 ∷ 2 ∷ 1 ∷ 0 ∷ 0 ∷ 4 ∷ 2 ∷ 0 ∷ 0 ∷ 4 ∷ 2 ∷ 8 ∷ [])
 unfolding everything
 peak-of-one-round = refl
 
@@ -184,7 +184,7 @@ peak-of-two-rounds : shown (rules 0 5 16 atOnce true Merge false) 2 (program 1
     []
     (given+ 0 0 2 ∷ given- 0 1 0 ∷ [])
     ((1 ∷ 0 ∷ []) ∷ (1 ∷ 1 ∷ []) ∷ (0 ∷ 1 ∷ []) ∷ [])
-    (4 ∷ 0 ∷ 2 ∷ 0 ∷ 1 ∷ 4 ∷ 0 ∷ 0 ∷ 0 ∷ 4 ∷ 0 ∷ [])
+    (4 ∷ 0 ∷ 2 ∷ 0 ∷ 1 ∷ 4 ∷ 0 ∷ 0 ∷ 0 ∷ 4 ∷ 0 ∷ 12 ∷ [])
 unfolding everything
 peak-of-two-rounds = refl
 
@@ -197,7 +197,7 @@ at-once : shown (rules 0 0 16 atOnce true Merge false) 1 (program 2
     []
     (given+ 0 0 0 ∷ given+ 0 1 5 ∷ given- 1 0 2 ∷ given- 1 1 3 ∷ [])
     ((1 ∷ 0 ∷ []) ∷ (0 ∷ 1 ∷ []) ∷ (2 ∷ 0 ∷ []) ∷ (0 ∷ 2 ∷ []) ∷ (3 ∷ 2 ∷ []) ∷ (1 ∷ 1 ∷ []) ∷ [])
-    (2 ∷ 0 ∷ 1 ∷ 0 ∷ 2 ∷ 3 ∷ 0 ∷ 0 ∷ 0 ∷ 4 ∷ 0 ∷ [])
+    (2 ∷ 0 ∷ 1 ∷ 0 ∷ 2 ∷ 3 ∷ 0 ∷ 0 ∷ 0 ∷ 4 ∷ 0 ∷ 24 ∷ [])
 unfolding everything
 at-once = refl
 
@@ -210,7 +210,7 @@ waiting : shown (rules 0 0 16 lazy true Merge false) 1 (program 2
     (rotated 0 7 ∷ rotated 0 7 ∷ [])
     (given+ 0 0 0 ∷ given- 0 1 1 ∷ given- 1 0 2 ∷ given- 1 1 3 ∷ [])
     ((1 ∷ 0 ∷ []) ∷ (0 ∷ 1 ∷ []) ∷ (2 ∷ 0 ∷ []) ∷ (0 ∷ 2 ∷ []) ∷ (3 ∷ 2 ∷ []) ∷ [])
-    (2 ∷ 2 ∷ 0 ∷ 0 ∷ 1 ∷ 3 ∷ 2 ∷ 0 ∷ 0 ∷ 4 ∷ 2 ∷ [])
+    (2 ∷ 2 ∷ 0 ∷ 0 ∷ 1 ∷ 3 ∷ 2 ∷ 0 ∷ 0 ∷ 4 ∷ 2 ∷ 22 ∷ [])
 unfolding everything
 waiting = refl
 
@@ -223,7 +223,7 @@ barriers : shown (rules 1048576 0 16 atOnce true Merge true) 8 (program 1
     (rotated 1 1 ∷ measured- 0 5 3 ∷ rotated 1 1 ∷ conditioned 2 5 5 ∷ rotated 2 7 ∷ [])
     (given- 0 0 2 ∷ given+ 0 1 1 ∷ [])
     ((1 ∷ 0 ∷ []) ∷ (0 ∷ 1 ∷ []) ∷ (1 ∷ 1 ∷ []) ∷ [])
-    (4 ∷ 4 ∷ 0 ∷ 0 ∷ 1 ∷ 4 ∷ 3 ∷ 3 ∷ 3 ∷ 5 ∷ 4 ∷ [])
+    (4 ∷ 4 ∷ 0 ∷ 0 ∷ 1 ∷ 4 ∷ 3 ∷ 3 ∷ 3 ∷ 5 ∷ 4 ∷ 12 ∷ [])
 unfolding everything
 barriers = refl
 
@@ -236,7 +236,7 @@ absorption-off : shown (rules 1048576 0 16 off true Merge false) 8 (program 1
     (rotated 1 2 ∷ rotated 0 2 ∷ rotated 1 3 ∷ rotated 0 6 ∷ [])
     (kept 0 0 ∷ kept 0 1 ∷ [])
     ((1 ∷ 0 ∷ []) ∷ (0 ∷ 1 ∷ []) ∷ [])
-    (3 ∷ 1 ∷ 1 ∷ 0 ∷ 0 ∷ 5 ∷ 4 ∷ 0 ∷ 0 ∷ 5 ∷ 4 ∷ [])
+    (3 ∷ 1 ∷ 1 ∷ 0 ∷ 0 ∷ 5 ∷ 4 ∷ 0 ∷ 0 ∷ 5 ∷ 4 ∷ 6 ∷ [])
 unfolding everything
 absorption-off = refl
 
@@ -249,7 +249,7 @@ litinski : shown (rules 1048576 0 16 atOnce true Litinski true) 8 (program 2
     (rotated 4 1 ∷ rotated 1 1 ∷ rotated 3 1 ∷ rotated 4 1 ∷ rotated 5 3 ∷ rotated 1 1 ∷ [])
     (kept 0 0 ∷ kept 0 1 ∷ kept 1 0 ∷ kept 1 1 ∷ [])
     ((1 ∷ 0 ∷ []) ∷ (0 ∷ 1 ∷ []) ∷ (2 ∷ 0 ∷ []) ∷ (0 ∷ 2 ∷ []) ∷ (3 ∷ 0 ∷ []) ∷ (3 ∷ 3 ∷ []) ∷ [])
-    (6 ∷ 6 ∷ 0 ∷ 0 ∷ 0 ∷ 6 ∷ 6 ∷ 4 ∷ 4 ∷ 9 ∷ 9 ∷ [])
+    (6 ∷ 6 ∷ 0 ∷ 0 ∷ 0 ∷ 6 ∷ 6 ∷ 4 ∷ 4 ∷ 9 ∷ 9 ∷ 22 ∷ [])
 unfolding everything
 litinski = refl
 
@@ -262,6 +262,6 @@ litinski-off : shown (rules 1048576 0 16 off true Litinski true) 8 (program 2
     (rotated 0 1 ∷ rotated 3 1 ∷ rotated 1 1 ∷ rotated 2 1 ∷ rotated 0 1 ∷ rotated 3 7 ∷ rotated 4 1 ∷ rotated 1 3 ∷ [])
     (kept 0 0 ∷ kept 0 1 ∷ kept 1 0 ∷ kept 1 1 ∷ [])
     ((1 ∷ 0 ∷ []) ∷ (0 ∷ 1 ∷ []) ∷ (2 ∷ 0 ∷ []) ∷ (0 ∷ 2 ∷ []) ∷ (0 ∷ 3 ∷ []) ∷ [])
-    (8 ∷ 8 ∷ 0 ∷ 0 ∷ 0 ∷ 8 ∷ 8 ∷ 4 ∷ 4 ∷ 9 ∷ 9 ∷ [])
+    (8 ∷ 8 ∷ 0 ∷ 0 ∷ 0 ∷ 8 ∷ 8 ∷ 4 ∷ 4 ∷ 9 ∷ 9 ∷ 14 ∷ [])
 unfolding everything
 litinski-off = refl

@@ -23,9 +23,9 @@ listed first operations =
 abbrev oneOperation : List ℕ
 oneOperation = bytes "       1       2       1     100\n"
 
--- an answer, then seven zeros
+-- an answer, then eight zeros
 abbrev answered : String → List ℕ
-answered answer = bytes answer ++ bytes "       0       0       0       0       0       0       0\n"
+answered answer = bytes answer ++ bytes "       0       0       0       0       0       0       0       0\n"
 
 -- a line n times
 abbrev repeated : ℕ → List ℕ → List ℕ
@@ -64,7 +64,7 @@ pub record Texts : Type 0 where
   pub large-outcome : listing (listed oneOperation (bytes "       1       1       0       0   65535      -1\n")) ≡ answered "      11"
   -- 65,534 itself is read and printed
   pub largest-outcome : listing (listed oneOperation (bytes "       2       1       0       0   65534   65534\n"))
-      ≡ bytes "       0       0       0       0       0       0       1       1\n"
+      ≡ bytes "       0       0       0       0       0       0       1       1       4\n"
       ++ (bytes "       2       0       1       0   65534   65534\n"
       ++ (bytes "       0       0      -1       0\n" ++ (bytes "       0       1      -1       0\n" ++ bytes "       0       0       1\n")))
   -- "there are more than 64 qubits, 128 nodes or 128 operations, the limit is above 256, or lines are missing or left over"
@@ -73,7 +73,7 @@ pub record Texts : Type 0 where
   pub nodes-128 : listing (bytes "       0     128       0       0\n" ++ repeated 128 node) ≡ answered "       0"
   pub nodes-129 : listing (bytes "       0     129       0       0\n" ++ repeated 129 node) ≡ answered "      11"
   pub operations-128 : listing (bytes "       0       1     128       4\n" ++ rotations 128)
-      ≡ bytes "       0     128       0       0       0       0       0       1\n"
+      ≡ bytes "       0     128       0       0       0       0       0       1       4\n"
   pub operations-129 : listing (bytes "       0       1     129       4\n" ++ rotations 129) ≡ answered "      11"
   pub limit-256 : listing (bytes "       0       1       0     256\n" ++ node) ≡ answered "       0"
   pub limit-257 : listing (bytes "       0       1       0     257\n" ++ node) ≡ answered "      11"

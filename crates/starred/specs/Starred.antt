@@ -80,10 +80,10 @@ listed =
     ++ (bytes "       0       0       2       0\n"
     ++ bytes "       0       1       1       0\n")))))))
 
--- what it prints
+-- what it prints, the ninth field being M-103's
 abbrev result : List ℕ
 result =
-    (bytes "       0       2       0       1       0       1       1       3\n"
+    (bytes "       0       2       0       1       0       1       1       3      12\n"
     ++ (bytes "       2       2      -1       0       0      -1\n"
     ++ (bytes "       0       0       2      -1\n"
     ++ (bytes "       0       1       0       1\n"
@@ -114,7 +114,7 @@ pub record Starred : Type 0 where
   -- "The listing; limit 11 answers 10"
   pub listing-12 : listing (bytes "       1       3       3      12\n" ++ listed) ≡ result
   pub listing-11 : listing (bytes "       1       3       3      11\n" ++ listed)
-      ≡ bytes "      10       0       0       0       0       0       0       0\n"
+      ≡ bytes "      10       0       0       0       0       0       0       0       0\n"
   -- "Z0, Z1, Z0, angles 1: lookback 1 leaves T-count 1, lookback 0 leaves 3"
   pub reach-1 : tAfter (shown (rustRules 1) 8 (two (three 2 4 2))) ≡ some 1
   pub reach-0 : tAfter (shown (rustRules 0) 8 (two (three 2 4 2))) ≡ some 3
@@ -124,10 +124,10 @@ pub record Starred : Type 0 where
   pub odd-phase : answerOf 1048576 (run (rustRules 1048576) 8 (one (rotate 1 1 1 ∷ []))) ≡ NonHermitianAxis
   pub product-y : shown (rustRules 1048576) 8 (one (rotate 3 1 1 ∷ []))
       ≡ shows 10 (rotated 2 1 ∷ []) (kept 0 0 ∷ kept 0 1 ∷ []) (X ∷ Z ∷ Y ∷ [])
-      (1 ∷ 1 ∷ 0 ∷ 0 ∷ 0 ∷ 1 ∷ 1 ∷ 0 ∷ 0 ∷ 1 ∷ 1 ∷ [])
+      (1 ∷ 1 ∷ 0 ∷ 0 ∷ 0 ∷ 1 ∷ 1 ∷ 0 ∷ 0 ∷ 1 ∷ 1 ∷ 10 ∷ [])
   -- "No operations: nothing, all rows kept"
   pub nothing : shown (rustRules 1048576) 8 (one [])
-      ≡ shows 0 [] (kept 0 0 ∷ kept 0 1 ∷ []) [] (0 ∷ 0 ∷ 0 ∷ 0 ∷ 0 ∷ 0 ∷ 0 ∷ 0 ∷ 0 ∷ 0 ∷ 0 ∷ [])
+      ≡ shows 0 [] (kept 0 0 ∷ kept 0 1 ∷ []) [] (0 ∷ 0 ∷ 0 ∷ 0 ∷ 0 ∷ 0 ∷ 0 ∷ 0 ∷ 0 ∷ 0 ∷ 0 ∷ 0 ∷ [])
 
 pub starred : Starred
 unfolding everything signature signatureTo

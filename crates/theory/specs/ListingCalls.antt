@@ -30,7 +30,7 @@ use Rattle.theory.specs.Cases.{by-if, on-if, if-true, if-false, neither,
 use Rattle.theory.specs.Checked.{accepts-only, not-refused, Fine, program-fine}
 use Rattle.theory.specs.Alike.{Alike, alike-program, alike-checked}
 use Rattle.theory.specs.Replies.{runOf, program-low}
-use Rattle.theory.specs.Limit.{within}
+use Rattle.theory.specs.Limit.{within, within-answer}
 use Rattle.theory.specs.AcceptedRun.{finishOf, accepted-peak, accepted-roots, accepted-ending, counters-source}
 
 -- ---- what a listing answers
@@ -181,6 +181,15 @@ module _ (text text′ : List ℕ) (t t′ : Read) (reads : read text ≡ some t
       not-ten le (listing-ran t Accepted e (inl refl)) (λ f. let z : _≡_ {A = ℕ} 0 1 = cc in omega arith)
   same-text-at-larger-limit le (inr e) =
       not-ten le (listing-ran t NonHermitianAxis e (inr (omega arith))) (λ f. let z : _≡_ {A = ℕ} 0 1 = cc in omega arith)
+
+  -- M-103: one that was accepted at one limit is accepted at every limit from its largest sum on
+  pub accepted-from-peak-on : listingAnswer (some t) ≡ Accepted → listedRun t .peak ≤ t′ .limit → listingAnswer (some t′) ≡ Accepted
+  unfolding listingAnswer
+  accepted-from-peak-on e h =
+      let ran = listing-ran t Accepted e (inl refl) in
+      let ended = accepted-ending (t .limit) (rulesOf (optionsOf t)) 8 (programOf (t .job)) (sym (if-true _ (checksOf t) ran) ∙ e) in
+      if-true _ (checksOf t′) (ap accepts same-checks ∙ ran) ∙ within-answer (t′ .limit) (listedRun t′) (rw same-run h)
+      ∙ ap (λ (x : Run). endAnswer (x .ending)) same-run ∙ ap endAnswer ended
 
 -- ---- an accepted listing
 

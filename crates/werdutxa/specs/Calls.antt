@@ -53,7 +53,7 @@ optionsOf k w c r f e z s d m = record {
 
 -- ---- what a call of Rewriting counts
 
--- the counters, operations and axes: a listing's first line, then the counters that it has not
+-- the counters, operations and axes: a listing's first line but for its last field, then the counters that it has not, then that field
 unfoldable pub countedBy : Counters → ℕ → ℕ → List ℕ
 countedBy c operations axes =
     c .«t_before»
@@ -69,6 +69,7 @@ countedBy c operations axes =
     ∷ c .«t_depth_after»
     ∷ c .«weight_before»
     ∷ c .«weight_after»
+    ∷ c .«packed_words»
     ∷ []
 
 -- what only an accepted run has, by the answer's number: 0 after a refusal, as the counters

@@ -1,5 +1,5 @@
 // Checking, Rewriting and Listing for C: include/werdutxa.h declares them, rust/ has a safe form.
-// In C a slice is a pointer and a length, and `&mut [usize; 13]` a pointer to that many numbers.
+// In C a slice is a pointer and a length, and `&mut [usize; 14]` a pointer to that many numbers.
 ghost use mathlib.Core.Path.{_≡_};
 ghost use Rattle.model.specs.Interface.{numberOf};
 ghost use Rattle.model.specs.Checking.{checking};
@@ -87,7 +87,7 @@ pub extern "C" fn werdutxa_rewrite(
     numbers: &mut [u32],
     result_operations: &mut [u32],
     result_rows: &mut [u32],
-    counted: &mut [usize; 13],
+    counted: &mut [usize; 14],
 ) -> u32
     ensures { λ r. ⌜ ExportedCall
         (optionsOf lookback window candidates rounds «clifford_to_frame» «eager_swaps» «lazy_cliffords» litinski «measure_depth» limit)
@@ -208,8 +208,8 @@ fn if_accepted(answer: u32, n: usize) -> usize
     0
 }
 
-// The counters and how many operations and axes there are, in the order of a listing's first line and then those it has not.
-fn count(c: Counters, operations: usize, axes: usize, to: &mut [usize; 13])
+// The counters and how many operations and axes there are, in the order of a listing's first line and then those it has not, the words last.
+fn count(c: Counters, operations: usize, axes: usize, to: &mut [usize; 14])
     ensures { λ _. ⌜ now (to .exit) ≡ countedBy c operations axes ⌝ }
 {
     *to = [
@@ -226,5 +226,6 @@ fn count(c: Counters, operations: usize, axes: usize, to: &mut [usize; 13])
         c.t_depth_after,
         c.weight_before,
         c.weight_after,
+        c.packed_words,
     ];
 }

@@ -6,8 +6,8 @@ pub struct Flags {
     pub listing: bool,
     /// The gate's listings, with what the lent slices hold after each call.
     pub listings: bool,
-    /// No largest tested sum in the answers' first lines.
-    pub no_sum: bool,
+    /// The largest tested sum as a call has it: 0 after a refusal.
+    pub as_called: bool,
     /// What the lent slices hold after the call, in place of its results.
     pub memory: bool,
     /// Every tested sum before each answer, in lines that begin with #.
@@ -27,7 +27,7 @@ impl Flags {
             let flag = match arg.as_str() {
                 "--listing" => &mut flags.listing,
                 "--listings" => &mut flags.listings,
-                "--no-sum" => &mut flags.no_sum,
+                "--as-called" => &mut flags.as_called,
                 "--memory" => &mut flags.memory,
                 "--sums" => &mut flags.sums,
                 "--stats" => &mut flags.stats,

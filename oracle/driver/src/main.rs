@@ -1,6 +1,6 @@
 //! Reads jobs, runs both copies of the original on each, asserts that they agree, and prints document 01's output.
 //!
-//! driver [--listing] [--listings] [--no-sum] [--memory] [--sums] [--stats] [--quiet] [--time] < jobs
+//! driver [--listing] [--listings] [--as-called] [--memory] [--sums] [--stats] [--quiet] [--time] < jobs
 
 mod agree;
 mod flags;
@@ -41,8 +41,8 @@ fn main() -> io::Result<()> {
                 jobs::listed
             } else if flags.memory {
                 jobs::memory
-            } else if flags.no_sum {
-                jobs::answer_without_sum
+            } else if flags.as_called {
+                jobs::answer_as_called
             } else {
                 jobs::answer
             };

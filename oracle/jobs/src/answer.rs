@@ -6,15 +6,18 @@ use super::job::Job;
 use super::seen::{Accepted, Seen};
 use super::word::Word;
 
-/// The driver's text: the first line with all counters and the largest tested sum, the records, `end`.
+/// Where the first line has the largest tested sum.
+const LARGEST_SUM: usize = 14;
+
+/// The driver's text: the first line with all counters and the largest tested sum, after a refusal too, the records, `end`.
 pub fn answer(job: &Job, seen: &Seen, record: &Record) -> String {
     let mut first = first(seen, record);
-    first.push(record.peak());
+    first[LARGEST_SUM] = record.peak();
     text(first, job, seen, record)
 }
 
-/// The same without the sum.
-pub fn answer_without_sum(job: &Job, seen: &Seen, record: &Record) -> String {
+/// The same as a call of Rewriting has it: the largest tested sum is 0 after a refusal.
+pub fn answer_as_called(job: &Job, seen: &Seen, record: &Record) -> String {
     text(first(seen, record), job, seen, record)
 }
 
@@ -28,7 +31,7 @@ fn text(first: Vec<usize>, job: &Job, seen: &Seen, record: &Record) -> String {
     lines.into_iter().map(text).collect::<String>() + "end\n"
 }
 
-/// Answer, counters, and how many operations and axes there are; zeros after a refusal.
+/// Answer, counters, how many operations and axes there are, and the largest tested sum; zeros after a refusal.
 pub fn first(seen: &Seen, record: &Record) -> Vec<usize> {
     match seen {
         Ok(accepted) => {
@@ -36,18 +39,18 @@ pub fn first(seen: &Seen, record: &Record) -> Vec<usize> {
             let mut first = head(accepted, record);
             first.extend([c.rotations_before, c.rotations_after]);
             first.extend([c.t_depth_before, c.t_depth_after]);
-            first.extend([c.weight_before, c.weight_after]);
+            first.extend([c.weight_before, c.weight_after, record.peak()]);
             first
         }
-        Err(refusal) => [vec![refusal.answer()], vec![0; 13]].concat(),
+        Err(refusal) => [vec![refusal.answer()], vec![0; LARGEST_SUM]].concat(),
     }
 }
 
-/// 01's listing: eight fields in the first line, 8 columns each, right-justified.
+/// 01's listing: nine fields in the first line, 8 columns each, right-justified.
 pub fn listing(job: &Job, seen: &Seen, record: &Record) -> String {
     let first = match seen {
-        Ok(accepted) => head(accepted, record),
-        Err(refusal) => [vec![refusal.answer()], vec![0; 7]].concat(),
+        Ok(accepted) => [head(accepted, record), vec![record.peak()]].concat(),
+        Err(refusal) => [vec![refusal.answer()], vec![0; 8]].concat(),
     };
     let mut lines = vec![first.into_iter().map(|n| n as i64).collect()];
     lines.extend(body(job, seen, record));

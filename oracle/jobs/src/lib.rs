@@ -8,7 +8,7 @@ mod read;
 mod seen;
 mod word;
 
-pub use answer::{answer, answer_without_sum, listing};
+pub use answer::{answer, answer_as_called, listing};
 pub use job::{Job, MAX_LIMIT, NO_TARGET, Options};
 pub use listings::{
     LARGEST_OUTPUT, Lent, handed, listed, listing_text, read_listings, refused_listing,

@@ -9,7 +9,7 @@ use super::read::read_listing;
 use super::seen::Seen;
 
 /// The most bytes that a listing has: a shorter output is refused by 3 (docs/DECISIONS.md).
-pub const LARGEST_OUTPUT: usize = 215_361;
+pub const LARGEST_OUTPUT: usize = 215_369;
 
 /// How long the slices are that a call of Listing is lent: the output, then those of Rewriting.
 #[derive(Clone, Copy, Debug, PartialEq, Eq)]
@@ -68,10 +68,10 @@ pub fn listed(job: &Job, seen: &Seen, record: &Record) -> String {
     printed(answer, &text, &Memory::after(job, seen, record))
 }
 
-/// What it prints of refusals 1 to 8 and 11, which change nothing but the text: by 01 the number and seven zeros, and
+/// What it prints of refusals 1 to 8 and 11, which change nothing but the text: by 01 the number and zeros, and
 /// nothing where there is no room for every listing.
 pub fn refused_listing(answer: usize, lent: Lent) -> String {
-    let mut fields = [0; 8];
+    let mut fields = [0; 9];
     fields[0] = answer as i64;
     let text = if lent.output < LARGEST_OUTPUT {
         String::new()

@@ -158,7 +158,7 @@ pub fn memory(job: &Job, seen: &Seen, record: &Record) -> String {
 
 /// The same after refusals 1 to 8, which change nothing.
 pub fn refused_memory(answer: usize, lengths: Lengths) -> String {
-    let mut first = vec![0; 14];
+    let mut first = vec![0; 15];
     first[0] = answer;
     text(&first, &Memory::before(lengths))
 }

@@ -75,7 +75,7 @@ fn shows(wrong: Run, job: &Job) -> bool {
     }
 }
 
-/// The answer without the largest sum, which a program need not print.
+/// The answer without the largest sum: a wrong reading is to be told by what comes out.
 fn visible(job: &Job, (seen, record): &(Seen, Record)) -> String {
     let record = Record {
         sums: Vec::new(),

@@ -5,8 +5,11 @@ mod guarded;
 use guarded::Guarded;
 use jobs::{Job, Memory, NO_TARGET};
 
-/// T before and after, merges, swaps, absorbed, operations, axes, rotations, T-depth and weight before and after.
-pub type Counted = [usize; 13];
+/// T before and after, merges, swaps, absorbed, operations, axes, rotations, T-depth and weight before and after, and the
+/// largest word sum that was tested, which libraries before M-103 do not write.
+pub type Counted = [usize; COUNTS];
+
+const COUNTS: usize = 14;
 
 pub const OPERATIONS: usize = 5;
 pub const AXES: usize = 6;
@@ -102,7 +105,7 @@ impl<'a> Call<'a> {
             Library::Before => panic!("built without BEFORE"),
         };
         let o = &self.job.options;
-        let mut counted = [usize::MAX; 13];
+        let mut counted = [usize::MAX; COUNTS];
         // SAFETY: each pointer comes with the length of what it points into; no slice that is written overlaps another.
         let answer = unsafe {
             rewrite(

@@ -1,4 +1,4 @@
-//! Reads jobs, rewrites each through the static library, and prints what `driver --no-sum` prints, or `driver --memory`.
+//! Reads jobs, rewrites each through the static library, and prints what `driver --as-called` prints, or `driver --memory`.
 //!
 //! ours [--memory] < jobs
 
