@@ -78,9 +78,11 @@ intern-new l others st w h = if-false _ _ (le-ltb _ _ h)
 -- ---- the answer and the word store, case by case
 
 module _ (l others limit : ℕ) (st : Store) (w : List ℕ) where
-  answer-axis : {st′ : Store} → intern l others st w ≡ st′ → st′ .peak ≤ limit → Axis (axisOf st st′ w) ≡ internAnswer l others limit st w
+  answer-axis : (st′ : Store) → intern l others st w ≡ st′ → st′ .peak ≤ limit → Axis (axisOf st st′ w) ≡ internAnswer l others limit st w
   unfolding internAnswer
-  answer-axis e h = rw (sym e) at (sym (if-false _ _ (le-ltb limit _ h)))
+  answer-axis st′ e h =
+      ap (λ (x : Store). Axis (axisOf st x w)) (sym e)
+      ∙ sym (if-false _ _ (le-ltb limit (intern l others st w .peak) (omega (arith, ap (λ (x : Store). x .peak) e))))
 
   answer-limit : limit < intern l others st w .peak → Full ≡ internAnswer l others limit st w
   unfolding internAnswer
@@ -112,15 +114,15 @@ module _ (z : Sizes) (others peak : ℕ) (ws : List ℕ) (at id : ℕ) {p : List
   count = axes-length (z .l) (z .axes) ws
 
   -- the code's numbers are those of the model's store
-  same-axis : {st′ : Store} {n q : ℕ} → n ≡ length (st′ .axes) → q ≡ st′ .peak
+  same-axis : (st′ : Store) {n q : ℕ} → n ≡ length (st′ .axes) → q ≡ st′ .peak
       → _≡_ {A = StoredAxis} (record { id = id; axes = n; peak = q }) (axisOf st st′ w)
-  same-axis e f = rw (id-of, e, f) refl
+  same-axis st′ e f = rw (id-of, e, f) refl
 
   pub answered-old : peak ≤ z .limit → id < z .axes → Answered z others peak ws at (Axis (record { id = id; axes = z .axes; peak = peak })) ws
   answered-old k h = record {
     answer =
-        ap Axis (same-axis {st} (sym count) refl)
-        ∙ answer-axis (z .l) others (z .limit) st w (intern-old (z .l) others st w (omega (arith, id-of, count))) k;
+        ap Axis (same-axis st (sym count) refl)
+        ∙ answer-axis (z .l) others (z .limit) st w st (intern-old (z .l) others st w (omega (arith, id-of, count))) k;
     words = sym (laid-old _ (z .l) (z .axes) ws w h);
   }
 
@@ -146,8 +148,8 @@ module _ (z : Sizes) (others peak : ℕ) (ws : List ℕ) (at id : ℕ) {p : List
         → (t : List ℕ) → t ≡ put ws b w → Answered z others peak ws at (Axis (record { id = id; axes = z .axes + 1; peak = q })) t
     answered-new k m f t e = record {
       answer =
-          ap Axis (same-axis {next} (sym (length-append (storedAxes z ws) (w ∷ []) ∙ ap (λ (n : ℕ). n + 1) count)) f)
-          ∙ answer-axis (z .l) others (z .limit) st w stored-next (omega arith);
+          ap Axis (same-axis next (sym (length-append (storedAxes z ws) (w ∷ []) ∙ ap (λ (n : ℕ). n + 1) count)) f)
+          ∙ answer-axis (z .l) others (z .limit) st w next stored-next (omega arith);
       words = e ∙ ap (λ (i : ℕ). put ws i w) end ∙ sym (laid-new _ (z .l) (z .axes) ws w new);
     }
 

@@ -22,7 +22,8 @@ returns : tie.Need-returns
 returns c =
     let find = c .before .before in
     let word-at = find .before in
-    stores-old (answered-old _ _ _ _ _ (find .find .ensures) (word-at .word-at .ensures) (c .if1 .taken)) (c .if1 .taken)
+    let start = word-at .before .before .before .before .before in
+    stores-old (answered-old _ _ _ _ _ _ (find .find .ensures) (word-at .word-at .ensures) (start .pre .tested) (c .if1 .taken)) (c .if1 .taken)
 
 mul-n : tie.Need-mul-n
 mul-n c = search needs
@@ -30,11 +31,11 @@ mul-n c = search needs
 axis-at-requires : tie.Need-axis-at-requires
 axis-at-requires c κs = search needs
 
-add-if2 : tie.Need-add-if2
-add-if2 c = search needs
+add-sum : tie.Need-add-sum
+add-sum c = search needs
 
-add-if2-2 : tie.Need-add-if2-2
-add-if2-2 c = search needs
+add-sum-2 : tie.Need-add-sum-2
+add-sum-2 c = search needs
 
 same-length-3 : tie.Need-same-length-3
 same-length-3 c = search needs
@@ -48,7 +49,7 @@ returns-2 c =
     let test = axis-at .before .before in
     let find = test .before .before in
     let word-at = find .before in
-    stores-limit (answered-limit _ _ _ _ _ (find .find .ensures) (word-at .word-at .ensures) (axis-at .axis-at .ensures) (test .if1 .left)
+    stores-limit (answered-limit _ _ _ _ _ _ (find .find .ensures) (word-at .word-at .ensures) (axis-at .axis-at .ensures) (test .if1 .left)
     (c .if2 .taken))
 
 word-at-requires-2 : tie.Need-word-at-requires-2
@@ -64,6 +65,15 @@ put-beside-requires c κs =
 copy-within-requires : tie.Need-copy-within-requires
 copy-within-requires c κs = record { source = omega arith; target = omega arith; apart = inr (omega arith) }
 
+add-t20 : tie.Need-add-t20
+add-t20 c =
+    let start = c .before .before .before .before .before .before .before .before .before .before .before .before .before .before .before in
+    let start = start .before .before .before .before .before .before .before .before in
+    omega (arith, start .pre .held .fit .rows _ (start .pre .held .within), start .pre .held .numbers-long)
+
+peak-with-requires : tie.Need-peak-with-requires
+peak-with-requires c κs = search needs
+
 same-length-5 : tie.Need-same-length-5
 same-length-5 c = search needs
 
@@ -72,7 +82,7 @@ same-length-6 c = search needs
 
 returns-3 : tie.Need-returns-3
 returns-3 c =
-    let copy-within = c .before .before in
+    let copy-within = c .before .before .before .before in
     let put-beside = copy-within .before .before .before .before in
     let word-at2 = put-beside .before in
     let test = word-at2 .before .before .before in
@@ -80,8 +90,10 @@ returns-3 c =
     let test′ = axis-at .before .before in
     let find = test′ .before .before in
     let word-at = find .before in
-    stores-beside (answered-new _ _ _ _ _ (find .find .ensures) (word-at .word-at .ensures) (axis-at .axis-at .ensures) (test′ .if1 .left) _
-    (test .if2 .left) (copy-within .copy-within .ensures)) (word-at2 .word-at2 .ensures) (put-beside .put-beside .ensures)
+    let start = word-at .before .before .before .before .before in
+    stores-beside (answered-new _ _ _ _ _ _ (find .find .ensures) (word-at .word-at .ensures) (axis-at .axis-at .ensures) (test′ .if1 .left)
+    (start .pre .tested) (test .if2 .left) (c .peak-with .ensures) _ (copy-within .copy-within .ensures)) (word-at2 .word-at2 .ensures)
+    (put-beside .put-beside .ensures)
 
 pub intern-spec : {M : Type 1} → statement M
 intern-spec =
@@ -94,14 +106,16 @@ intern-spec =
     returns
     mul-n
     axis-at-requires
-    add-if2
-    add-if2-2
+    add-sum
+    add-sum-2
     same-length-3
     same-length-4
     returns-2
     word-at-requires-2
     put-beside-requires
     copy-within-requires
+    add-t20
+    peak-with-requires
     same-length-5
     same-length-6
     returns-3)
