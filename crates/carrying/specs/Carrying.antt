@@ -15,7 +15,6 @@ use Rattle.layout.specs.Only.{Only, only-none}
 use Rattle.layout.specs.Wide.{wide-kept}
 use Rattle.layout.specs.Words.{axisPlace, slotPlace, scratchPlace, KeptFrom, slot-in, kept-none, kept-then, kept-later, words-kept}
 use Rattle.layout.specs.Words.{kept-part, slot-counted}
-use Rattle.layout.specs.Shape.{longestRow}
 use Rattle.axes.specs.View.{wordAt}
 use Rattle.axes.specs.Held.{sizesOf, held-count, held-stored}
 use Rattle.interning.specs.declared.Interned.{Interned}
@@ -96,11 +95,11 @@ module _ {z : Shape} {st : State} {id : ℕ} {ws xs : List ℕ} {t : Touched} (h
   pub carry-words : (axisPlace (z .l) id + 2 * z .l ≤ z .limit) × (z .limit + 16 * z .l ≤ length ws)
   carry-words = (axis-in (h .axis .at .holds) (h .axis .id-in), h .axis .at .granted .words-long)
 
-  pub carry-numbers : ((st .axes) < longestRow) × ((st .slots) * (6 * z .l) ≤ 1048576) × (z .limit ≤ 1048576) × (z .l ≤ 64)
+  pub carry-numbers : ((st .slots) * (6 * z .l) ≤ 1048576) × (z .limit ≤ 1048576) × (z .l ≤ 64)
   carry-numbers =
       let r = h .axis .at .holds .room in
       let s = h .axis .at .granted .sized in
-      (omega (arith, s .words-row (st .axes) (omega arith), s .u-small), omega (arith, s .limit), s .limit, s .few)
+      (omega (arith, s .limit), s .limit, s .few)
 
   -- F leaves it: it has its id, and nothing is stored
   pub fixed-to : {a b : ℕ} {s : State} → a ≡ axisPlace (z .l) id → b ≡ maskPlace z → NoneMarked (z .l) ws a b (z .l)
