@@ -90,7 +90,10 @@ module _ {z : Shape} {st : State} {id : ℕ} {ws xs : List ℕ} {t : Touched} (h
   id-count = omega (arith, axes-count, h .axis .id-in)
 
   pub carry-at : CarryAt z id ws xs t
-  carry-at = record { held = record { axes = (st .axes); slots = (st .slots); peak = (st .peak); at = h .axis .at; id-in = h .axis .id-in }; inside = h .axis .inside }
+  carry-at = record {
+    held = record { axes = st .axes; slots = st .slots; peak = st .peak; at = h .axis .at; id-in = h .axis .id-in };
+    inside = h .axis .inside;
+  }
 
   pub carry-words : (axisPlace (z .l) id + 2 * z .l ≤ z .limit) × (z .limit + 16 * z .l ≤ length ws)
   carry-words = (axis-in (h .axis .at .holds) (h .axis .id-in), h .axis .at .granted .words-long)
@@ -111,7 +114,9 @@ module _ {z : Shape} {st : State} {id : ℕ} {ws xs : List ℕ} {t : Touched} (h
         id-in = h .axis .id-in;
         turns-are = sym (ap (λ (v : Value). v .turns) image);
         small = omega arith;
-        holds = subst (λ (store : Store). Holds z (st .axes) (st .slots) (st .peak) ws xs (record { store = store; held = t .held })) (sym same) (h .axis .at .holds);
+        holds =
+            subst (λ (store : Store). Holds z (st .axes) (st .slots) (st .peak) ws xs (record { store = store; held = t .held })) (sym same)
+            (h .axis .at .holds);
         same = refl;
       })
     where
