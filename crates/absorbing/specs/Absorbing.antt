@@ -27,28 +27,29 @@ use Rattle.clifford.specs.Holds.{Holds, SomeTouched, fRows, LeftF, TouchedAs, a
 use Rattle.absorbing.specs.Turning.{TurnsPre, ImagesTurned}
 
 -- angle k, which is 2, 4 or 6, about axis id
-pub record AbsorbAt (z : Shape) (n m id k : ℕ) (ws xs : List ℕ) (t : Touched) : Type 0 where
-  pub axis : AxisAt z n m id ws xs t
+pub record AbsorbAt (z : Shape) (n m p id k : ℕ) (ws xs : List ℕ) (t : Touched) : Type 0 where
+  pub axis : AxisAt z n m p id ws xs t
   pub quarters : IsQuarters k
 
 -- what the call that touches leaves
 abbrev pub AxisLeft : Shape → State → ℕ → List ℕ → List ℕ → Step → List ℕ → List ℕ → Type 0
 AxisLeft z st id ws xs r ws′ xs′ =
     LeftF z ws xs ws′ xs′
-    × ((t : Touched) → AxisAt z (st .axes) (st .slots) id ws xs t
+    × ((t : Touched) → AxisAt z (st .axes) (st .slots) (st .peak) id ws xs t
     → TouchedAs z st r ws′ xs′ (touchAll (z .l) t (support (z .l) (wordOf (t .store .axes) id))))
 
 -- ---- the images change
 
-module _ {z : Shape} {n m b k : ℕ} {ws xs ws′ xs′ : List ℕ} {t : Touched} (h : Holds z n m ws xs t)
+module _ {z : Shape} {n m p b k : ℕ} {ws xs ws′ xs′ : List ℕ} {t : Touched} (h : Holds z n m p ws xs t)
     (turned : ImagesTurned z (3 * m) b k ws xs ws′ xs′) where
   images-behind : axisPlace (z .l) n ≤ z .limit - 3 * m * (2 * z .l)
   images-behind = omega (arith, h .room)
 
-  pub turned-holds : Holds z n m ws′ xs′ (record { store = t .store; held = map (absorbImages (z .l) (wordAt (z .l) ws b) k) (t .held) })
+  pub turned-holds : Holds z n m p ws′ xs′ (record { store = t .store; held = map (absorbImages (z .l) (wordAt (z .l) ws b) k) (t .held) })
   unfolding member anyOf
   turned-holds = record {
     axes = held-rows (held-words (h .axes) (turned .words) images-behind) (turned .numbers) refl;
+    peak-is = h .peak-is;
     peak-in = h .peak-in;
     count = length-map (t .held) (absorbImages (z .l) (wordAt (z .l) ws b) k) ∙ h .count;
     room = h .room;
@@ -74,17 +75,17 @@ module _ {z : Shape} {n m b k : ℕ} {ws xs ws′ xs′ : List ℕ} {t : Touched
 -- ---- both steps
 
 module _ {z : Shape} {st : State} {id k : ℕ} {ws xs ws₁ xs₁ : List ℕ} {r : Step} (touched : AxisLeft z st id ws xs r ws₁ xs₁) where
-  pub absorb-limit : r ≡ ExpansionLimit → (t : Touched) → AbsorbAt z (st .axes) (st .slots) id k ws xs t
+  pub absorb-limit : r ≡ ExpansionLimit → (t : Touched) → AbsorbAt z (st .axes) (st .slots) (st .peak) id k ws xs t
       → TouchedAs z st ExpansionLimit ws₁ xs₁ (absorbWord (z .l) t (wordOf (t .store .axes) id) k)
   unfolding absorbWord
   absorb-limit e t h = as-limit (touched .1 t (h .axis) .refused e)
 
   module _ {s : State} (e : r ≡ Next s) where
-    module _ {t : Touched} (h : AbsorbAt z (st .axes) (st .slots) id k ws xs t) where
+    module _ {t : Touched} (h : AbsorbAt z (st .axes) (st .slots) (st .peak) id k ws xs t) where
       now-granted : Granted z ws₁ xs₁
       now-granted = granted-left (h .axis .at .granted) (touched .0)
 
-      now-holds : Holds z (s .axes) (s .slots) ws₁ xs₁ (touchAll (z .l) t (support (z .l) (wordOf (t .store .axes) id)))
+      now-holds : Holds z (s .axes) (s .slots) (s .peak) ws₁ xs₁ (touchAll (z .l) t (support (z .l) (wordOf (t .store .axes) id)))
       now-holds = touched .1 t (h .axis) .held s e
 
       -- as many axes as before
@@ -94,19 +95,19 @@ module _ {z : Shape} {st : State} {id k : ℕ} {ws xs ws₁ xs₁ : List ℕ} {r
       images-entry : 3 * s .slots < z .u
       images-entry = now-granted .sized .words-row (3 * s .slots) (omega (arith, now-holds .room))
 
-    pub absorb-reads : SomeTouched (λ (t : Touched). AbsorbAt z (st .axes) (st .slots) id k ws xs t)
+    pub absorb-reads : SomeTouched (λ (t : Touched). AbsorbAt z (st .axes) (st .slots) (st .peak) id k ws xs t)
         → (rowCount * z .u ≤ length xs₁) × (signatureRow + 1 < rowCount) × (id < z .u)
     absorb-reads s = (now-granted (s .it) .numbers-long, omega arith, held-entry (now-holds (s .it) .axes) id (id-in (s .it)))
 
-    pub absorb-small : SomeTouched (λ (t : Touched). AbsorbAt z (st .axes) (st .slots) id k ws xs t) → 3 * s .slots < 1187839
+    pub absorb-small : SomeTouched (λ (t : Touched). AbsorbAt z (st .axes) (st .slots) (st .peak) id k ws xs t) → 3 * s .slots < 1187839
     absorb-small s = omega (arith, images-entry (s .it), now-granted (s .it) .sized .u-small)
 
-    pub absorb-left : SomeTouched (λ (t : Touched). AbsorbAt z (st .axes) (st .slots) id k ws xs t) → {a : ℕ} {ws₂ xs₂ : List ℕ}
+    pub absorb-left : SomeTouched (λ (t : Touched). AbsorbAt z (st .axes) (st .slots) (st .peak) id k ws xs t) → {a : ℕ} {ws₂ xs₂ : List ℕ}
         → ImagesTurned z (3 * s .slots) a k ws₁ xs₁ ws₂ xs₂ → LeftF z ws xs ws₂ xs₂
     absorb-left s turned = left-then (touched .0) (turned-left (now-holds (s .it)) turned)
 
     module _ {a : ℕ} (place : a ≡ axisPlace (z .l) id) where
-      module _ {t : Touched} (h : AbsorbAt z (st .axes) (st .slots) id k ws xs t) where
+      module _ {t : Touched} (h : AbsorbAt z (st .axes) (st .slots) (st .peak) id k ws xs t) where
         -- the axis is where it was
         now-axis : wordAt (z .l) ws₁ a ≡ wordOf (touchAll (z .l) t (support (z .l) (wordOf (t .store .axes) id)) .store .axes) id
         now-axis =
@@ -136,6 +137,6 @@ module _ {z : Shape} {st : State} {id k : ℕ} {ws xs ws₁ xs₁ : List ℕ} {r
         unfolding absorbWord
         absorb-holds turned = as-next (touched .1 t (h .axis) .kept s e) (rw same-axis at (turned-holds (now-holds h) turned))
 
-      pub absorb-turns : SomeTouched (λ (t : Touched). AbsorbAt z (st .axes) (st .slots) id k ws xs t)
+      pub absorb-turns : SomeTouched (λ (t : Touched). AbsorbAt z (st .axes) (st .slots) (st .peak) id k ws xs t)
           → {v : ℕ} → v ≡ wideAt xs₁ (z .u) signatureRow id → TurnsPre z (3 * s .slots) a v k ws₁ xs₁
       absorb-turns s read = turns-there (s .it) read

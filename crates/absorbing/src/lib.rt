@@ -32,9 +32,9 @@ fn touch_bits(
     j: usize,
     acted: u64,
 ) -> Step
-    requires { ⌜ SomeTouched (λ (t : Touched). BitsAt shape (first .axes) (first .slots) j acted (now words) (now numbers) t) ⌝ }
+    requires { ⌜ SomeTouched (λ (t : Touched). BitsAt shape (first .axes) (first .slots) (first .peak) j acted (now words) (now numbers) t) ⌝ }
     ensures { λ r. ⌜ LeftF shape (now (words .entry)) (now (numbers .entry)) (now (words .exit)) (now (numbers .exit))
-        × ((t : Touched) → BitsAt shape (first .axes) (first .slots) j acted (now (words .entry)) (now (numbers .entry)) t
+        × ((t : Touched) → BitsAt shape (first .axes) (first .slots) (first .peak) j acted (now (words .entry)) (now (numbers .entry)) t
         → TouchedAs shape first r (now (words .exit)) (now (numbers .exit)) (touchAll (shape .l) t (setBits 64 (64 * j) acted))) ⌝ }
 {
     let mut st = first;
@@ -53,9 +53,9 @@ fn touch_bits(
 
 // Touches the qubits of axis id.
 fn touch_all(words: &mut [u64], numbers: &mut [u32], shape: Shape, first: State, id: usize) -> Step
-    requires { ⌜ SomeTouched (λ (t : Touched). AxisAt shape (first .axes) (first .slots) id (now words) (now numbers) t) ⌝ }
+    requires { ⌜ SomeTouched (λ (t : Touched). AxisAt shape (first .axes) (first .slots) (first .peak) id (now words) (now numbers) t) ⌝ }
     ensures { λ r. ⌜ LeftF shape (now (words .entry)) (now (numbers .entry)) (now (words .exit)) (now (numbers .exit))
-        × ((t : Touched) → AxisAt shape (first .axes) (first .slots) id (now (words .entry)) (now (numbers .entry)) t
+        × ((t : Touched) → AxisAt shape (first .axes) (first .slots) (first .peak) id (now (words .entry)) (now (numbers .entry)) t
         → TouchedAs shape first r (now (words .exit)) (now (numbers .exit))
         (touchAll (shape .l) t (support (shape .l) (wordOf (t .store .axes) id)))) ⌝ }
 {
@@ -169,9 +169,9 @@ pub fn absorb(
     id: usize,
     k: u32,
 ) -> Step
-    requires { ⌜ SomeTouched (λ (t : Touched). AbsorbAt shape (st .axes) (st .slots) id k (now words) (now numbers) t) ⌝ }
+    requires { ⌜ SomeTouched (λ (t : Touched). AbsorbAt shape (st .axes) (st .slots) (st .peak) id k (now words) (now numbers) t) ⌝ }
     ensures { λ r. ⌜ LeftF shape (now (words .entry)) (now (numbers .entry)) (now (words .exit)) (now (numbers .exit))
-        × ((t : Touched) → AbsorbAt shape (st .axes) (st .slots) id k (now (words .entry)) (now (numbers .entry)) t
+        × ((t : Touched) → AbsorbAt shape (st .axes) (st .slots) (st .peak) id k (now (words .entry)) (now (numbers .entry)) t
         → TouchedAs shape st r (now (words .exit)) (now (numbers .exit)) (absorbWord (shape .l) t (wordOf (t .store .axes) id) k)) ⌝ }
 {
     let t = touch_all(words, numbers, shape, st, id);

@@ -15,14 +15,14 @@ use Rattle.layout.specs.Only.{Only, only-none}
 use Rattle.layout.specs.Wide.{wide-kept}
 use Rattle.layout.specs.Words.{axisPlace, slotPlace, scratchPlace, KeptFrom, slot-in, kept-none, kept-then, kept-later, words-kept}
 use Rattle.layout.specs.Words.{kept-part, slot-counted}
-use Rattle.layout.specs.Shape.{longestRow}
 use Rattle.axes.specs.View.{wordAt}
 use Rattle.axes.specs.Held.{sizesOf, held-count, held-stored}
 use Rattle.interning.specs.declared.Interned.{Interned}
-use Rattle.interning.specs.declared.Interned.the-variants.{Id, Full}
+use Rattle.interning.specs.declared.Interned.the-variants.{Axis, Full}
+use Rattle.interning.specs.declared.StoredAxis.{StoredAxis}
 use Rattle.axes.specs.declared.Sizes.{Sizes}
-use Rattle.interning.specs.Intern.{InternPre, Stores, intern-old, countWith}
-use Rattle.interning.specs.Stored.{HasId, NoRoom, InternedAs, interned-is}
+use Rattle.interning.specs.Intern.{InternPre, Stores, intern-old}
+use Rattle.interning.specs.Stored.{HasAxis, NoRoom, InternedAs, interned-is}
 use Rattle.steps.specs.declared.State.{State}
 use Rattle.steps.specs.declared.Step.{Step}
 use Rattle.steps.specs.declared.Step.the-variants.{Next, ExpansionLimit}
@@ -43,7 +43,7 @@ carriedStore l t a = intern l (imageWords l (t .held)) (t .store) (imageOfAxis l
 
 -- id is an axis, and every axis is a word that is stored once
 pub record CarryPre (z : Shape) (st : State) (id : ℕ) (ws xs : List ℕ) (t : Touched) : Type 0 where
-  pub axis : AxisAt z (st .axes) (st .slots) id ws xs t
+  pub axis : AxisAt z (st .axes) (st .slots) (st .peak) id ws xs t
   pub stored : StoredWords (z .l) (t .store .axes)
 
 -- what carrying leaves of both stores: where an axis is stored, rows that are kept for axes may change
@@ -60,16 +60,16 @@ pub record CarriedTo (z : Shape) (st : State) (id : ℕ) (t : Touched) (ws xs : 
   pub id-in : s .id < s .axes
   pub turns-are : s .turns ≡ imageOfAxis (z .l) t id .turns
   pub small : s .turns < 4
-  pub holds : Holds z (s .axes) (st .slots) ws xs (record { store = carriedStore (z .l) t id; held = t .held })
-  pub same : s ≡ withImage (s .axes) (s .id) (s .turns) st
+  pub holds : Holds z (s .axes) (st .slots) (s .peak) ws xs (record { store = carriedStore (z .l) t id; held = t .held })
+  pub same : s ≡ withImage (s .axes) (s .peak) (s .id) (s .turns) st
 
 -- what an answer means: the image is stored, or the model's peak is above the limit
 pub record CarriedAs (z : Shape) (st : State) (id : ℕ) (t : Touched) (r : Step) (ws xs : List ℕ) : Type 0 where
   pub to : (s : State) → r ≡ Next s → CarriedTo z st id t ws xs s
   pub refused : r ≡ ExpansionLimit → z .limit < carriedStore (z .l) t id .peak
 
-pub as-to : {z : Shape} {st s : State} {n a e id : ℕ} {t : Touched} {ws xs : List ℕ} → s ≡ withImage n a e st
-    → CarriedTo z st id t ws xs (withImage n a e st) → CarriedAs z st id t (Next s) ws xs
+pub as-to : {z : Shape} {st s : State} {n p a e id : ℕ} {t : Touched} {ws xs : List ℕ} → s ≡ withImage n p a e st
+    → CarriedTo z st id t ws xs (withImage n p a e st) → CarriedAs z st id t (Next s) ws xs
 as-to {z} {st} {s} {id = id} {t} {ws} {xs} f h = record {
   to = λ k e. let g : s ≡ k = cc in subst (CarriedTo z st id t ws xs) (sym f ∙ g) h;
   refused = λ e. let g : _≡_ {A = ℕ} 0 1 = cc in absurd (omega arith);
@@ -90,20 +90,23 @@ module _ {z : Shape} {st : State} {id : ℕ} {ws xs : List ℕ} {t : Touched} (h
   id-count = omega (arith, axes-count, h .axis .id-in)
 
   pub carry-at : CarryAt z id ws xs t
-  carry-at = record { held = record { axes = (st .axes); slots = (st .slots); at = h .axis .at; id-in = h .axis .id-in }; inside = h .axis .inside }
+  carry-at = record {
+    held = record { axes = st .axes; slots = st .slots; peak = st .peak; at = h .axis .at; id-in = h .axis .id-in };
+    inside = h .axis .inside;
+  }
 
   pub carry-words : (axisPlace (z .l) id + 2 * z .l ≤ z .limit) × (z .limit + 16 * z .l ≤ length ws)
   carry-words = (axis-in (h .axis .at .holds) (h .axis .id-in), h .axis .at .granted .words-long)
 
-  pub carry-numbers : ((st .axes) < longestRow) × ((st .slots) * (6 * z .l) ≤ 1048576) × (z .limit ≤ 1048576) × (z .l ≤ 64)
+  pub carry-numbers : ((st .slots) * (6 * z .l) ≤ 1048576) × (z .limit ≤ 1048576) × (z .l ≤ 64)
   carry-numbers =
       let r = h .axis .at .holds .room in
       let s = h .axis .at .granted .sized in
-      (omega (arith, s .words-row (st .axes) (omega arith), s .u-small), omega (arith, s .limit), s .limit, s .few)
+      (omega (arith, s .limit), s .limit, s .few)
 
   -- F leaves it: it has its id, and nothing is stored
   pub fixed-to : {a b : ℕ} {s : State} → a ≡ axisPlace (z .l) id → b ≡ maskPlace z → NoneMarked (z .l) ws a b (z .l)
-      → s ≡ withImage (st .axes) id 0 st → CarriedAs z st id t (Next s) ws xs
+      → s ≡ withImage (st .axes) (st .peak) id 0 st → CarriedAs z st id t (Next s) ws xs
   unfolding imageOfAxis carriedStore
   fixed-to {a} place mask marked with-image =
       as-to with-image (record {
@@ -111,7 +114,9 @@ module _ {z : Shape} {st : State} {id : ℕ} {ws xs : List ℕ} {t : Touched} (h
         id-in = h .axis .id-in;
         turns-are = sym (ap (λ (v : Value). v .turns) image);
         small = omega arith;
-        holds = subst (λ (store : Store). Holds z (st .axes) (st .slots) ws xs (record { store = store; held = t .held })) (sym same) (h .axis .at .holds);
+        holds =
+            subst (λ (store : Store). Holds z (st .axes) (st .slots) (st .peak) ws xs (record { store = store; held = t .held })) (sym same)
+            (h .axis .at .holds);
         same = refl;
       })
     where
@@ -127,7 +132,7 @@ module _ {z : Shape} {st : State} {id : ℕ} {ws xs : List ℕ} {t : Touched} (h
 
   -- it is worked out behind the limit
   module _ {ws₁ : List ℕ} {e : ℕ} (word : WordCarried z id ws t ws₁ e) where
-    now-holds : Holds z (st .axes) (st .slots) ws₁ xs t
+    now-holds : Holds z (st .axes) (st .slots) (st .peak) ws₁ xs t
     now-holds = holds-behind (word .words) (h .axis .at .holds)
 
     long₁ : z .limit + 16 * z .l ≤ length ws₁
@@ -139,10 +144,11 @@ module _ {z : Shape} {st : State} {id : ℕ} {ws xs : List ℕ} {t : Touched} (h
 
     -- whatever words are counted besides the axes
     pub intern-there : {o others : ℕ} {y : Sizes} → o ≡ scratchPlace (z .limit) → y ≡ sizesOf z (st .axes) → others ≤ z .limit
-        → InternPre y others ws₁ xs o
+        → InternPre y others (st .peak) ws₁ xs o
     intern-there e f counted = rw f (record {
       held = held-stored (now-holds .axes);
       counted = counted;
+      tested = now-holds .peak-in;
       word-in = omega (arith, long₁);
       behind = omega arith;
     })
@@ -159,13 +165,16 @@ module _ {z : Shape} {st : State} {id : ℕ} {ws xs : List ℕ} {t : Touched} (h
     images-in = omega (arith, h .axis .at .holds .room)
 
     module _ {r : Interned} {ws₂ xs₂ : List ℕ} {o : ℕ} {y : Sizes} (scratch : o ≡ scratchPlace (z .limit)) (sizes : y ≡ sizesOf z (st .axes))
-        (said : Stores y ((st .slots) * (6 * z .l)) ws₁ xs o r ws₂ xs₂) where
+        (said : Stores y ((st .slots) * (6 * z .l)) (st .peak) ws₁ xs o r ws₂ xs₂) where
+      -- of the model's store
+      said-of : Stores (sizesOf z (st .axes)) ((st .slots) * (6 * z .l)) (t .store .peak) ws₁ xs (z .limit) r ws₂ xs₂
+      said-of = rw (now-holds .peak-is) (rw (scratch, sizes) at said)
+
       -- what the answer means
       meant : InternedAs (sizesOf z (st .axes)) ((st .slots) * (6 * z .l)) ws₁ xs (t .store) (wordAt (z .l) ws₁ (z .limit)) r ws₂ xs₂
       meant =
-          interned-is (sizesOf z (st .axes)) ((st .slots) * (6 * z .l)) ws₁ xs (z .limit) (intern-there refl refl images-in) (t .store) (now-holds .axes)
-          (rw (scratch, sizes) at said)
-          (now-holds .peak-in)
+          interned-is (sizesOf z (st .axes)) ((st .slots) * (6 * z .l)) ws₁ xs (z .limit) (t .store)
+          (rw (now-holds .peak-is) (intern-there refl refl images-in)) (now-holds .axes) said-of
 
       module _ (f : r ≡ Full) where
         no-room : NoRoom (sizesOf z (st .axes)) ((st .slots) * (6 * z .l)) ws₁ xs (t .store) (wordAt (z .l) ws₁ (z .limit)) ws₂ xs₂
@@ -179,8 +188,8 @@ module _ {z : Shape} {st : State} {id : ℕ} {ws xs : List ℕ} {t : Touched} (h
         pub carry-limit : CarriedAs z st id t ExpansionLimit ws₂ xs₂
         carry-limit = as-refused (rw store-is (no-room .exceeds))
 
-      module _ {new : ℕ} (f : r ≡ Id new) where
-        has : HasId (sizesOf z (st .axes)) ((st .slots) * (6 * z .l)) ws₁ xs (t .store) (wordAt (z .l) ws₁ (z .limit)) new ws₂ xs₂
+      module _ {a : StoredAxis} (f : r ≡ Axis a) where
+        has : HasAxis (sizesOf z (st .axes)) ((st .slots) * (6 * z .l)) ws₁ xs (t .store) (wordAt (z .l) ws₁ (z .limit)) a ws₂ xs₂
         has =
             subst (λ (x : Interned). InternedAs (sizesOf z (st .axes)) ((st .slots) * (6 * z .l)) ws₁ xs (t .store)
             (wordAt (z .l) ws₁ (z .limit)) x ws₂ xs₂) f meant
@@ -200,13 +209,14 @@ module _ {z : Shape} {st : State} {id : ℕ} {ws xs : List ℕ} {t : Touched} (h
             (omega (arith, slot-counted (z .limit) (z .l) (3 * (st .slots)) room i b))
             (omega (arith, slot-in (z .limit) (z .l) (3 * (st .slots)) room i b, long₁)))
 
-        next-holds : Holds z (countWith (st .axes) new) (st .slots) ws₂ xs₂ (record {
+        next-holds : Holds z (a .axes) (st .slots) (a .peak) ws₂ xs₂ (record {
           store = intern (z .l) ((st .slots) * (6 * z .l)) (t .store) (wordAt (z .l) ws₁ (z .limit));
           held = t .held;
         })
         unfolding member anyOf
         next-holds = record {
           axes = has .held;
+          peak-is = has .peak-is;
           peak-in = has .fits;
           count = h .axis .at .holds .count;
           room = has .room (now-holds .room);
@@ -217,17 +227,16 @@ module _ {z : Shape} {st : State} {id : ℕ} {ws xs : List ℕ} {t : Touched} (h
           mask = λ q b g. ap (λ (x : ℕ). bit x (q % 64)) (kept₂ .kept _ (omega arith)) ∙ now-holds .mask q b g;
         }
 
-        new-in : new < countWith (st .axes) new
+        new-in : a .id < a .axes
         new-in =
             let k = id-in (z .l) ((st .slots) * (6 * z .l)) (t .store) (wordAt (z .l) ws₁ (z .limit)) in
             let old = id-stored (z .l) ((st .slots) * (6 * z .l)) (t .store) (wordAt (z .l) ws₁ (z .limit)) in
             omega (arith, k, old, has .id-is, held-count (has .held))
 
-        pub carry-to : {count : ℕ} {s : State} → count ≡ countWith (st .axes) new → s ≡ withImage count new e st
-            → CarriedAs z st id t (Next s) ws₂ xs₂
+        pub carry-to : {s : State} → s ≡ withImage (a .axes) (a .peak) (a .id) e st → CarriedAs z st id t (Next s) ws₂ xs₂
         unfolding imageOfAxis
-        carry-to g with-image =
-            as-to with-image (rw g (record {
+        carry-to with-image =
+            as-to with-image (record {
               id-is =
                   has .id-is ∙ sym (id-stored (z .l) ((st .slots) * (6 * z .l)) (t .store) (wordAt (z .l) ws₁ (z .limit)))
                   ∙ ap₂ (λ (store : Store) (w : List ℕ). idOf (store .axes) w) (sym store-is) the-word;
@@ -235,7 +244,7 @@ module _ {z : Shape} {st : State} {id : ℕ} {ws xs : List ℕ} {t : Touched} (h
               turns-are = unfold scratchValue in (ap (λ (v : Value). v .turns) (word .value));
               small = word .small;
               holds =
-                  subst (λ (store : Store). Holds z (countWith (st .axes) new) (st .slots) ws₂ xs₂ (record { store = store; held = t .held }))
+                  subst (λ (store : Store). Holds z (a .axes) (st .slots) (a .peak) ws₂ xs₂ (record { store = store; held = t .held }))
                   (sym store-is) next-holds;
               same = refl;
-            }))
+            })

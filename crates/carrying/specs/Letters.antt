@@ -37,7 +37,8 @@ use Rattle.carrying.specs.Scratch.{scratchValue, TimesPre, ScratchTimes}
 pub record AxisHeld (z : Shape) (id : ℕ) (ws xs : List ℕ) (t : Touched) : Type 0 where
   pub axes : ℕ
   pub slots : ℕ
-  pub at : HeldAt z axes slots ws xs t
+  pub peak : ℕ
+  pub at : HeldAt z axes slots peak ws xs t
   pub id-in : id < axes
 
 -- what lies behind the limit may change
@@ -47,6 +48,7 @@ pub axis-behind : {z : Shape} {id : ℕ} {ws xs ws′ : List ℕ} {t : Touched} 
 axis-behind h k = record {
   axes = h .axes;
   slots = h .slots;
+  peak = h .peak;
   at = record {
     granted = granted-same (h .at .granted) (k .long) refl;
     holds = holds-behind k (h .at .holds);

@@ -130,7 +130,7 @@ fn carry_word(words: &mut [u64], numbers: &[u32], shape: Shape, id: usize) -> u3
     carry_letters(words, numbers, shape, id)
 }
 
-// The image of axis id: its word's id, stored if it is new, and its quarter turns. The limit is tested with F's images counted.
+// The image of axis id: its word's id, stored if it is new, and its quarter turns. The sum that is tested counts F's images.
 pub fn carry(words: &mut [u64], numbers: &mut [u32], shape: Shape, st: State, id: usize) -> Step
     requires { ⌜ SomeTouched (λ (t : Touched). CarryPre shape st id (now words) (now numbers) t) ⌝ }
     ensures { λ r. ⌜ LeftCarried shape (now (words .entry)) (now (numbers .entry)) (now (words .exit)) (now (numbers .exit))
@@ -140,16 +140,15 @@ pub fn carry(words: &mut [u64], numbers: &mut [u32], shape: Shape, st: State, id
     let at = layout::axis_at(shape.l, id);
     let mask = clifford::mask_at(shape.limit, shape.l);
     if fixes(&words[..], at, mask, shape.l) {
-        return Step::Next(steps::with_image(st, st.axes, id, 0));
+        return Step::Next(steps::with_image(st, st.axes, st.peak, id, 0));
     }
     let turns = carry_word(words, &numbers[..], shape, id);
     let counted = st.slots * (6 * shape.l);
     let scratch = layout::scratch_at(shape.limit);
     let z = axes::sizes_of(shape, st.axes);
-    let i = interning::intern(words, numbers, z, counted, scratch);
-    let Interned::Id(new) = i else {
+    let i = interning::intern(words, numbers, z, counted, st.peak, scratch);
+    let Interned::Axis(a) = i else {
         return Step::ExpansionLimit;
     };
-    let count = interning::count_with(st.axes, new);
-    Step::Next(steps::with_image(st, count, new, turns))
+    Step::Next(steps::with_image(st, a.axes, a.peak, a.id, turns))
 }

@@ -21,7 +21,7 @@ use Rattle.clifford.specs.Holds.{maskPlace, Holds, fRows, LeftF}
 pub record Begun (z : Shape) (ws xs ws′ xs′ : List ℕ) : Type 0 where
   pub left : LeftF z ws xs ws′ xs′
   pub begun : (n : ℕ) (st : Store) → HoldsAxes (sizesOf z n) ws xs (st .axes) → st .peak ≤ z .limit
-      → Holds z n 0 ws′ xs′ (record { store = st; held = [] })
+      → Holds z n 0 (st .peak) ws′ xs′ (record { store = st; held = [] })
 
 pub begin-holds : {z : Shape} {ws xs ws′ xs′ : List ℕ} {a : ℕ} → Granted z ws xs → a ≡ z .limit + 4 * z .l
     → ws′ ≡ put ws a (replicate (z .l) 0) → xs′ ≡ put xs (fSlot * z .u) (replicate (z .qubits) 0) → Begun z ws xs ws′ xs′
@@ -30,6 +30,7 @@ begin-holds {z} {ws} {xs} {ws′} {xs′} {a} g e f k = record {
   left = record { words = words-kept behind; numbers = only-of fRows refl cleared };
   begun = λ n st h fits. record {
     axes = held-rows (held-words h behind (omega (arith, h .within))) cleared refl;
+    peak-is = refl;
     peak-in = fits;
     count = refl;
     room = omega (arith, h .within);

@@ -11,4 +11,4 @@ a & b = (a, b)
 abbrev pub fields : Counters → Values (T.the-type .parts)
 fields h =
     h .«t_before» & h .«t_after» & h .«rotations_before» & h .«rotations_after» & h .merges & h .swaps & h .«cliffords_to_frame» &
-    h .«t_depth_before» & h .«t_depth_after» & h .«weight_before» & h .«weight_after» & tt
+    h .«t_depth_before» & h .«t_depth_after» & h .«weight_before» & h .«weight_after» & h .«packed_words» & tt

@@ -43,18 +43,18 @@ pub record Room (c : Counters) : Type 0 where
   pub absorbed : c .«cliffords_to_frame» + 8589934592 < 2 ^ 64
 
 -- what the stream leaves, and what it counted
-pub record CountedAs (z : Shape) (c : StreamRules) (k n : ℕ) (ws xs : List ℕ) (r : Counted) (ws′ xs′ : List ℕ) : Type 0 where
+pub record CountedAs (z : Shape) (c : StreamRules) (k n peak : ℕ) (ws xs : List ℕ) (r : Counted) (ws′ xs′ : List ℕ) : Type 0 where
   pub left : LeftP z ws xs ws′ xs′
-  pub passed : (prog : Program) (w : Work) (g : Rules) → PassAtWork z c prog w n k ws xs g → PassedAs z c prog w g (r .outcome) ws′ xs′
+  pub passed : (prog : Program) (w : Work) (g : Rules) → PassAtWork z c prog w n k peak ws xs g → PassedAs z c prog w g (r .outcome) ws′ xs′
   pub merges : r .merges ≡ mergesOf (r .outcome)
   pub absorbed : r .absorbed ≡ absorbedOf (r .outcome)
   pub few : r .merges + r .absorbed ≤ 8589934592
 
 -- what the stream leaves, the counters lent
-pub record StreamedAs (z : Shape) (c : StreamRules) (k n : ℕ) (ws xs : List ℕ) (h : Counters) (r : Step)
+pub record StreamedAs (z : Shape) (c : StreamRules) (k n peak : ℕ) (ws xs : List ℕ) (h : Counters) (r : Step)
     (ws′ xs′ : List ℕ) (h′ : Counters) : Type 0 where
   pub left : LeftP z ws xs ws′ xs′
-  pub passed : (prog : Program) (w : Work) (g : Rules) → PassAtWork z c prog w n k ws xs g → PassedAs z c prog w g r ws′ xs′
+  pub passed : (prog : Program) (w : Work) (g : Rules) → PassAtWork z c prog w n k peak ws xs g → PassedAs z c prog w g r ws′ xs′
   pub counters : h′ ≡ raised h (mergesOf r) (absorbedOf r)
 
 few-of : {z : Shape} {c : StreamRules} {prog : Program} {w : Work} {g : Rules} (t : Step) {ws xs : List ℕ}
@@ -63,11 +63,11 @@ unfolding mergesOf absorbedOf
 few-of (Next s) h = h .few s refl
 few-of ExpansionLimit h = omega arith
 
-pub counted : {z : Shape} {c : StreamRules} {k n : ℕ} {ws xs ws′ xs′ : List ℕ} {t : Step} {m a : ℕ}
-    → SomeWork (λ prog w g. PassAtWork z c prog w n k ws xs g)
+pub counted : {z : Shape} {c : StreamRules} {k n peak : ℕ} {ws xs ws′ xs′ : List ℕ} {t : Step} {m a : ℕ}
+    → SomeWork (λ prog w g. PassAtWork z c prog w n k peak ws xs g)
     → LeftP z ws xs ws′ xs′
-    × ((prog : Program) (w : Work) (g : Rules) → PassAtWork z c prog w n k ws xs g → PassedAs z c prog w g t ws′ xs′)
-    → m ≡ mergesOf t → a ≡ absorbedOf t → CountedAs z c k n ws xs (record { outcome = t; merges = m; absorbed = a }) ws′ xs′
+    × ((prog : Program) (w : Work) (g : Rules) → PassAtWork z c prog w n k peak ws xs g → PassedAs z c prog w g t ws′ xs′)
+    → m ≡ mergesOf t → a ≡ absorbedOf t → CountedAs z c k n peak ws xs (record { outcome = t; merges = m; absorbed = a }) ws′ xs′
 counted {t = t} h call e f = record {
   left = call .0;
   passed = call .1;
@@ -76,15 +76,15 @@ counted {t = t} h call e f = record {
   few = rw (e, f) (few-of t (call .1 (h .program) (h .work) (h .rules) (h .it)));
 }
 
-pub room-for : {z : Shape} {c : StreamRules} {k n : ℕ} {ws xs ws′ xs′ : List ℕ} {h : Counters} {r : Counted} → Room h
-    → CountedAs z c k n ws xs r ws′ xs′ → (h .merges + r .merges < 2 ^ 64) × (h .«cliffords_to_frame» + r .absorbed < 2 ^ 64)
+pub room-for : {z : Shape} {c : StreamRules} {k n peak : ℕ} {ws xs ws′ xs′ : List ℕ} {h : Counters} {r : Counted} → Room h
+    → CountedAs z c k n peak ws xs r ws′ xs′ → (h .merges + r .merges < 2 ^ 64) × (h .«cliffords_to_frame» + r .absorbed < 2 ^ 64)
 room-for o e = let f = e .few in let a = o .merges in let b = o .absorbed in (omega arith, omega arith)
 
 -- what the core and the adder say together
-pub streamed : {z : Shape} {c : StreamRules} {k n : ℕ} {ws xs ws′ xs′ : List ℕ} {h h′ : Counters} {q : Counted} {r : Step}
-    → CountedAs z c k n ws xs q ws′ xs′ → (h′ ≡ raised h (q .merges) (q .absorbed)) × (r ≡ q .outcome)
-    → StreamedAs z c k n ws xs h r ws′ xs′ h′
-streamed {z} {c} {k} {n} {ws} {xs} {ws′} {xs′} {h} {h′} {q} {r} a e = record {
+pub streamed : {z : Shape} {c : StreamRules} {k n peak : ℕ} {ws xs ws′ xs′ : List ℕ} {h h′ : Counters} {q : Counted} {r : Step}
+    → CountedAs z c k n peak ws xs q ws′ xs′ → (h′ ≡ raised h (q .merges) (q .absorbed)) × (r ≡ q .outcome)
+    → StreamedAs z c k n peak ws xs h r ws′ xs′ h′
+streamed {z} {c} {k} {n} {peak} {ws} {xs} {ws′} {xs′} {h} {h′} {q} {r} a e = record {
   left = a .left;
   passed = λ prog w g p. subst (λ (t : Step). PassedAs z c prog w g t ws′ xs′) (sym (e .1)) (a .passed prog w g p);
   counters = rw (e .1, sym (a .merges), sym (a .absorbed)) (e .0);

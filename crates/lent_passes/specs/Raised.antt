@@ -16,6 +16,7 @@ moreMerges c n =
       «t_depth_after» = c .«t_depth_after»;
       «weight_before» = c .«weight_before»;
       «weight_after» = c .«weight_after»;
+      «packed_words» = c .«packed_words»;
     }
 
 abbrev pub moreSwaps : Counters → ℕ → Counters
@@ -32,6 +33,7 @@ moreSwaps c n =
       «t_depth_after» = c .«t_depth_after»;
       «weight_before» = c .«weight_before»;
       «weight_after» = c .«weight_after»;
+      «packed_words» = c .«packed_words»;
     }
 
 abbrev pub moreAbsorbed : Counters → ℕ → Counters
@@ -48,4 +50,5 @@ moreAbsorbed c n =
       «t_depth_after» = c .«t_depth_after»;
       «weight_before» = c .«weight_before»;
       «weight_after» = c .«weight_after»;
+      «packed_words» = c .«packed_words»;
     }

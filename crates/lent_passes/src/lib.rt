@@ -50,12 +50,13 @@ fn stream_counted(
     rules: StreamRules,
     items: usize,
     axes: usize,
+    peak: usize,
 ) -> Counted
-    requires { ⌜ SomeWork (λ prog w g. PassAtWork shape rules prog w axes items (now words) (now numbers) g) ⌝ }
-    ensures { λ r. ⌜ CountedAs shape rules items axes (now (words .entry)) (now (numbers .entry)) r
+    requires { ⌜ SomeWork (λ prog w g. PassAtWork shape rules prog w axes items peak (now words) (now numbers) g) ⌝ }
+    ensures { λ r. ⌜ CountedAs shape rules items axes peak (now (words .entry)) (now (numbers .entry)) r
         (now (words .exit)) (now (numbers .exit)) ⌝ }
 {
-    let outcome = stream::stream(words, numbers, shape, rules, items, axes);
+    let outcome = stream::stream(words, numbers, shape, rules, items, axes, peak);
     let merges = merges_of(outcome);
     let absorbed = absorbed_of(outcome);
     Counted {
@@ -83,13 +84,14 @@ pub fn stream_pass(
     rules: StreamRules,
     items: usize,
     axes: usize,
+    peak: usize,
     stats: &mut Counters,
 ) -> Step
-    requires { ⌜ SomeWork (λ prog w g. PassAtWork shape rules prog w axes items (now words) (now numbers) g) × Room (now stats) ⌝ }
-    ensures { λ r. ⌜ StreamedAs shape rules items axes (now (words .entry)) (now (numbers .entry)) (now (stats .entry)) r
+    requires { ⌜ SomeWork (λ prog w g. PassAtWork shape rules prog w axes items peak (now words) (now numbers) g) × Room (now stats) ⌝ }
+    ensures { λ r. ⌜ StreamedAs shape rules items axes peak (now (words .entry)) (now (numbers .entry)) (now (stats .entry)) r
         (now (words .exit)) (now (numbers .exit)) (now (stats .exit)) ⌝ }
 {
-    let r = stream_counted(words, numbers, shape, rules, items, axes);
+    let r = stream_counted(words, numbers, shape, rules, items, axes, peak);
     add_counted(stats, r)
 }
 

@@ -221,7 +221,7 @@ pub record AbsorbingAt (z : Shape) (st : State) (id k : ℕ) (ws xs : List ℕ) 
 
 module _ {z : Shape} {st : State} {id k : ℕ} {ws xs : List ℕ} {m : Absorption} {n : ℕ} {p : Pass}
     (h : AbsorbingAt z st id k ws xs m n p) where
-  pub absorb-there : AbsorbAt z (st .axes) (st .slots) id k ws xs (heldOf p)
+  pub absorb-there : AbsorbAt z (st .axes) (st .slots) (st .peak) id k ws xs (heldOf p)
   absorb-there = record {
     axis = record {
       at = record { granted = h .at .granted; holds = h .at .holds .clifford };
@@ -232,14 +232,14 @@ module _ {z : Shape} {st : State} {id k : ℕ} {ws xs : List ℕ} {m : Absorptio
   }
 
 pub absorb-some : {z : Shape} {st : State} {id k : ℕ} {ws xs : List ℕ} → SomePass (λ m n p. AbsorbingAt z st id k ws xs m n p)
-    → SomeTouched (λ (t : Touched). AbsorbAt z (st .axes) (st .slots) id k ws xs t)
+    → SomeTouched (λ (t : Touched). AbsorbAt z (st .axes) (st .slots) (st .peak) id k ws xs t)
 absorb-some s = record { state = heldOf (s .pass); it = absorb-there (s .it) }
 
 -- what the call leaves
 abbrev pub AbsorbLeft : Shape → State → ℕ → ℕ → List ℕ → List ℕ → Step → List ℕ → List ℕ → Type 0
 AbsorbLeft z st id k ws xs r ws′ xs′ =
     LeftF z ws xs ws′ xs′
-    × ((t : Touched) → AbsorbAt z (st .axes) (st .slots) id k ws xs t
+    × ((t : Touched) → AbsorbAt z (st .axes) (st .slots) (st .peak) id k ws xs t
     → TouchedAs z st r ws′ xs′ (absorbWord (z .l) t (wordOf (t .store .axes) id) k))
 
 module _ {z : Shape} {st : State} {id k : ℕ} {ws xs ws′ xs′ : List ℕ} {r : Step} (call : AbsorbLeft z st id k ws xs r ws′ xs′)
@@ -249,7 +249,7 @@ module _ {z : Shape} {st : State} {id k : ℕ} {ws xs ws′ xs′ : List ℕ} {r
   absorbed-limit e = as-limit (call .1 (heldOf p) (absorb-there h) .refused e)
 
   module _ {s : State} (e : r ≡ Next s) where
-    same : s ≡ withSlots (s .slots) st
+    same : s ≡ withSlots (s .peak) (s .slots) st
     same = call .1 (heldOf p) (absorb-there h) .kept s e
 
     pub absorbed-next : SteppedAs z m 0 1 st (Next (withAbsorbed (st .absorbed + 1) s)) ws′ xs′ (absorb (z .l) p id k)
@@ -257,7 +257,7 @@ module _ {z : Shape} {st : State} {id k : ℕ} {ws xs ws′ xs′ : List ℕ} {r
     absorbed-next =
         subst (λ (x : State). SteppedAs z m 0 1 st (Next (withAbsorbed (st .absorbed + 1) x)) ws′ xs′ (absorb (z .l) p id k)) (sym same)
         (as-next (pass-other (call .0 .numbers) refl refl refl (h .at .holds) (absorb (z .l) p id k)
-        (subst (λ (x : State). Holds z (x .axes) (x .slots) ws′ xs′ (heldOf (absorb (z .l) p id k))) same
+        (subst (λ (x : State). Holds z (x .axes) (x .slots) (x .peak) ws′ xs′ (heldOf (absorb (z .l) p id k))) same
         (call .1 (heldOf p) (absorb-there h) .held s e)) refl refl (h .at .holds .merges-are)
         (ap suc (h .at .holds .absorbed-are) ∙ (let f : suc (st .absorbed) ≡ st .absorbed + 1 = omega arith in f)))
         (omega arith) (omega arith))

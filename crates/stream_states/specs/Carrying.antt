@@ -60,7 +60,7 @@ module _ {z : Shape} {st : State} {a : ℕ} {ws xs : List ℕ} {m : Absorption} 
       to : CarriedTo z st a (heldOf p) ws′ xs′ s
       to = call .1 (heldOf p) carry-pre .to s e
 
-      pub carried-same : s ≡ withImage (s .axes) (s .id) (s .turns) st
+      pub carried-same : s ≡ withImage (s .axes) (s .peak) (s .id) (s .turns) st
       carried-same = to .same
 
       carried-holds : HoldsPass z m s ws′ xs′ (carryAxis (z .l) p a)

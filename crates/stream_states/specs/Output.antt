@@ -32,9 +32,9 @@ use Rattle.stream_states.specs.States.{heldOf, placeSaid, lastIn, isWait
 
 -- ---- F stays where other rows change
 
-pub holds-other : {z : Shape} {n m : ℕ} {ws xs xs′ rs : List ℕ} {t : Touched} → Only rs (z .u) xs xs′
+pub holds-other : {z : Shape} {n m peak : ℕ} {ws xs xs′ rs : List ℕ} {t : Touched} → Only rs (z .u) xs xs′
     → anyOf (λ r. member r rs) axesRows ≡ false → anyOf (λ r. member r rs) fRows ≡ false
-    → Holds z n m ws xs t → Holds z n m ws xs′ t
+    → Holds z n m peak ws xs t → Holds z n m peak ws xs′ t
 unfolding imageIn anyOf
 holds-other {z} {ws = ws} {xs} {xs′} {rs} o d e h =
     let slot = neither (member fSlot rs) _ e in
@@ -45,6 +45,7 @@ holds-other {z} {ws = ws} {xs} {xs′} {rs} o d e h =
     value-eq (ap (λ (r : List ℕ). getD r i 0) (o .rows fPhase (omega arith) (phase .0))) refl in
     record {
       axes = held-rows (h .axes) o d;
+      peak-is = h .peak-is;
       peak-in = h .peak-in;
       count = h .count;
       room = h .room;
@@ -131,11 +132,12 @@ module _ {z : Shape} {m : Absorption} {st : State} {ws xs xs′ rs : List ℕ} {
   same-last = o .rows lastRow (omega arith) b
 
   -- F, the axes and the counters may be others
-  pub pass-other : {ws′ : List ℕ} {n a e s i j : ℕ} (q : Pass) → Holds z n s ws′ xs′ (heldOf q) → q .out ≡ p .out → q .last ≡ p .last
+  pub pass-other : {ws′ : List ℕ} {n peak a e s i j : ℕ} (q : Pass) → Holds z n s peak ws′ xs′ (heldOf q) → q .out ≡ p .out → q .last ≡ p .last
       → q .merges ≡ i
       → q .absorbed ≡ j
       → HoldsPass z m (record {
         axes = n;
+        peak = peak;
         id = a;
         turns = e;
         slots = s;

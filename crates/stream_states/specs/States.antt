@@ -51,7 +51,7 @@ pub record Waits (z : Shape) (xs : List ℕ) (n out : ℕ) : Type 0 where
 
 -- memory holds p
 pub record HoldsPass (z : Shape) (m : Absorption) (st : State) (ws xs : List ℕ) (p : Pass) : Type 0 where
-  pub clifford : Holds z (st .axes) (st .slots) ws xs (heldOf p)
+  pub clifford : Holds z (st .axes) (st .slots) (st .peak) ws xs (heldOf p)
   pub out-is : p .out ≡ itemsIn xs (z .u) outRow 0 (st .out)
   pub begun : st .start ≤ st .out
   -- no barrier in the segment

@@ -91,25 +91,26 @@ returns-2 c =
           (intern .intern .ensures) (c .enum-told .given .1),
     )
 
-count-with-requires : tie.Need-count-with-requires
-count-with-requires c κs =
-    let middle = c .before .before .before .before .before .before .before .before .before .before .before .before .before in
-    let start = middle .before .before .before .before .before .before .before .before .before .before .before .before .before in
-    omega (arith, carry-numbers (start .pre .it))
-
 with-image-requires-2 : tie.Need-with-image-requires-2
 with-image-requires-2 c κs = search needs
 
 same-length-4 : tie.Need-same-length-4
-same-length-4 c = search needs
+same-length-4 c =
+    let i = c .before .before in
+    let intern = i .before .before .before .before .before .before in
+    let sizes-of = intern .before .before .before in
+    let scratch-at = sizes-of .before in
+    let carry-word = scratch-at .before .before .before .before .before in
+    let start = carry-word .before .before .before .before .before .before .before .before .before .before in
+    carry-left (start .pre .it) (carry-word .carry-word .ensures _ (carry-at (start .pre .it))) (scratch-at .scratch-at .ensures)
+    (sizes-of .sizes-of .ensures) (intern .intern .ensures) (i .i .given .1) .words .long
 
 same-length-5 : tie.Need-same-length-5
 same-length-5 c = search needs
 
 returns-3 : tie.Need-returns-3
 returns-3 c =
-    let count-with = c .before in
-    let i = count-with .before .before in
+    let i = c .before .before in
     let intern = i .before .before .before .before .before .before in
     let sizes-of = intern .before .before .before in
     let scratch-at = sizes-of .before in
@@ -119,7 +120,7 @@ returns-3 c =
           (sizes-of .sizes-of .ensures) (intern .intern .ensures) (i .i .given .1),
       λ t h. carry-to h
           (carry-word .carry-word .ensures t (carry-at h)) (scratch-at .scratch-at .ensures) (sizes-of .sizes-of .ensures)
-          (intern .intern .ensures) (i .i .given .1) (count-with .count-with .ensures) (c .with-image2 .ensures),
+          (intern .intern .ensures) (i .i .given .1) (c .with-image2 .ensures),
     )
 
 pub carry-spec : {M : Type 1} → statement M
@@ -143,7 +144,6 @@ carry-spec =
     same-length-2
     same-length-3
     returns-2
-    count-with-requires
     with-image-requires-2
     same-length-4
     same-length-5
