@@ -48,6 +48,11 @@ pub record StartedAs (z : Shape) (o : Options) (ns os rs : List ℕ) (n : ℕ) (
   pub depth : r .depth ≡ depthOf (rulesOf o) (programIn z ns os rs) (startOf (programIn z ns os rs))
   pub long : length ys ≡ length xs
 
+-- the largest sum that packing tested
+pub packed-peak : {z : Shape} {p : Program} {r : Packed} {n q : ℕ} {ws₀ xs₀ ws xs : List ℕ} → PackedAs z p r ws₀ xs₀ ws xs → r ≡ Axes n q
+    → q ≡ packed p .store .peak
+packed-peak {z} {p} done accepted = sym (accepted-so (z .limit) (packed p) (sym accepted ∙ done .answer) .peak-is)
+
 module _ {z : Shape} {ns os rs : List ℕ} {n : ℕ} {ws xs : List ℕ} (h : PackedIn z ns os rs n ws xs) where
   abbrev p : Program
   p = programIn z ns os rs
@@ -64,10 +69,6 @@ module _ {z : Shape} {ns os rs : List ℕ} {n : ℕ} {ws xs : List ℕ} (h : Pac
   -- no root was refused
   pub packed-hermitian : packed (programIn z ns os rs) .refused ≡ false
   packed-hermitian = so .going
-
-  -- the largest sum that it tested
-  pub packed-peak : h .peak ≡ packed (programIn z ns os rs) .store .peak
-  packed-peak = sym (so .peak-is)
 
   pub width-is : z .l ≡ width (programIn z ns os rs .qubits)
   width-is = packed-granted .sized .l-is ∙ ap width (sym (of-shape .qubits))

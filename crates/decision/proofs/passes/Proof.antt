@@ -15,8 +15,8 @@ passes-requires c κs =
     let first-state = c .before .before in
     let start-run = first-state .before .before .before in
     let start = start-run .before .before .before .before .before .before .before .before in (
-      record { program = _; work = _; at = first-run (start .pre .0) (start-run .start-run .ensures) (start .pre .1 .1) (first-state .first-state .ensures) },
-      start .pre .1 .0,
+      record { program = _; work = _; at = first-run (start .pre .0) (start-run .start-run .ensures) (start .pre .2) (first-state .first-state .ensures) },
+      start .pre .1,
     )
 
 enum-known-e : tie.Need-enum-known-e
@@ -31,7 +31,7 @@ same-length c =
     let first-state = passes .before .before .before in
     let start-run = first-state .before .before .before in
     let start = start-run .before .before .before .before .before .before .before .before in
-    passes-limit (start .args .options) (start .pre .0) (start-run .start-run .ensures) (start .pre .1 .1) (first-state .first-state .ensures)
+    passes-limit (start .args .options) (start .pre .0) (start-run .start-run .ensures) (start .pre .2) (first-state .first-state .ensures)
     (passes .passes .ensures) (c .enum-told .given .1) .long .words
 
 same-length-2 : tie.Need-same-length-2
@@ -40,7 +40,7 @@ same-length-2 c =
     let first-state = passes .before .before .before in
     let start-run = first-state .before .before .before in
     let start = start-run .before .before .before .before .before .before .before .before in
-    passes-limit (start .args .options) (start .pre .0) (start-run .start-run .ensures) (start .pre .1 .1) (first-state .first-state .ensures)
+    passes-limit (start .args .options) (start .pre .0) (start-run .start-run .ensures) (start .pre .2) (first-state .first-state .ensures)
     (passes .passes .ensures) (c .enum-told .given .1) .long .numbers
 
 returns : tie.Need-returns
@@ -49,7 +49,7 @@ returns c =
     let first-state = passes .before .before .before in
     let start-run = first-state .before .before .before in
     let start = start-run .before .before .before .before .before .before .before .before in
-    passes-limit (start .args .options) (start .pre .0) (start-run .start-run .ensures) (start .pre .1 .1) (first-state .first-state .ensures)
+    passes-limit (start .args .options) (start .pre .0) (start-run .start-run .ensures) (start .pre .2) (first-state .first-state .ensures)
     (passes .passes .ensures) (c .enum-told .given .1)
 
 end-run-requires : tie.Need-end-run-requires
@@ -59,7 +59,7 @@ end-run-requires c κs =
     let first-state = passes .before .before .before in
     let start-run = first-state .before .before .before in
     let start = start-run .before .before .before .before .before .before .before .before in
-    passes-end (start .args .options) (start .pre .0) (start-run .start-run .ensures) (start .pre .1 .1) (first-state .first-state .ensures)
+    passes-end (start .args .options) (start .pre .0) (start-run .start-run .ensures) (start .pre .2) (first-state .first-state .ensures)
     (passes .passes .ensures) _ (e .e .given .1)
 
 same-length-3 : tie.Need-same-length-3
@@ -69,7 +69,7 @@ same-length-3 c =
     let first-state = passes .before .before .before in
     let start-run = first-state .before .before .before in
     let start = start-run .before .before .before .before .before .before .before .before in
-    passes-done (start .args .options) (start .pre .0) (start-run .start-run .ensures) (start .pre .1 .1) (first-state .first-state .ensures)
+    passes-done (start .args .options) (start .pre .0) (start-run .start-run .ensures) (start .pre .2) (first-state .first-state .ensures)
     (passes .passes .ensures) (end-run .end-run .ensures) .long .words
 
 same-length-4 : tie.Need-same-length-4
@@ -79,7 +79,7 @@ same-length-4 c =
     let first-state = passes .before .before .before in
     let start-run = first-state .before .before .before in
     let start = start-run .before .before .before .before .before .before .before .before in
-    passes-done (start .args .options) (start .pre .0) (start-run .start-run .ensures) (start .pre .1 .1) (first-state .first-state .ensures)
+    passes-done (start .args .options) (start .pre .0) (start-run .start-run .ensures) (start .pre .2) (first-state .first-state .ensures)
     (passes .passes .ensures) (end-run .end-run .ensures) .long .numbers
 
 returns-2 : tie.Need-returns-2
@@ -89,7 +89,7 @@ returns-2 c =
     let first-state = passes .before .before .before in
     let start-run = first-state .before .before .before in
     let start = start-run .before .before .before .before .before .before .before .before in
-    passes-done (start .args .options) (start .pre .0) (start-run .start-run .ensures) (start .pre .1 .1) (first-state .first-state .ensures)
+    passes-done (start .args .options) (start .pre .0) (start-run .start-run .ensures) (start .pre .2) (first-state .first-state .ensures)
     (passes .passes .ensures) (end-run .end-run .ensures)
 
 pub passes-spec : {M : Type 1} → statement M
