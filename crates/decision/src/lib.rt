@@ -189,5 +189,15 @@ pub fn decide(
     let Packed::Axes { count, peak } = p else {
         return Decision::Refused(packing_answer::answer(p));
     };
-    passes(nodes, operations, rows, words, numbers, shape, options, count, peak)
+    passes(
+        nodes,
+        operations,
+        rows,
+        words,
+        numbers,
+        shape,
+        options,
+        count,
+        peak,
+    )
 }

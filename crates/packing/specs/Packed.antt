@@ -48,9 +48,10 @@ abbrev pub packRows : List ℕ
 packRows =
     mark ∷ acted ∷ relevantRow ∷ usesRow ∷ firstRoot ∷ nextRoot ∷ nodeSlot ∷ nodePhase ∷ freeRow ∷ rootAxis ∷ rootSign ∷ axesRows
 
--- the answer is the model's, with the largest sum that was tested; where packing is accepted, so are the axes, which are within the limit, and each root's axis and sign;
--- only packing's rows, and words below limit + 2l, are written. RestKept free are, after acceptance, the words from axes × 2l to
--- limit + 2l, and packRows but for the references' axis and sign; after a refusal, all words below limit + 2l and all of packRows
+-- the answer is the model's, with the number of axes and the largest sum that was tested; where packing is accepted, the axes are the
+-- model's too, within the limit, and each root's axis and sign; only packing's rows, and words below limit + 2l, are written. Free are,
+-- after acceptance, the words from axes × 2l to limit + 2l, and packRows but for the references' axis and sign; after a refusal, all words
+-- below limit + 2l and all of packRows
 pub record PackedAs (z : Shape) (p : Program) (r : Packed) (ws xs ws′ xs′ : List ℕ) : Type 0 where
   pub answer : r ≡ packedAnswer (z .limit) (packed p)
   pub axes : (n q : ℕ) → r ≡ Axes n q → HoldsAxes (sizesOf z n) ws′ xs′ (packed p .store .axes)

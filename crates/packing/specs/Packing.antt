@@ -100,7 +100,7 @@ module _ {p : Program} {z : Shape} {ws₀ xs₀ ws xs : List ℕ} (w : OfShape p
       }
 
   -- every root is packed
-  packed-axes : {st : Slots} {n : ℕ} → n ≡ z .nodes → Holding p z n n 0 (before p n) st ws xs 
+  packed-axes : {st : Slots} {n : ℕ} → n ≡ z .nodes → Holding p z n n 0 (before p n) st ws xs
       → PackedAs z p (Axes (st .axes) (st .peak)) ws₀ xs₀ ws xs
   packed-axes {st} {n} e h = record {
     answer = answer-axes (z .limit) (packed p) (rw (sym all) (h .fits)) (rw (sym all) (h .going)) (st .axes) (st .peak)

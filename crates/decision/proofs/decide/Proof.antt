@@ -51,8 +51,7 @@ passes-requires : tie.Need-passes-requires
 passes-requires c κs =
     let p = c .before .before .before in
     let pack = p .before .before .before .before .before .before in
-    let start = pack .before .before .before .before .before .before .before .before in
-    (
+    let start = pack .before .before .before .before .before .before .before .before in (
       record { ws₀ = _; xs₀ = _; answer = _; peak = _; pre = start .pre .0; done = pack .pack .ensures; accepted = p .p .given .1 },
       start .pre .1,
       packed-peak (pack .pack .ensures) (p .p .given .1),
