@@ -122,8 +122,8 @@ module _ {z : Shape} {first st : State} {j w : ℕ} {ws₀ xs₀ ws xs : List �
 
 -- all are touched
 pub bits-end : {z : Shape} {first st : State} {j w : ℕ} {ws₀ xs₀ ws xs : List ℕ} {rest : ℕ}
-    → BitsLoop z first j w ws₀ xs₀ ws xs st rest → rest ≡ 0 → (t : Touched) → BitsAt z (first .axes) (first .slots) (first .peak) j w ws₀ xs₀ t
-    → TouchedAs z first (Next st) ws xs (touchAll (z .l) t (setBits 64 (64 * j) w))
+    → BitsLoop z first j w ws₀ xs₀ ws xs st rest → rest ≡ 0 → (t : Touched)
+    → BitsAt z (first .axes) (first .slots) (first .peak) j w ws₀ xs₀ t → TouchedAs z first (Next st) ws xs (touchAll (z .l) t (setBits 64 (64 * j) w))
 unfolding touchAll
 bits-end {z} {st = st} {j} {ws = ws} {xs} b e t h =
     let k = b .at t h in
@@ -150,13 +150,14 @@ pub record NumbersLoop (z : Shape) (first : State) (id : ℕ) (ws₀ xs₀ ws xs
   pub at : (t : Touched) → AxisAt z (first .axes) (first .slots) (first .peak) id ws₀ xs₀ t → AxisNow z id ws xs st j t
 
 -- as many axes as before
-id-now : {z : Shape} {first st : State} {id : ℕ} {ws₀ xs₀ ws xs : List ℕ} {j : ℕ} → NumbersLoop z first id ws₀ xs₀ ws xs st j → id < first .axes
-    → id < st .axes
+id-now : {z : Shape} {first st : State} {id : ℕ} {ws₀ xs₀ ws xs : List ℕ} {j : ℕ} → NumbersLoop z first id ws₀ xs₀ ws xs st j
+    → id < first .axes → id < st .axes
 id-now b h = omega (arith, h, ap (λ (s : State). s .axes) (b .same))
 
 -- the axis's word is there at every turn
 pub numbers-word : {z : Shape} {first st : State} {id : ℕ} {ws₀ xs₀ ws xs : List ℕ} {j a : ℕ} → NumbersLoop z first id ws₀ xs₀ ws xs st j
-    → SomeTouched (λ (t : Touched). AxisAt z (first .axes) (first .slots) (first .peak) id ws₀ xs₀ t) → a ≡ axisPlace (z .l) id → a + 2 * z .l ≤ length ws
+    → SomeTouched (λ (t : Touched). AxisAt z (first .axes) (first .slots) (first .peak) id ws₀ xs₀ t) → a ≡ axisPlace (z .l) id
+    → a + 2 * z .l ≤ length ws
 numbers-word b s e =
     let k = b .at (s .state) (s .it) in
     omega (arith, axis-in (k .at .holds) (id-now b (s .it .id-in)), k .at .granted .words-long)

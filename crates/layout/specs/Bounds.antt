@@ -1,10 +1,9 @@
 -- What refusals 1, 2 and 3 leave of counts, options and lengths: the bounds under which no sum overflows. Assumes nothing.
 use mathlib.Core.Path.{_≡_, refl}
-use mathlib.Core.Bool.{false, _||_}
+use mathlib.Core.Bool.{false}
 use Prim.Native.Nat.{ℕ, _*_, _/_, _≤_, _<_}
 use native.Mathlib.Omega.{arith}
 use native.Mathlib.Nat.{div-le-self}
-use lib.Dec.{ltb}
 use lib.ListN.{length}
 use borrow.Author.Tests.{ltb-false}
 use Rattle.model.specs.declared.Counts.{Counts}
@@ -23,12 +22,6 @@ counts-fit c h =
     let b = neither _ _ (a .0) in
     let d = neither _ _ (b .0) in
     (ltb-false _ _ (d .0), ltb-false _ _ (b .1), ltb-false _ _ (a .1))
-
-pub limit-fits : (o : Options) → badOption o ≡ false → o .«max_packed_words» ≤ 1048576
-unfolding badOption
-limit-fits o h =
-    let others = ltb 255 (o .rounds) || ltb 1048576 (o .lookback) || ltb 1048576 (o .window) || ltb 1048576 (o .candidates) in
-    ltb-false _ _ (neither others (ltb 1048576 (o .«max_packed_words»)) h .1)
 
 -- a width that 4,096 qubits have
 width-fits : (q w : ℕ) → q ≤ 4096 → w ≡ width q → (0 < w) × (w ≤ 64)

@@ -15,7 +15,8 @@ use Rattle.pauli.specs.LetterLaws.{width-holds}
 use Rattle.model.specs.Checking.{Lent, badCount, wordsAsked, numbersAsked, lentShort, checking}
 use Rattle.theory.specs.Cases.{neither}
 use borrow.Author.Tests.{ltb-false}
-use Rattle.layout.specs.Bounds.{limit-fits, bounds, passed}
+use Rattle.theory.specs.Checked.{limit-fits}
+use Rattle.layout.specs.Bounds.{bounds, passed}
 use Rattle.layout.specs.Rows.{rowCount}
 use Rattle.layout.specs.Words.{scratchWidths}
 use Rattle.layout.specs.declared.Shape.{Shape}

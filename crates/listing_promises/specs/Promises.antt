@@ -299,8 +299,9 @@ module _ {text out : List ℕ} {s : Lent} {size : ℕ} {out′ : List ℕ} {s′
 -- most 256, and 3 does not refuse the stores.
 -- Rules out: 10 at a limit above one that was enough; the limit printed among the counters
 pub larger-limit-same-answer : {text text′ out₁ out₂ : List ℕ} {s₁ s₂ : Lent} {a a′ : Answer} {size₁ size₂ : ℕ} {left₁ left₂ : List ℕ}
-    {s₁′ s₂′ : Lent} {t t′ : Read} → ListingCalled text out₁ s₁ a size₁ left₁ s₁′ → ListingCalled text′ out₂ s₂ a′ size₂ left₂ s₂′
-    → AlikeTexts text text′ t t′ → ZeroOrNine a → t .limit ≤ t′ .limit → (a′ ≡ SliceShort → ⊥)
+    {s₁′ s₂′ : Lent} {t t′ : Read} → ListingCalled text out₁ s₁ a size₁ left₁ s₁′
+    → ListingCalled text′ out₂ s₂ a′ size₂ left₂ s₂′ → AlikeTexts text text′ t t′
+    → ZeroOrNine a → t .limit ≤ t′ .limit → (a′ ≡ SliceShort → ⊥)
     → (a′ ≡ a) × (printed size₂ left₂ ≡ printed size₁ left₁)
 larger-limit-same-answer {text} {text′} {t = t} {t′ = t′} x y alike e h n = (
   rewriting-promises.larger-limit-same-answer (called-by x (room-of x (not-short e)) t (alike .reads))
@@ -314,10 +315,12 @@ larger-limit-same-answer {text} {text′} {t = t} {t′ = t′} x y alike e h n 
 
 -- "equal rounds give equal results and counters": two accepted listings alike but for the limit print the same bytes, whatever was lent.
 -- Rules out: axes' ids that depend on the limit; a listing that shows what the output held before
-pub equal-bytes : {text text′ out₁ out₂ : List ℕ} {s₁ s₂ : Lent} {size₁ size₂ : ℕ} {left₁ left₂ : List ℕ} {s₁′ s₂′ : Lent} {t t′ : Read}
-    → ListingCalled text out₁ s₁ Accepted size₁ left₁ s₁′ → ListingCalled text′ out₂ s₂ Accepted size₂ left₂ s₂′
-    → AlikeTexts text text′ t t′ → printed size₂ left₂ ≡ printed size₁ left₁
-equal-bytes {size₁ = size₁} {size₂ = size₂} {left₁ = left₁} {left₂ = left₂} {t = t} {t′ = t′} x y alike = go (decLt (t′ .limit) (t .limit))
+pub equal-bytes : {text text′ out₁ out₂ : List ℕ} {s₁ s₂ : Lent} {size₁ size₂ : ℕ} {left₁ left₂ : List ℕ}
+    {s₁′ s₂′ : Lent} {t t′ : Read} → ListingCalled text out₁ s₁ Accepted size₁ left₁ s₁′
+    → ListingCalled text′ out₂ s₂ Accepted size₂ left₂ s₂′ → AlikeTexts text text′ t t′
+    → printed size₂ left₂ ≡ printed size₁ left₁
+equal-bytes {size₁ = size₁} {size₂ = size₂} {left₁ = left₁} {left₂ = left₂} {t = t} {t′ = t′} x y alike =
+    go (decLt (t′ .limit) (t .limit))
   where
     go : Dec (t′ .limit < t .limit) → printed size₂ left₂ ≡ printed size₁ left₁
     go (yes h) = sym (larger-limit-same-answer y x (alike-back alike) (inl refl) (omega arith) (not-short (inl refl)) .1)
@@ -327,10 +330,11 @@ equal-bytes {size₁ = size₁} {size₂ = size₂} {left₁ = left₁} {left₂
 -- is accepted.
 -- Rules out: the sum at the run's end told for the largest; a limit one above the sum asked for
 pub accepted-from-words-on : {text text′ out₁ out₂ : List ℕ} {s₁ s₂ : Lent} {a′ : Answer} {size₁ size₂ : ℕ} {left₁ left₂ : List ℕ}
-    {s₁′ s₂′ : Lent} {t t′ : Read} → ListingCalled text out₁ s₁ Accepted size₁ left₁ s₁′ → ListingCalled text′ out₂ s₂ a′ size₂ left₂ s₂′
-    → AlikeTexts text text′ t t′ → (a′ ≡ SliceShort → ⊥) → (a′ ≡ Accepted) ↔ (headField (printed size₁ left₁) 8 ≤ t′ .limit)
-accepted-from-words-on {text} {text′} {out₂ = out₂} {s₂ = s₂} {a′ = a′} {size₁ = size₁} {size₂} {left₁} {left₂} {s₂′ = s₂′} {t} {t′} x y alike n =
-    (there, back)
+    {s₁′ s₂′ : Lent} {t t′ : Read} → ListingCalled text out₁ s₁ Accepted size₁ left₁ s₁′
+    → ListingCalled text′ out₂ s₂ a′ size₂ left₂ s₂′ → AlikeTexts text text′ t t′ → (a′ ≡ SliceShort → ⊥)
+    → (a′ ≡ Accepted) ↔ (headField (printed size₁ left₁) 8 ≤ t′ .limit)
+accepted-from-words-on {text} {text′} {out₂ = out₂} {s₂ = s₂} {a′ = a′} {size₁ = size₁} {size₂} {left₁} {left₂}
+    {s₂′ = s₂′} {t} {t′} x y alike n = (there, back)
   where
     there : a′ ≡ Accepted → headField (printed size₁ left₁) 8 ≤ t′ .limit
     there e =

@@ -6,7 +6,8 @@ use Rattle.model.specs.declared.Options.{Options}
 use Rattle.model.specs.declared.Answer.the-variants.{Accepted}
 use Rattle.model.specs.Program.{Job}
 use Rattle.model.specs.Checking.{Lent, badCount, checking}
-use Rattle.layout.specs.Bounds.{limit-fits, passed}
+use Rattle.theory.specs.Checked.{limit-fits}
+use Rattle.layout.specs.Bounds.{passed}
 use Rattle.layout.specs.Shape.{shapeOf, checked-granted}
 use Rattle.records.specs.Given.{checked-given}
 use Rattle.packing.specs.Packed.{PackPre}

@@ -1,10 +1,9 @@
 -- Two calls of Rewriting that are alike but for the rounds and the word limit. Assumes nothing.
 use mathlib.Core.Path.{_≡_, refl, _∙_}
-use mathlib.Core.Bool.{Bool, false, _||_}
+use mathlib.Core.Bool.{false, _||_}
 use Prim.Native.Nat.{ℕ, _≤_}
 use native.Mathlib.Omega.{arith}
-use lib.Dec.{ltb}
-use borrow.Author.Tests.{le-ltb, ltb-false}
+use borrow.Author.Tests.{le-ltb}
 use Rattle.model.specs.declared.Options.{Options}
 use Rattle.model.specs.declared.Answer.{Answer}
 use Rattle.model.specs.declared.Answer.the-variants.{Accepted, CountOutside, OptionOutside, SliceShort}
@@ -12,8 +11,8 @@ use Rattle.model.specs.Lists.{if_then_else_}
 use Rattle.model.specs.Program.{Job}
 use Rattle.model.specs.Rules.{absorptionOf, rulesOf}
 use Rattle.model.specs.Checking.{Lent, badCount, badOption, programShort, lentShort, checkProgram, checking}
-use Rattle.theory.specs.Cases.{by-if, neither, if-false}
-use Rattle.theory.specs.Checked.{not-refused, checking-program}
+use Rattle.theory.specs.Cases.{by-if, if-false}
+use Rattle.theory.specs.Checked.{not-refused, options-fit, checking-options, checking-program}
 use Rattle.theory.specs.Alike.{Alike, alike-checked}
 use Rattle.theory.specs.Replies.{limitOf}
 use Rattle.theory.specs.Limit.{SameButLimit}
@@ -45,28 +44,13 @@ alike-rules h = rw (h .lookback, h .window, h .candidates, h .absorption, h .eag
 pub but-limit : {o o′ : Options} {j j′ : Job} → AlikeButLimit o o′ j j′ → SameButLimit o o′
 but-limit h = record { rules = alike-rules (h .others); rounds = h .rounds }
 
--- the options but for the limit that are outside the domain
-abbrev otherOutside : Options → Bool
-otherOutside o = ltb 255 (o .rounds) || ltb 1048576 (o .lookback) || ltb 1048576 (o .window) || ltb 1048576 (o .candidates)
-
-module _ (o : Options) (j : Job) (s : Lent) (passed : checking o j s ≡ Accepted) where
-  options-inside : (otherOutside o ≡ false) × (ltb 1048576 (limitOf o) ≡ false)
-  unfolding badOption checking
-  options-inside =
-      let a = not-refused (badCount (j .counts)) CountOutside _ refl passed in
-      neither (otherOutside o) (ltb 1048576 (limitOf o)) (not-refused (badOption o) OptionOutside _ refl (a .1) .0)
-
-  -- the limit of options that passed
-  pub limit-inside : limitOf o ≤ 1048576
-  limit-inside = ltb-false 1048576 (limitOf o) (options-inside .1)
-
 module _ {o o′ : Options} {j j′ : Job} (s s′ : Lent) (alike : AlikeButLimit o o′ j j′) (passed : checking o j s ≡ Accepted) where
   -- options that passed are within the domain at another limit of the domain
   option-inside : limitOf o′ ≤ 1048576 → badOption o′ ≡ false
   unfolding badOption
   option-inside h =
-      rw (alike .rounds, alike .others .lookback, alike .others .window, alike .others .candidates, options-inside o j s passed .0)
-      (le-ltb 1048576 (limitOf o′) h)
+      let others = options-fit o (checking-options o j s passed) .0 in
+      rw (alike .rounds, alike .others .lookback, alike .others .window, alike .others .candidates, others) (le-ltb 1048576 (limitOf o′) h)
 
   -- so 2 does not refuse it there
   pub not-two : limitOf o′ ≤ 1048576 → checking o′ j′ s′ ≡ OptionOutside → ⊥

@@ -27,7 +27,7 @@ use Rattle.model.specs.Checking.{Lent, checking}
 use Rattle.model.specs.Rewriting.{Reply, thenZeros, zeros, refused, stopped, accepted, rewriting}
 use Rattle.theory.specs.Alike.{alike-program}
 use Rattle.theory.specs.Replies.{runOf, limitOf, refused-answer, run-answer, refusal-answer}
-use Rattle.theory.specs.Checked.{accepts-only}
+use Rattle.theory.specs.Checked.{accepts-only, limit-fits, checking-options}
 use Rattle.theory.specs.Limit.{run-same, checks-again, same-at-larger-limit, results-answer, results-counters}
 use Rattle.theory.specs.AcceptedRun.{finishOf, hermitian-peak}
 use Rattle.theory.specs.TCountCalls.{accepted-hermitian, accepted-counters, accepted-reply, no-more-than-source, no-more-with-more-rounds}
@@ -41,7 +41,7 @@ use Rattle.promises.specs.Calls.{Called, answer-is, counters-are, lent-i
 use Rattle.promises.specs.Calls.{number-stopped, nine-exactly}
 use Rattle.promises.specs.Strategies.{endWork, merge-end, litinski-end, no-rounds-end}
 use Rattle.promises.specs.Left.{operationsIn, rowsIn, wordsIn, operations-left, effect-left}
-use Rattle.promises.specs.Alike.{AlikeButRoundsAndLimit, AlikeButLimit, alike-rules, but-limit, limit-inside, not-two}
+use Rattle.promises.specs.Alike.{AlikeButRoundsAndLimit, AlikeButLimit, alike-rules, but-limit, not-two}
 
 -- ==== what the sentences speak of
 
@@ -313,7 +313,7 @@ module _ {o o′ : Options} {j j′ : Job} {s s′ : Lent} {a′ : Answer} {c c�
   within-domain : c .«packed_words» ≤ 1048576
   within-domain =
       let h = accepted-where x passed .0 refl .0 in
-      omega (arith, h, words-told x refl, limit-inside o j s passed)
+      omega (arith, h, words-told x refl, limit-fits o (checking-options o j s passed))
 
   -- the number as the limit: accepted, with the same results and the same counters.
   -- Rules out: a number that leaves out the images of F; results that depend on the limit

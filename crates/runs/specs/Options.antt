@@ -190,7 +190,8 @@ candidates-0 = refl
 
 -- candidates 1: the second pair is exchanged; refuses a constant number of candidates
 candidates-1 : called (options 0 6 1 8 true true false Merge false 64) three
-    ≡ leaves (6 ∷ 4 ∷ 0 ∷ 1 ∷ 1 ∷ 6 ∷ 4 ∷ 0 ∷ 0 ∷ 11 ∷ 7 ∷ 34 ∷ []) ((rotated 7 1 ∷ rotated 1 1 ∷ rotated 3 1 ∷ rotated 8 1 ∷ []) room 2)
+    ≡ leaves (6 ∷ 4 ∷ 0 ∷ 1 ∷ 1 ∷ 6 ∷ 4 ∷ 0 ∷ 0 ∷ 11 ∷ 7 ∷ 34 ∷ [])
+    ((rotated 7 1 ∷ rotated 1 1 ∷ rotated 3 1 ∷ rotated 8 1 ∷ []) room 2)
 unfolding everything
 candidates-1 = refl
 
@@ -250,7 +251,8 @@ limit-11 = refl
 
 -- eager swaps: no fewer T, but fewer rotations
 eager : called (options 0 2 16 8 false true false Merge false 64) evenEnd
-    ≡ leaves (4 ∷ 4 ∷ 0 ∷ 1 ∷ 0 ∷ 5 ∷ 4 ∷ 0 ∷ 0 ∷ 8 ∷ 6 ∷ 22 ∷ []) ((rotated 1 1 ∷ rotated 3 1 ∷ rotated 4 3 ∷ rotated 5 1 ∷ []) room 1)
+    ≡ leaves (4 ∷ 4 ∷ 0 ∷ 1 ∷ 0 ∷ 5 ∷ 4 ∷ 0 ∷ 0 ∷ 8 ∷ 6 ∷ 22 ∷ [])
+    ((rotated 1 1 ∷ rotated 3 1 ∷ rotated 4 3 ∷ rotated 5 1 ∷ []) room 1)
 unfolding everything
 eager = refl
 

@@ -180,7 +180,27 @@ program-fine j h =
       rows = rw long (rows-checked (j .counts .nodes) 0 _ (b .1));
     }
 
--- Checking passes only after all three kinds of records passed
+-- options of the domain: the others', and the limit's
+pub options-fit : (o : Options) → badOption o ≡ false
+    → (ltb 255 (o .rounds) || ltb 1048576 (o .lookback) || ltb 1048576 (o .window) || ltb 1048576 (o .candidates) ≡ false)
+    × (o .«max_packed_words» ≤ 1048576)
+unfolding badOption
+options-fit o h =
+    let others = ltb 255 (o .rounds) || ltb 1048576 (o .lookback) || ltb 1048576 (o .window) || ltb 1048576 (o .candidates) in
+    let a = neither others (ltb 1048576 (o .«max_packed_words»)) h in
+    (a .0, ltb-false _ _ (a .1))
+
+pub limit-fits : (o : Options) → badOption o ≡ false → o .«max_packed_words» ≤ 1048576
+limit-fits o h = options-fit o h .1
+
+-- Checking passes only after the options passed
+pub checking-options : (o : Options) (j : Job) (s : Lent) → checking o j s ≡ Accepted → badOption o ≡ false
+unfolding checking
+checking-options o j s h =
+    let a = not-refused (badCount (j .counts)) CountOutside _ refl h in
+    not-refused (badOption o) OptionOutside _ refl (a .1) .0
+
+-- and after all three kinds of records passed
 pub checking-program : (o : Options) (j : Job) (s : Lent) → checking o j s ≡ Accepted → checkProgram j ≡ Accepted
 unfolding checking
 checking-program o j s h =

@@ -1,7 +1,7 @@
 -- The model's order of refusals. Assumes nothing.
 use mathlib.Core.Path.{sym, _∙_}
 use Rattle.theory.specs.Cases.{neither}
-use Rattle.layout.specs.Bounds.{limit-fits}
+use Rattle.theory.specs.Checked.{limit-fits}
 use Rattle.checking.specs.Refusals.{count-refused, option-refused, slice-refused, program-decides}
 use borrow.Author.Needs.{needs}
 use Rattle.checking.proofs.checking.Statement.{statement}
