@@ -6,6 +6,8 @@ ghost use Rattle.stream.specs.Passing.{PassAtWork, SomeWork};
 ghost use Rattle.exchange.specs.Segments.{ExchangePre, Exchanged};
 ghost use Rattle.layering.specs.Contracts.{LayeringPre, LayeredAs};
 ghost use Rattle.lent_passes.specs.Counted.{mergesOf, absorbedOf, raised, Room, CountedAs, StreamedAs};
+pub mod by_value;
+
 use axes::Sizes;
 use exchange::Progress;
 use exchange::Rules;

@@ -8,7 +8,6 @@ use native.Mathlib.Omega.{arith}
 use lib.ListN.{length, take}
 use borrow.Author.Tests.{lt-ltb, le-ltb}
 use Rattle.store.specs.Part.{put}
-use Rattle.model.specs.declared.Options.{Options}
 use Rattle.model.specs.declared.Counts.{Counts}
 use Rattle.model.specs.declared.Answer.{Answer}
 use Rattle.model.specs.declared.Answer.the-variants.{Accepted, SliceShort, BadText}
@@ -19,6 +18,8 @@ use Rattle.model.specs.Rewriting.{refused, rewriting}
 use Rattle.model.specs.Listing.{Read, read, textOf, refusalLines}
 use Rattle.theory.specs.Cases.{if-true, if-false}
 use Rattle.theory.specs.Checked.{accepts-only}
+use Rattle.theory.specs.Called.{answer-is, counters-are, operations-are, axes-are, lent-is}
+use Rattle.theory.specs.TCountCalls.{accepted-operations, accepted-axes}
 use Rattle.theory.specs.ListingCalls.{optionsOf}
 use Rattle.listing_read.specs.declared.Text.{Text}
 use Rattle.listing_read.specs.declared.Text.the-variants as Texts
@@ -26,13 +27,12 @@ use Rattle.listing_read.specs.Views.{Room, readBy}
 use Rattle.listing_print.specs.Printed.{Printed}
 use Rattle.listing_print.specs.Results.{resultLines, ResultPre, replyLines, ReplyPre}
 use Rattle.listing_call.specs.Call.{mostBytes, replyTo, printedLines, printedText, ListingReply, printedReply, noRoom, listingCall}
-use Rattle.listing_call.specs.Call.{ListingCalled}
 use Rattle.listing_call.specs.Reads.{SmallText}
-use Rattle.listing_call.specs.Replies.{accepted-lines, refused-lines, bad-text}
-use Rattle.listing_call.specs.Rooms.{result-asks, call-fits}
+use Rattle.listing_call.specs.Replies.{operationsOut, axesOut, accepted-lines, refused-lines, bad-text}
+use Rattle.listing_call.specs.Rooms.{result-asks}
 use Rattle.listing.specs.declared.Listed.{Listed}
-use Rattle.rewrite.specs.declared.Rewritten.{Rewritten}
-use Rattle.rewrite.specs.Call.{RewritingCall}
+use Rattle.optimize.specs.declared.Rewritten.{Rewritten}
+use Rattle.optimize.specs.Call.{CalledBy}
 
 -- what the code answers, the output and the lent slices, as one reply
 abbrev pub listingReplyOf : Listed → List ℕ → Lent → ListingReply
@@ -79,9 +79,16 @@ reply-same {a} {b} {n} {m} {x} {y} {s} {z} p q r u =
 abbrev pub linesBy : ℕ → Rewritten → Lent → List (List ℕ)
 linesBy qubits r s = replyLines (r .answer) (r .counters) qubits (r .operations) (r .axes) (s .words) (s .operations) (s .rows)
 
-module _ (t : Read) (small : SmallText t) (s : Lent) (r : Rewritten) (s′ : Lent) (call : RewritingCall (optionsOf t) (t .job) s r s′) where
+module _ (t : Read) (small : SmallText t) (s : Lent) (r : Rewritten) (s′ : Lent) (call : CalledBy (optionsOf t) (t .job) s r s′) where
   accepted-there : r .answer ≡ Accepted → rewriting (optionsOf t) (t .job) s .answer ≡ Accepted
-  accepted-there e = sym (call .answer) ∙ e
+  accepted-there e = answer-is call ∙ e
+
+  -- the numbers that an accepted call hands back
+  operations-there : (yes′ : rewriting (optionsOf t) (t .job) s .answer ≡ Accepted) → r .operations ≡ operationsOut t s yes′
+  operations-there yes′ = sym (operations-are call) ∙ accepted-operations (optionsOf t) (t .job) s yes′
+
+  axes-there : (yes′ : rewriting (optionsOf t) (t .job) s .answer ≡ Accepted) → r .axes ≡ axesOut t s yes′
+  axes-there yes′ = sym (axes-are call) ∙ accepted-axes (optionsOf t) (t .job) s yes′
 
   -- what printing asks
   pub printing-asks : (room : ℕ) → mostBytes ≤ room
@@ -92,7 +99,7 @@ module _ (t : Read) (small : SmallText t) (s : Lent) (r : Rewritten) (s′ : Len
         let yes′ = accepted-there e in
         subst
         (λ (z : Lent). ResultPre (r .counters) (t .job .counts .qubits) (r .operations) (r .axes) (z .words) (z .operations) (z .rows) room)
-        (sym (call .lent)) (rw (call .counters, call .operations yes′, call .axes yes′) (result-asks t small s yes′ room h));
+        (lent-is call) (rw (← counters-are call, operations-there yes′, axes-there yes′) (result-asks t small s yes′ room h));
   }
 
   -- the lines of what came are the lines that the call prints
@@ -106,11 +113,11 @@ module _ (t : Read) (small : SmallText t) (s : Lent) (r : Rewritten) (s′ : Len
           let yes′ = accepted-there (accepts-only (r .answer) e) in
           if-true _ _ e
           ∙ ap (λ (z : Lent).
-          resultLines (r .counters) (t .job .counts .qubits) (r .operations) (r .axes) (z .words) (z .operations) (z .rows)) (call .lent)
-          ∙ rw (call .counters, call .operations yes′, call .axes yes′) (sym (accepted-lines t s yes′))
+          resultLines (r .counters) (t .job .counts .qubits) (r .operations) (r .axes) (z .words) (z .operations) (z .rows)) (sym (lent-is call))
+          ∙ rw (← counters-are call, operations-there yes′, axes-there yes′) (sym (accepted-lines t s yes′))
       go false e =
-          if-false _ _ e ∙ ap refusalLines (call .answer)
-          ∙ sym (refused-lines t s (ap accepts (sym (call .answer)) ∙ e))
+          if-false _ _ e ∙ ap refusalLines (sym (answer-is call))
+          ∙ sym (refused-lines t s (ap accepts (answer-is call) ∙ e))
 
   pub run-called : {out out′ : List ℕ} {n : ℕ}
       → Printed out 0 (textOf (linesBy (t .job .counts .qubits) r s′)) out′ n
@@ -118,13 +125,9 @@ module _ (t : Read) (small : SmallText t) (s : Lent) (r : Rewritten) (s′ : Len
   unfolding printedReply replyTo printedText
   run-called {out} {out′} {n} p =
       let text = ap textOf lines-are in
-      reply-same (call .answer) (place-zero (p .place) ∙ ap length text) (p .store ∙ ap (put out 0) text) (call .lent)
+      reply-same (sym (answer-is call)) (place-zero (p .place) ∙ ap length text) (p .store ∙ ap (put out 0) text) (sym (lent-is call))
 
 -- ---- Listing
-
-pub call-at : {o o′ : Options} {j : Job} {s : Lent} {r : Rewritten} {s′ : Lent} → o ≡ o′ → RewritingCall o j s r s′
-    → RewritingCall o′ j s r s′
-call-at {o} {o′} {j} {s} {r} {s′} e c = subst (λ (x : Options). RewritingCall x j s r s′) e c
 
 pub text-read : (text nodes operations rows : List ℕ) {r : Text} {c : Counts} {limit : ℕ} → readBy r nodes operations rows ≡ read text
     → r ≡ Texts.Job c limit
@@ -154,20 +157,3 @@ module _ (text out : List ℕ) (s : Lent) where
         reply-same refl (place-zero (p .place) ∙ ap (λ (ls : List (List ℕ)). length (textOf ls)) (sym bad-text))
         (p .store ∙ ap (λ (ls : List (List ℕ)). put out 0 (textOf ls)) (sym bad-text)) refl
         ∙ ap (λ (y : Option Read). printedReply y out (replyTo y s)) (sym e) ∙ sym (if-false _ _ (le-ltb (length out) mostBytes room))
-
--- a call of Listing: its answer, its text and every lent slice are as 01 has them, and its text lies in the output
-pub record ListingCall (text out : List ℕ) (s : Lent) (l : Listed) (out′ : List ℕ) (s′ : Lent) : Type 0 where
-  pub same : listingReplyOf l out′ s′ ≡ listingCall text out s
-  pub fits : l .size ≤ length out
-
-pub listing-called : {text out : List ℕ} {s : Lent} {l : Listed} {out′ : List ℕ} {s′ : Lent}
-    → listingReplyOf l out′ s′ ≡ listingCall text out s → ListingCall text out s l out′ s′
-listing-called {text} {out} {s} e = record {
-  same = e;
-  fits = subst (λ (c : ListingReply). c .size ≤ length out) (sym e) (call-fits text out s);
-}
-
--- so every call is one that `listing_promises` speaks of
-pub promised : {text out : List ℕ} {s : Lent} {l : Listed} {out′ : List ℕ} {s′ : Lent} → ListingCall text out s l out′ s′
-    → ListingCalled text out s (l .answer) (l .size) out′ s′
-promised c = record { replied = c .same }

@@ -1,6 +1,7 @@
 // Listing: 01's text in, its text out.
 ghost use Rattle.checking.specs.Call.{lentOf};
-ghost use Rattle.listing.specs.Listed.{RunPre, RunCall, ListingCall};
+ghost use Rattle.listing_call.specs.Call.{ListingCalled};
+ghost use Rattle.listing.specs.Listed.{RunPre, RunCall};
 use listing_read::Text;
 use model::Answer;
 use model::Counts;
@@ -36,7 +37,7 @@ fn run(
     let a = counts.nodes * 5;
     let b = counts.operations * 6;
     let c = 2 * counts.qubits * 4;
-    let r = rewrite::rewrite(
+    let r = rewriting::by_value(
         counts,
         model::defaults(limit),
         &nodes[..a],
@@ -71,9 +72,9 @@ pub fn listing(
     result_operations: &mut [u32],
     result_rows: &mut [u32],
 ) -> Listed
-    ensures { λ l. ⌜ ListingCall (now (text .entry)) (now (output .entry))
+    ensures { λ l. ⌜ ListingCalled (now (text .entry)) (now (output .entry))
         (lentOf (now (words .entry)) (now (numbers .entry)) (now («result_operations» .entry)) (now («result_rows» .entry)))
-        l (now (output .exit))
+        (l .answer) (l .size) (now (output .exit))
         (lentOf (now (words .exit)) (now (numbers .exit)) (now («result_operations» .exit)) (now («result_rows» .exit))) ⌝ }
 {
     if output.len() < MOST_BYTES {

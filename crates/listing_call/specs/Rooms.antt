@@ -1,5 +1,5 @@
 -- What printing an accepted call asks is granted: its records lie in the lent slices, and its text fits. Assumes nothing.
-use mathlib.Core.Path.{_≡_, ap, subst}
+use mathlib.Core.Path.{_≡_, sym, ap, subst}
 use mathlib.Core.Option.{Option, some}
 use mathlib.Core.List.{List}
 use Prim.Native.Nat.{ℕ, _*_, _≤_}
@@ -9,6 +9,7 @@ use lib.Dec.{ltb}
 use lib.ListN.{length}
 use borrow.Author.Tests.{ltb-false}
 use Rattle.pauli.specs.Word.{width}
+use Rattle.model.specs.declared.Answer.{Answer}
 use Rattle.model.specs.declared.Answer.the-variants.{Accepted}
 use Rattle.model.specs.Program.{operationOf, programOf}
 use Rattle.model.specs.Rules.{rulesOf}
@@ -24,7 +25,7 @@ use Rattle.theory.specs.ListingCalls.{optionsOf}
 use Rattle.run_wellformed.specs.RunWellFormed.{end-formed}
 use Rattle.run_wellformed.specs.Lengths.{LongEnough, long-enough, operations-fit, same-lengths}
 use Rattle.listing_print.specs.Results.{ResultPre}
-use Rattle.listing_call.specs.Call.{mostBytes, replyTo, printedText, ListingReply, printedReply, noRoom, listingCall}
+use Rattle.listing_call.specs.Call.{mostBytes, replyTo, printedText, ListingReply, printedReply, noRoom, listingCall, ListingCalled}
 use Rattle.listing_call.specs.Reads.{SmallText, read-small}
 use Rattle.listing_call.specs.Replies.{operationsOut, axesOut, accepted-lines, printed-size}
 
@@ -78,3 +79,9 @@ call-fits text out s =
     (printedReply (read text) out (replyTo (read text) s))
     (λ e. omega arith)
     (λ e. le-trans (printed-size (read text) _ (λ t f. read-small text t f)) (ltb-false (length out) mostBytes e))
+
+-- so every call's text does
+pub called-fits : {text out : List ℕ} {s : Lent} {a : Answer} {size : ℕ} {out′ : List ℕ} {s′ : Lent}
+    → ListingCalled text out s a size out′ s′ → size ≤ length out
+called-fits {text} {out} {s} call =
+    subst (λ (n : ℕ). n ≤ length out) (sym (ap (λ (c : ListingReply). c .size) (call .replied))) (call-fits text out s)

@@ -19,7 +19,7 @@ use Rattle.theory.specs.Checked.{accepts-only}
 use Rattle.theory.specs.ListingCalls.{listingAnswer}
 use Rattle.result_effect.specs.Definitions.{operationsRead, rowsRead, lettersRead, axesRead}
 use Rattle.result_effect.specs.Listing.{listedFirst, listedRest, listed-text}
-use Rattle.promises.specs.Calls.{answer-is}
+use Rattle.theory.specs.Called.{answer-is}
 use Rattle.listing_columns.specs.Back.{linesBack, firstBack, restBack}
 use Rattle.listing_columns.specs.Digits.{InColumn}
 use Rattle.listing_columns.specs.Texts.{lines-back}

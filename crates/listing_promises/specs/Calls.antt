@@ -12,17 +12,22 @@ use Rattle.store.specs.Part.{put}
 use Rattle.model.specs.declared.Answer.{Answer}
 use Rattle.model.specs.declared.Answer.the-variants.{SliceShort, BadText}
 use Rattle.model.specs.Checking.{Lent}
-use Rattle.model.specs.Rewriting.{refused, rewriting}
+use Rattle.model.specs.Rewriting.{refused, rewriting, Called}
 use Rattle.model.specs.Listing.{Read, read, textOf, listing}
 use Rattle.theory.specs.Cases.{if-true, if-false}
 use Rattle.theory.specs.ListingCalls.{optionsOf, listingAnswer}
-use Rattle.promises.specs.Calls.{Called}
 use Rattle.listing_call.specs.Call.{ListingCalled, mostBytes, replyTo, printedText, ListingReply, printedReply, noRoom, listingCall}
 use Rattle.listing_call.specs.Replies.{reply-answer, other-lines}
 
 -- "A Listing's results and counters are what it prints": the bytes
 abbrev pub printed : ℕ → List ℕ → List ℕ
 printed size out′ = take size out′
+
+-- a call of Rewriting on what was read, with the slices s, answered a and left s′; what it counted is the model's
+abbrev pub CalledOn : Read → Lent → Answer → Lent → Type 0
+CalledOn t s a s′ =
+    let x = rewriting (optionsOf t) (t .job) s in
+    Called (optionsOf t) (t .job) s a (x .counters) (x .operations) (x .axes) s′
 
 module _ {text out : List ℕ} {s : Lent} {a : Answer} {size : ℕ} {out′ : List ℕ} {s′ : Lent} (call : ListingCalled text out s a size out′ s′) where
   -- ---- the largest listing does not fit into the output
@@ -85,13 +90,13 @@ module _ {text out : List ℕ} {s : Lent} {a : Answer} {size : ℕ} {out′ : Li
     unread-by e = (answer-by ∙ ap (λ (x : Option Read). replyTo x s .answer) e, lent-by ∙ ap (λ (x : Option Read). replyTo x s .lent) e)
 
     -- "then as rewriting"
-    pub called-by : (t : Read) → read text ≡ some t
-        → Called (optionsOf t) (t .job) s a (rewriting (optionsOf t) (t .job) s .counters) s′
+    pub called-by : (t : Read) → read text ≡ some t → CalledOn t s a s′
     unfolding replyTo
     called-by t e =
         let x = rewriting (optionsOf t) (t .job) s in
         record {
-          replied = ap₂ (λ (b : Answer) (z : Lent). record { answer = b; counters = x .counters; lent = z })
+          replied = ap₂ (λ (b : Answer) (z : Lent).
+              record { answer = b; counters = x .counters; operations = x .operations; axes = x .axes; lent = z })
               (answer-by ∙ ap (λ (y : Option Read). replyTo y s .answer) e) (lent-by ∙ ap (λ (y : Option Read). replyTo y s .lent) e);
         }
 

@@ -31,10 +31,9 @@ use Rattle.run_wellformed.specs.Lengths.{SameLengths}
 use Rattle.result_effect.specs.Listing.{operations-are, rows-are, listed-axes}
 use Rattle.run_effect.specs.RunEffect.{Effects, sourceEffect, resultEffect}
 use Rattle.run_effect.specs.Calls.{listing-keeps-effect}
-use Rattle.promises.specs.Calls.{Called}
 use Rattle.promises.specs.Strategies.{endWork}
 use Rattle.promises.specs.Promises as rewriting-promises
-use Rattle.promises.specs.Promises.{Cleared, Holds, tCountHanded}
+use Rattle.promises.specs.Promises.{Cleared, AcceptanceLeaves, tCountHanded}
 use Rattle.listing_columns.specs.Back.{textBack, linesBack, firstBack}
 use Rattle.listing_columns.specs.Texts.{text-back, lines-back}
 use Rattle.listing_call.specs.Call.{ListingCalled, mostBytes, printedText, noRoom, ListingReply}
@@ -43,7 +42,7 @@ use Rattle.listing_call.specs.Replies.{printed-size}
 use Rattle.listing_call.specs.Rooms.{call-fits}
 use Rattle.listing_call.specs.Size.{within-limit}
 use Rattle.listing_promises.specs.Fields.{listed-t, refusal-in}
-use Rattle.listing_promises.specs.Calls.{printed, without-room, room-of, unread-by, called-by, behind-by}
+use Rattle.listing_promises.specs.Calls.{printed, CalledOn, without-room, room-of, unread-by, called-by, behind-by}
 use Rattle.listing_promises.specs.Calls.{output-by, listing-printed, listing-answered}
 use Rattle.listing_promises.specs.Alike.{AlikeTexts, alike-options, alike-back, ZeroOrNine, not-short}
 use Rattle.listing_promises.specs.Back.{headField, operationsPrinted, rowsPrinted, axesPrinted, listed-accepted, lines-listed}
@@ -131,7 +130,7 @@ module _ {text out : List ℕ} {s : Lent} {a : Answer} {size : ℕ} {out′ : Li
   -- `promises` says of a call of Rewriting holds of this one.
   -- Rules out: options other than Rust's defaults; refusal 10 before Checking's
   pub then-as-rewriting : (t : Read) → mostBytes ≤ length out → read text ≡ some t
-      → Called (optionsOf t) (t .job) s a (rewriting (optionsOf t) (t .job) s .counters) s′
+      → CalledOn t s a s′
   then-as-rewriting t h e = called-by call h t e
 
   -- "refusals 1 to 8 leave all slices unchanged", and 11.
@@ -140,8 +139,7 @@ module _ {text out : List ℕ} {s : Lent} {a : Answer} {size : ℕ} {out′ : Li
   refusals-1-to-8-and-11 h k =
       by-cases (s′ ≡ s) (λ r. no-room r .1 .slices) (λ r e. unread-by call r e .1) (λ t r e. go (called-by call r t e) k)
     where
-      go : {t : Read} → Called (optionsOf t) (t .job) s a (rewriting (optionsOf t) (t .job) s .counters) s′
-          → (numberOf a ≤ 8) ⊎ (numberOf a ≡ 11) → s′ ≡ s
+      go : {t : Read} → CalledOn t s a s′ → (numberOf a ≤ 8) ⊎ (numberOf a ≡ 11) → s′ ≡ s
       go c (inl l) = rewriting-promises.refusals-1-to-8 c h l .0
       go c (inr l) = absurd (omega (arith, rewriting-promises.answers-0-to-10 c))
 
@@ -196,7 +194,7 @@ module _ {text out : List ℕ} {s : Lent} {a : Answer} {size : ℕ} {out′ : Li
 -- "acceptance leaves results, axis words and zeros": the program is the text's, the options Rust's defaults.
 -- Rules out: the text's own records left in the result slices; slots of packing left behind the axis words
 pub acceptance : {text out : List ℕ} {s : Lent} {size : ℕ} {out′ : List ℕ} {s′ : Lent} → ListingCalled text out s Accepted size out′ s′
-    → (t : Read) → read text ≡ some t → Holds (programOf (t .job)) (endWork (optionsOf t) (t .job)) s s′
+    → (t : Read) → read text ≡ some t → AcceptanceLeaves (programOf (t .job)) (endWork (optionsOf t) (t .job)) s s′
 acceptance call t e = rewriting-promises.acceptance (called-by call (room-of call (not-short (inl refl))) t e)
 
 -- ==== Demand 2. Meaning: "Each pass gives exactly what 01's rules give, as an equation with a definition"

@@ -4,6 +4,7 @@ use mathlib.Core.List.{List}
 use Prim.Native.Nat.{ℕ, _+_, _≤_}
 use native.Mathlib.Omega.{arith}
 use Rattle.model.specs.declared.Options.{Options}
+use Rattle.model.specs.declared.Counters.{Counters}
 use Rattle.model.specs.Lists.{anyOf, member}
 use Rattle.model.specs.Program.{Program}
 use Rattle.model.specs.Packing.{SignedAxis}
@@ -23,8 +24,10 @@ use Rattle.exchange.specs.Segments.{ExchangePre, Exchanged}
 use Rattle.exchange.specs.Pass.{exchange-is}
 use Rattle.points.specs.Demands.{exchange-pre}
 use Rattle.steps.specs.declared.State.{State}
-use Rattle.steps.specs.State.{withOut, withSwaps}
+use Rattle.steps.specs.State.{withOut}
+use Rattle.lent_passes.specs.Raised.{moreSwaps}
 use Rattle.points.specs.Points.{RunAt, SomeRun, OptionsIn, items-few}
+use Rattle.points.specs.Counts.{countersAt, withCounts}
 
 abbrev exchangeRules : Options → exchange.Rules
 exchangeRules o = record { window = o .window; candidates = o .candidates; eager = o .«eager_swaps» }
@@ -49,28 +52,31 @@ module _ {z : Shape} (o : Options) {st : State} {s : Sizes} (same : s ≡ sizesO
       subst (λ (n : Sizes). ExchangePre n (exchangeRules o) ws xs (st .out)) (sym same)
       (exchange-pre (r .granted) (r .work) (r .well) (exchangeRules o) (k .candidates))
 
-  module _ {d : Progress} {ys : List ℕ} (x : Exchanged s (exchangeRules o) ws xs (st .out) d ys) where
+  -- h are the counters that the pass left
+  module _ {d : Progress} {ys : List ℕ} (x : Exchanged s (exchangeRules o) ws xs (st .out) d ys) {h : Counters}
+      (counts : h ≡ moreSwaps (countersAt st) (d .swaps)) where
     pub swapped-at : (i : ℕ) (p : Program) (w : Work) → RunAt z i st ws xs p w
-        → RunAt z (i + 1) (withSwaps (st .swaps + d .swaps) (withOut (d .out) st)) ws ys p (exchangePass (z .l) (rulesOf o) w)
+        → RunAt z (i + 1) (withOut (d .out) (withCounts h st)) ws ys p (exchangePass (z .l) (rulesOf o) w)
     unfolding rulesOf member anyOf
     swapped-at i p w r =
-        let g = rulesOf o in
-        let b = subst (λ (n : Sizes). Exchanged n (exchangeRules o) ws xs (st .out) d ys) same x in
-        let e = exchange-is (sizesOf z (st .axes)) g ws w (r .work .axes .are) (r .work .items) b in
-        record {
-          granted = granted-same (r .granted) refl (x .only .long);
-          work = record {
-            axes = held-as (held-rows (r .work .axes) (b .only) refl) (ap (λ (t : Store). t .axes) (e .2));
-            peak-is = ap (λ (t : Store). t .peak) (sym (e .2)) ∙ r .work .peak-is;
-            within = r .work .within;
-            items = e .0;
-            fits = omega (arith, x .fewer, r .work .fits);
-            frame = subst (λ (fs : List SignedAxis). FrameIn z p fs ys) (sym (same-rows (z .l) g w))
-                (frame-other (b .only) refl (r .work .frame));
-          };
-          well = exchange-work g (r .well);
-          merges = r .merges ∙ sym (same-merges (z .l) g w);
-          swaps = ap (λ (n : ℕ). n + d .swaps) (r .swaps) ∙ e .1;
-          absorbed = r .absorbed ∙ sym (same-absorbed (z .l) g w);
-          few = omega (arith, x .few, r .few, items-few r);
-        }
+        rw counts (
+          let g = rulesOf o in
+          let b = subst (λ (n : Sizes). Exchanged n (exchangeRules o) ws xs (st .out) d ys) same x in
+          let e = exchange-is (sizesOf z (st .axes)) g ws w (r .work .axes .are) (r .work .items) b in
+          record {
+            granted = granted-same (r .granted) refl (x .only .long);
+            work = record {
+              axes = held-as (held-rows (r .work .axes) (b .only) refl) (ap (λ (t : Store). t .axes) (e .2));
+              peak-is = ap (λ (t : Store). t .peak) (sym (e .2)) ∙ r .work .peak-is;
+              within = r .work .within;
+              items = e .0;
+              fits = omega (arith, x .fewer, r .work .fits);
+              frame = subst (λ (fs : List SignedAxis). FrameIn z p fs ys) (sym (same-rows (z .l) g w))
+                  (frame-other (b .only) refl (r .work .frame));
+            };
+            well = exchange-work g (r .well);
+            merges = r .merges ∙ sym (same-merges (z .l) g w);
+            swaps = ap (λ (n : ℕ). n + d .swaps) (r .swaps) ∙ e .1;
+            absorbed = r .absorbed ∙ sym (same-absorbed (z .l) g w);
+            few = omega (arith, x .few, r .few, items-few r);
+          })

@@ -4,6 +4,7 @@ use mathlib.Core.List.{List}
 use Prim.Native.Nat.{ℕ, _+_, _≤_}
 use native.Mathlib.Omega.{arith}
 use Rattle.model.specs.Lists.{anyOf, member}
+use Rattle.model.specs.declared.Counters.{Counters}
 use Rattle.model.specs.Program.{Program}
 use Rattle.model.specs.Interface.{defaultsAt}
 use Rattle.model.specs.Rules.{Rules, rulesOf}
@@ -18,9 +19,11 @@ use Rattle.layering.specs.declared.Layering.{Layering}
 use Rattle.layering.specs.Contracts.{LayeringPre, LayeredAs}
 use Rattle.layering.specs.LayeringPass.{layered-pass}
 use Rattle.steps.specs.declared.State.{State}
-use Rattle.steps.specs.State.{withOut, withMerges}
+use Rattle.steps.specs.State.{withOut}
+use Rattle.lent_passes.specs.Raised.{moreMerges}
 use Rattle.points.specs.Demands.{layering-pre}
 use Rattle.points.specs.Points.{RunAt, SomeRun, items-few}
+use Rattle.points.specs.Counts.{countersAt, withCounts}
 
 -- layering goes by no rules
 anyRules : Rules
@@ -32,26 +35,29 @@ module _ {z : Shape} {st : State} {s : Sizes} (same : s ≡ sizesOf z (st .axes)
       let r = a .at in
       subst (λ (n : Sizes). LayeringPre n ws xs (st .out)) (sym same) (layering-pre (r .granted) (r .work) (r .well))
 
-  module _ {d : Layering} {ys : List ℕ} (x : LayeredAs s ws xs (st .out) d ys) where
+  -- h are the counters that the pass left
+  module _ {d : Layering} {ys : List ℕ} (x : LayeredAs s ws xs (st .out) d ys) {h : Counters}
+      (counts : h ≡ moreMerges (countersAt st) (d .merged)) where
     pub layered-at : (i : ℕ) (p : Program) (w : Work) → RunAt z i st ws xs p w
-        → RunAt z (i + 1) (withMerges (st .merges + d .merged) (withOut (d .out) st)) ws ys p (layeringPass (z .l) w)
+        → RunAt z (i + 1) (withOut (d .out) (withCounts h st)) ws ys p (layeringPass (z .l) w)
     unfolding member anyOf
     layered-at i p w r =
-        let b = subst (λ (n : Sizes). LayeredAs n ws xs (st .out) d ys) same x in
-        let e = layered-pass b w (r .work .axes) (sym (r .work .items)) in
-        record {
-          granted = granted-same (r .granted) refl (x .only .long);
-          work = record {
-            axes = held-as (held-rows (r .work .axes) (b .only) refl) (ap (λ (v : Work). v .store .axes) (sym e));
-            peak-is = ap (λ (v : Work). v .store .peak) e ∙ r .work .peak-is;
-            within = r .work .within;
-            items = ap (λ (v : Work). v .items) (sym e);
-            fits = omega (arith, x .size, r .work .fits);
-            frame = subst (λ (v : Work). FrameIn z p (v .rows) ys) (sym e) (frame-other (b .only) refl (r .work .frame));
-          };
-          well = layering-work anyRules (r .well);
-          merges = ap (λ (n : ℕ). n + d .merged) (r .merges) ∙ ap (λ (v : Work). v .merges) (sym e);
-          swaps = r .swaps ∙ ap (λ (v : Work). v .swaps) (sym e);
-          absorbed = r .absorbed ∙ ap (λ (v : Work). v .absorbed) (sym e);
-          few = omega (arith, x .size, r .few, items-few r);
-        }
+        rw counts (
+          let b = subst (λ (n : Sizes). LayeredAs n ws xs (st .out) d ys) same x in
+          let e = layered-pass b w (r .work .axes) (sym (r .work .items)) in
+          record {
+            granted = granted-same (r .granted) refl (x .only .long);
+            work = record {
+              axes = held-as (held-rows (r .work .axes) (b .only) refl) (ap (λ (v : Work). v .store .axes) (sym e));
+              peak-is = ap (λ (v : Work). v .store .peak) e ∙ r .work .peak-is;
+              within = r .work .within;
+              items = ap (λ (v : Work). v .items) (sym e);
+              fits = omega (arith, x .size, r .work .fits);
+              frame = subst (λ (v : Work). FrameIn z p (v .rows) ys) (sym e) (frame-other (b .only) refl (r .work .frame));
+            };
+            well = layering-work anyRules (r .well);
+            merges = ap (λ (n : ℕ). n + d .merged) (r .merges) ∙ ap (λ (v : Work). v .merges) (sym e);
+            swaps = r .swaps ∙ ap (λ (v : Work). v .swaps) (sym e);
+            absorbed = r .absorbed ∙ ap (λ (v : Work). v .absorbed) (sym e);
+            few = omega (arith, x .size, r .few, items-few r);
+          })

@@ -5,20 +5,22 @@ use mathlib.Core.List.{List}
 use Prim.Native.Nat.{ℕ, _+_, _≤_}
 use native.Mathlib.Omega.{arith}
 use Rattle.model.specs.declared.Options.{Options}
+use Rattle.model.specs.declared.Counters.{Counters}
 use Rattle.model.specs.Program.{Program}
-use Rattle.model.specs.Rules.{Rules, rulesOf, absorptionOf}
+use Rattle.model.specs.Rules.{rulesOf, absorptionOf}
 use Rattle.model.specs.Rounds.{Work, streamPass}
 use Rattle.layout.specs.declared.Shape.{Shape}
 use Rattle.layout.specs.Shape.{granted-same}
 use Rattle.steps.specs.declared.State.{State}
-use Rattle.steps.specs.State.{withMerges, withSwaps, withAbsorbed}
 use Rattle.steps.specs.declared.Step.{Step}
+use Rattle.steps.specs.declared.Step.the-variants.{Next, ExpansionLimit}
 use Rattle.stream_states.specs.declared.StreamRules.{StreamRules}
 use Rattle.stream_states.specs.States.{RulesAs, absorptionSaid}
-use Rattle.stream.specs.Passing.{PassAtWork, PassedAs, SomeWork, LeftP}
+use Rattle.stream.specs.Passing.{PassAtWork, SomeWork, LeftP}
+use Rattle.lent_passes.specs.Counted.{raised, StreamedAs, next-counts}
 use Rattle.points.specs.Demands as demands
-use Rattle.steps.specs.declared.Step.the-variants.{Next, ExpansionLimit}
-use Rattle.points.specs.Points.{RunAt, SomeRun, SameLong, EndedAs, ended-at, ended-limit, most}
+use Rattle.points.specs.Points.{RunAt, SomeRun, SameLong, EndedAs, ended-at, ended-limit}
+use Rattle.points.specs.Counts.{countersAt, withCounts}
 
 -- the rules of a stream: the options', and whether rotations merge
 abbrev streamRules : Options → Bool → StreamRules
@@ -45,28 +47,28 @@ module _ (o : Options) (merging : Bool) (st : State) {z : Shape} {ws xs : List �
       → SomeWork (λ prog w g. PassAtWork z (streamRules o merging) prog w (st .axes) (st .out) (st .peak) ws xs g)
   stream-pre s = record { program = s .program; work = s .work; rules = rulesOf o; it = stream-at (s .at) }
 
-  module _ {r : Step} {ws′ xs′ : List ℕ} (left : LeftP z ws xs ws′ xs′)
-      (call : (prog : Program) (w : Work) (g : Rules) → PassAtWork z (streamRules o merging) prog w (st .axes) (st .out) (st .peak) ws xs g
-      → PassedAs z (streamRules o merging) prog w g r ws′ xs′) where
+  -- h are the counters that the pass left
+  module _ {r : Step} {ws′ xs′ : List ℕ} {h : Counters}
+      (x : StreamedAs z (streamRules o merging) (st .out) (st .axes) (st .peak) ws xs (countersAt st) r ws′ xs′ h) where
     pub stream-limit : r ≡ ExpansionLimit → (i : ℕ) (p : Program) (w : Work) → RunAt z i st ws xs p w
         → EndedAs z (i + 1) ExpansionLimit ws′ xs′ p (streamPass (z .l) (rulesOf o) merging w)
-    stream-limit e i p w h = ended-limit (call p w (rulesOf o) (stream-at h) .refused e)
+    stream-limit e i p w a = ended-limit (x .passed p w (rulesOf o) (stream-at a) .refused e)
 
     module _ {d : State} (e : r ≡ Next d) where
-      pub stream-few : {i : ℕ} → SomeRun z i st ws xs → d .merges + d .absorbed ≤ most
-      stream-few s = call (s .program) (s .work) (rulesOf o) (stream-at (s .at)) .few d e
+      -- the counters are the run's
+      counts : h ≡ raised (countersAt st) (d .merges) (d .absorbed)
+      counts = x .counters ∙ rw (next-counts e .0, next-counts e .1) refl
 
       pub stream-done : (i : ℕ) (p : Program) (w : Work) → RunAt z i st ws xs p w
-          → EndedAs z (i + 1) (Next (withAbsorbed (st .absorbed + d .absorbed) (withSwaps (st .swaps) (withMerges (st .merges + d .merges) d))))
-          ws′ xs′ p (streamPass (z .l) (rulesOf o) merging w)
-      stream-done i p w h =
-          let a = call p w (rulesOf o) (stream-at h) in
-          ended-at {i = i + 1} (omega arith) (record {
-            granted = granted-same (h .granted) (left .words .long) (left .numbers .long);
-            work = a .work d e;
-            well = demands.stream-at (h .granted .sized) (rulesOf o) (h .well) merging;
-            merges = ap (λ (n : ℕ). n + d .merges) (h .merges) ∙ sym (a .merges d e);
-            swaps = h .swaps ∙ (unfold streamPass in refl);
-            absorbed = ap (λ (n : ℕ). n + d .absorbed) (h .absorbed) ∙ sym (a .absorbed d e);
-            few = omega (arith, h .few, a .few d e);
-          })
+          → EndedAs z (i + 1) (Next (withCounts h d)) ws′ xs′ p (streamPass (z .l) (rulesOf o) merging w)
+      stream-done i p w a =
+          let b = x .passed p w (rulesOf o) (stream-at a) in
+          rw counts (ended-at {i = i + 1} (omega arith) (record {
+            granted = granted-same (a .granted) (x .left .words .long) (x .left .numbers .long);
+            work = b .work d e;
+            well = demands.stream-at (a .granted .sized) (rulesOf o) (a .well) merging;
+            merges = ap (λ (n : ℕ). n + d .merges) (a .merges) ∙ sym (b .merges d e);
+            swaps = a .swaps ∙ (unfold streamPass in refl);
+            absorbed = ap (λ (n : ℕ). n + d .absorbed) (a .absorbed) ∙ sym (b .absorbed d e);
+            few = omega (arith, a .few, b .few d e);
+          }))

@@ -1,4 +1,4 @@
--- A call of Rewriting by what it answers and leaves, and the reply by its answer's number. Assumes nothing.
+-- The reply of a call of Rewriting by its answer's number. Assumes nothing.
 use mathlib.Core.Path.{_≡_, refl, sym, ap, _∙_}
 use mathlib.Core.Logic.{_⊎_, inl, inr, _↔_}
 use mathlib.Core.Bool.{Bool, true, false}
@@ -15,29 +15,13 @@ use Rattle.model.specs.Program.{Job, programOf}
 use Rattle.model.specs.Rules.{rulesOf}
 use Rattle.model.specs.Run.{Ending, nonHermitian, finished, endAnswer}
 use Rattle.model.specs.Checking.{Lent, checking}
-use Rattle.model.specs.Rewriting.{Reply, refused, stopped, afterEnding, rewriting}
+use Rattle.model.specs.Rewriting.{Reply, refused, stopped, afterEnding, rewriting, Called}
 use Rattle.theory.specs.Checked.{accepts-only}
+use Rattle.theory.specs.Called.{answer-is}
 use Rattle.theory.specs.Replies.{runOf, limitOf, refused-reply, beyond-limit, within-limit, stopped-answer, refused-answer, ending-answer}
 use Rattle.theory.specs.Replies.{run-answer, checking-low, ran}
 use Rattle.theory.specs.Limit.{within, within-answer}
 use Rattle.theory.specs.Hermitian.{Hermitian, accepted-exactly}
-
--- ---- a call
-
--- with options o, job j and slices s lent, Rewriting answered a and left the counters c and the slices t. The equation is the contract of
--- `rewriting::rewriting`, which has no `requires`: every call ends in it, for all arguments
-pub record Called (o : Options) (j : Job) (s : Lent) (a : Answer) (c : Counters) (t : Lent) : Type 0 where
-  pub replied : _≡_ {A = Reply} (record { answer = a; counters = c; lent = t }) (rewriting o j s)
-
-module _ {o : Options} {j : Job} {s : Lent} {a : Answer} {c : Counters} {t : Lent} (call : Called o j s a c t) where
-  pub answer-is : rewriting o j s .answer ≡ a
-  answer-is = sym (ap (λ (x : Reply). x .answer) (call .replied))
-
-  pub counters-are : rewriting o j s .counters ≡ c
-  counters-are = sym (ap (λ (x : Reply). x .counters) (call .replied))
-
-  pub lent-is : rewriting o j s .lent ≡ t
-  lent-is = sym (ap (λ (x : Reply). x .lent) (call .replied))
 
 -- ---- the four ways to reply
 
@@ -101,12 +85,12 @@ module _ {o : Options} {j : Job} {s : Lent} {x : Reply} where
   number-stopped (done e) h = absurd (omega (arith, ap numberOf e))
 
 -- a call's reply is one of them
-pub called-of : {o : Options} {j : Job} {s : Lent} {a : Answer} {c : Counters} {t : Lent} → Called o j s a c t
-    → Replied o j s (record { answer = a; counters = c; lent = t })
+pub called-of : {o : Options} {j : Job} {s : Lent} {a : Answer} {c : Counters} {m n : ℕ} {t : Lent} → Called o j s a c m n t
+    → Replied o j s (record { answer = a; counters = c; operations = m; axes = n; lent = t })
 called-of {o} {j} {s} call = rw (call .replied) (reply-of o j s)
 
 -- 0 and 9 come after Checking has passed
-pub passed-checking : {o : Options} {j : Job} {s : Lent} {a : Answer} {c : Counters} {t : Lent} → Called o j s a c t
+pub passed-checking : {o : Options} {j : Job} {s : Lent} {a : Answer} {c : Counters} {m n : ℕ} {t : Lent} → Called o j s a c m n t
     → (a ≡ Accepted) ⊎ (a ≡ NonHermitianAxis) → checking o j s ≡ Accepted
 passed-checking {o} {j} {s} call (inl e) = ran o j s Accepted (answer-is call ∙ e) (inl refl)
 passed-checking {o} {j} {s} call (inr e) = ran o j s NonHermitianAxis (answer-is call ∙ e) (inr (omega arith))

@@ -25,11 +25,12 @@ use Rattle.model.specs.Run.{startOf, endOf}
 use Rattle.model.specs.Results.{operationAt, barrierRecord, itemRecord, operationResults, keptRow, givenRow, rowRecord, axesLeft}
 use Rattle.model.specs.Results.{rowResultsFrom, rowResults}
 use Rattle.model.specs.Checking.{Lent, wordsAsked}
-use Rattle.model.specs.Rewriting.{thenZeros, accepted}
+use Rattle.model.specs.Rewriting.{thenZeros, accepted, Called}
 use Rattle.theory.specs.Cases.{by-if}
 use Rattle.theory.specs.Every.{Every}
 use Rattle.theory.specs.StreamState.{axisOf}
 use Rattle.theory.specs.AcceptedRun.{hermitian-peak}
+use Rattle.theory.specs.Called.{answer-is, lent-is}
 use Rattle.theory.specs.TCountCalls.{accepted-checks, accepted-within, accepted-hermitian, accepted-reply}
 use Rattle.words_wellformed.specs.Wellformed.{IdsInRange, end-ids}
 use Rattle.run_wellformed.specs.Memory.{axes-within, width-positive}
@@ -46,7 +47,6 @@ use Rattle.result_effect.specs.Calls.{call-fine, call-hermitian, left-axes, lef
 use Rattle.run_effect.specs.Same.{picked}
 use Rattle.run_effect.specs.RunEffect.{resultEffect}
 use Rattle.promises.specs.Slices.{kindsRead, HasKind, kinds-read, zeros-at}
-use Rattle.promises.specs.Calls.{Called, answer-is, lent-is}
 
 -- ---- reading the slices of a job
 
@@ -150,7 +150,7 @@ module _ {W : Type 0} (word : List ℕ → W) (A B : List (List ℕ)) (same : (a
 
 -- ---- an accepted call
 
-module _ {o : Options} {j : Job} {s : Lent} {c : Counters} {t : Lent} (call : Called o j s Accepted c t) where
+module _ {o : Options} {j : Job} {s : Lent} {c : Counters} {m n : ℕ} {t : Lent} (call : Called o j s Accepted c m n t) where
   abbrev p : Program
   p = programOf j
 

@@ -1,6 +1,7 @@
--- The three demands about Rewriting, as theorems about its calls. `Called o j s a c t` (Calls): with options o, job j and slices s lent the
--- code answered a and left counters c and slices t; this equation is the contract of `rewriting::rewriting`, for all arguments. Stores of
--- two calls may differ in length and content. Under each promise stand two wrong programs that it rules out. Assumes nothing.
+-- The three demands about Rewriting, as theorems about its calls. `Called o j s a c m n t` (model, Rewriting): with options o, job j and slices
+-- s lent the code answered a, counted c, m operations and n axes, and left the slices t. It is what `rewriting::rewriting` ensures, for all
+-- arguments, and what the library's call ensures says it too (werdutxa, Promised). Stores of two calls may differ in length and content.
+-- Under each promise stand two wrong programs that it rules out. Assumes nothing.
 use mathlib.Core.Path.{_≡_, refl, sym, ap, ap₂, _∙_, subst}
 use mathlib.Core.Logic.{_⊎_, inl, inr, _↔_, ⊎-elim}
 use mathlib.Core.Bool.{Bool, false}
@@ -9,7 +10,7 @@ use Prim.Native.Nat.{ℕ, _+_, _-_, _≤_, _<_}
 use native.Mathlib.Decide.{decLt}
 use native.Mathlib.Omega.{arith}
 use lib.Dec.{eqb}
-use lib.ListN.{length}
+use lib.ListN.{length, length-map}
 use Rattle.groups.specs.Abelian.{pow2}
 use Rattle.pauli.specs.Word.{width}
 use Rattle.model.specs.declared.Strategy.the-variants.{Merge, Litinski}
@@ -22,23 +23,24 @@ use Rattle.model.specs.Program.{Job, Program, programOf}
 use Rattle.model.specs.Rules.{rulesOf}
 use Rattle.model.specs.Rounds.{Work, mergeRounds, litinskiRounds}
 use Rattle.model.specs.Run.{Run, startOf, answerOf}
-use Rattle.model.specs.Results.{operationResults, rowResults, sourceTCount, resultTCount, countersOf}
+use Rattle.model.specs.Results.{itemRecord, operationResults, rowResults, sourceTCount, resultTCount, countersOf}
 use Rattle.model.specs.Checking.{Lent, checking}
-use Rattle.model.specs.Rewriting.{Reply, thenZeros, zeros, refused, stopped, accepted, rewriting}
+use Rattle.model.specs.Rewriting.{Reply, thenZeros, zeros, refused, stopped, accepted, rewriting, Called}
 use Rattle.theory.specs.Alike.{alike-program}
+use Rattle.theory.specs.Called.{answer-is, counters-are, operations-are, axes-are, lent-is}
 use Rattle.theory.specs.Replies.{runOf, limitOf, refused-answer, run-answer, refusal-answer}
 use Rattle.theory.specs.Checked.{accepts-only, limit-fits, checking-options}
 use Rattle.theory.specs.Limit.{run-same, checks-again, same-at-larger-limit, results-answer, results-counters}
 use Rattle.theory.specs.AcceptedRun.{finishOf, hermitian-peak}
-use Rattle.theory.specs.TCountCalls.{accepted-hermitian, accepted-counters, accepted-reply, no-more-than-source, no-more-with-more-rounds}
+use Rattle.theory.specs.TCountCalls.{accepted-hermitian, accepted-counters, accepted-operations, accepted-axes, accepted-reply}
+use Rattle.theory.specs.TCountCalls.{no-more-than-source, no-more-with-more-rounds}
 use Rattle.theory.specs.EqualRounds.{equal-rounds}
 use Rattle.theory.specs.Hermitian.{Hermitian, accepted-exactly, limit-exactly}
 use Rattle.run_wellformed.specs.Lengths.{SameLengths, same-lengths}
 use Rattle.result_effect.specs.Calls.{call-fine, call-hermitian}
 use Rattle.run_effect.specs.RunEffect.{Effects, sourceEffect, resultEffect, run-keeps-effect}
 use Rattle.promises.specs.Slices.{Agree, agree-then, agree-zeros}
-use Rattle.promises.specs.Calls.{Called, answer-is, counters-are, lent-is, passed-checking, called-of, number-low, number-checking}
-use Rattle.promises.specs.Calls.{number-stopped, nine-exactly}
+use Rattle.promises.specs.Calls.{Replied, byChecking, byLimit, byRoot, done, passed-checking, called-of, number-low, number-checking, number-stopped, nine-exactly}
 use Rattle.promises.specs.Strategies.{endWork, merge-end, litinski-end, no-rounds-end}
 use Rattle.promises.specs.Left.{operationsIn, rowsIn, wordsIn, operations-left, effect-left}
 use Rattle.promises.specs.Alike.{AlikeButRoundsAndLimit, AlikeButLimit, alike-rules, but-limit, not-two}
@@ -53,7 +55,7 @@ pub record Cleared (s t : Lent) : Type 0 where
   pub rows : t .rows ≡ s .rows
 
 -- t is what acceptance of a program p with the work w leaves of s: "results, then zeros; axis words, then zeros; number store zero"
-pub record Holds (p : Program) (w : Work) (s t : Lent) : Type 0 where
+pub record AcceptanceLeaves (p : Program) (w : Work) (s t : Lent) : Type 0 where
   pub operations : t .operations ≡ thenZeros (s .operations) (flatten (operationResults p w))
   pub rows : t .rows ≡ thenZeros (s .rows) (flatten (rowResults p w))
   pub words : t .words ≡ thenZeros (s .words) (flatten (w .store .axes))
@@ -76,7 +78,7 @@ tCountLeft j t = resultTCount (operationsIn j t)
 
 -- ==== Demand 1. Memory: "Every call ends and does its own checking. For every input each lent slice holds just what document 01 says"
 
-module _ {o : Options} {j : Job} {s : Lent} {a : Answer} {c : Counters} {t : Lent} (call : Called o j s a c t) where
+module _ {o : Options} {j : Job} {s : Lent} {a : Answer} {c : Counters} {m n : ℕ} {t : Lent} (call : Called o j s a c m n t) where
   -- a call answers 0 to 10.
   -- Rules out: 11 for a job that Listing would not read; a number of its own for "stores too short to go on"
   pub answers-0-to-10 : numberOf a ≤ 10
@@ -108,6 +110,22 @@ module _ {o : Options} {j : Job} {s : Lent} {a : Answer} {c : Counters} {t : Len
         ap (λ (x : Reply). x .counters) e ∙ unfold stopped in refl,
       )
 
+  -- after a refusal no operation and no axis is counted either.
+  -- Rules out: how many operations were handed in, told after 4; the axes that were stored when 10 came
+  pub nothing-counted : (a ≡ Accepted → ⊥) → (m ≡ 0) × (n ≡ 0)
+  unfolding refused stopped
+  nothing-counted no′ = go (called-of call)
+    where
+      both : (x : Reply) → _≡_ {A = Reply} (record { answer = a; counters = c; operations = m; axes = n; lent = t }) x
+          → (x .operations ≡ 0) × (x .axes ≡ 0) → (m ≡ 0) × (n ≡ 0)
+      both x e h = (ap (λ (y : Reply). y .operations) e ∙ h .0, ap (λ (y : Reply). y .axes) e ∙ h .1)
+
+      go : Replied o j s (record { answer = a; counters = c; operations = m; axes = n; lent = t }) → (m ≡ 0) × (n ≡ 0)
+      go (byChecking e) = both (refused (checking o j s) s) e (refl, refl)
+      go (byLimit e) = both (stopped ExpansionLimit s) e (refl, refl)
+      go (byRoot e) = both (stopped NonHermitianAxis s) e (refl, refl)
+      go (done e) = absurd (no′ e)
+
   -- every slice is as long as it was: the results and the axis words fit.
   -- Rules out: one record too many in the result slice; axis words that run over the word store's end
   pub lengths-kept : SameLengths s t
@@ -115,8 +133,8 @@ module _ {o : Options} {j : Job} {s : Lent} {a : Answer} {c : Counters} {t : Len
 
 -- "acceptance leaves results, axis words and zeros".
 -- Rules out: the slots of packing left behind the axis words; old records left behind the new ones in the result slice
-pub acceptance : {o : Options} {j : Job} {s : Lent} {c : Counters} {t : Lent} → Called o j s Accepted c t
-    → Holds (programOf j) (endWork o j) s t
+pub acceptance : {o : Options} {j : Job} {s : Lent} {c : Counters} {m n : ℕ} {t : Lent} → Called o j s Accepted c m n t
+    → AcceptanceLeaves (programOf j) (endWork o j) s t
 unfolding accepted
 acceptance {o} {j} {s} call =
     rw (← lent-is call, accepted-reply o j s (answer-is call)) (record { operations = refl; rows = refl; words = refl; numbers = refl })
@@ -125,25 +143,25 @@ acceptance {o} {j} {s} call =
 
 -- Each pass's own contract (crates packing, start, stream, exchange, layering, depth) is an equation with the model's pass; here is what an
 -- accepted call leaves, by its options' strategy and rounds
-module _ {o : Options} {j : Job} {s : Lent} {c : Counters} {t : Lent} (call : Called o j s Accepted c t) where
+module _ {o : Options} {j : Job} {s : Lent} {c : Counters} {m n : ℕ} {t : Lent} (call : Called o j s Accepted c m n t) where
   -- "Merge strategy: rounds of stream and exchange, until ..; then one more stream if ..": `mergeRounds`, on the packed program.
   -- Rules out: the program handed back untouched; one round that counts for all
   pub merge-results : o .strategy ≡ Merge
-      → Holds (programOf j) (mergeRounds (width (j .counts .qubits)) (rulesOf o) (o .rounds) (startOf (programOf j))) s t
+      → AcceptanceLeaves (programOf j) (mergeRounds (width (j .counts .qubits)) (rulesOf o) (o .rounds) (startOf (programOf j))) s t
   merge-results e = rw (← merge-end o j e) (acceptance call)
 
   -- "Otherwise a stream; then each round layers every segment, ends the work if nothing merged, else streams again": `litinskiRounds`.
   -- Rules out: Merge run for Litinski; streams that merge between the layerings
   pub litinski-results : o .strategy ≡ Litinski
-      → Holds (programOf j) (litinskiRounds (width (j .counts .qubits)) (rulesOf o) (o .rounds) (startOf (programOf j))) s t
+      → AcceptanceLeaves (programOf j) (litinskiRounds (width (j .counts .qubits)) (rulesOf o) (o .rounds) (startOf (programOf j))) s t
   litinski-results e = rw (← litinski-end o j e) (acceptance call)
 
   -- "Rounds 0 does nothing", by either strategy: the operations as they were packed.
   -- Rules out: a closing stream without rounds; one stream for rounds 0
-  pub no-rounds-results : o .rounds ≡ 0 → Holds (programOf j) (startOf (programOf j)) s t
+  pub no-rounds-results : o .rounds ≡ 0 → AcceptanceLeaves (programOf j) (startOf (programOf j)) s t
   no-rounds-results e = rw (← no-rounds-end o j e) (acceptance call)
 
-module _ {o : Options} {j : Job} {s : Lent} {a : Answer} {c : Counters} {t : Lent} (call : Called o j s a c t) where
+module _ {o : Options} {j : Job} {s : Lent} {a : Answer} {c : Counters} {m n : ℕ} {t : Lent} (call : Called o j s a c m n t) where
   -- where Checking passes, the answer is that of 01's run at the limit: 9, 10 or 0, "in Rust's order".
   -- Rules out: refusing all; 9 for a root that is met after a sum above the limit
   pub answer-of-run : checking o j s ≡ Accepted → a ≡ answerOf (limitOf o) (runOf o j)
@@ -167,11 +185,20 @@ module _ {o : Options} {j : Job} {s : Lent} {a : Answer} {c : Counters} {t : Len
   non-hermitian-where h =
       (λ e. nine-exactly o j s h .0 (answer-is call ∙ e), λ g. sym (answer-is call) ∙ nine-exactly o j s h .1 g)
 
-module _ {o : Options} {j : Job} {s : Lent} {c : Counters} {t : Lent} (call : Called o j s Accepted c t) where
+module _ {o : Options} {j : Job} {s : Lent} {c : Counters} {m n : ℕ} {t : Lent} (call : Called o j s Accepted c m n t) where
   -- all twelve counters are those of the run.
   -- Rules out: merge counters made up; T-depths measured where `measure_depth` is off
   pub counters-of-run : c ≡ countersOf (rulesOf o) (programOf j) (finishOf (rulesOf o) (o .rounds) (programOf j))
   counters-of-run = sym (counters-are call) ∙ accepted-counters o j s (answer-is call)
+
+  -- the operations that are counted are those that lie in the slice, and the axes those of the run, whose words `acceptance` tells.
+  -- Rules out: the operations handed in, counted for those that came out; axes counted by the words that are not 0
+  pub operations-and-axes : (m ≡ length (operationsIn j t)) × (n ≡ length (endWork o j .store .axes))
+  unfolding operationResults
+  operations-and-axes =
+      let told = sym (operations-are call) ∙ accepted-operations o j s (answer-is call) in
+      let left = ap length (operations-left call) ∙ length-map (endWork o j .items) (itemRecord (programOf j .operations)) in
+      (told ∙ sym left, sym (axes-are call) ∙ accepted-axes o j s (answer-is call))
 
   -- "the rewritten program is proved to have its source's effect for every choice of outcomes and every product of frame rows": what lies
   -- in the slices, read by its records' fields alone, against the counted records handed in; "equal after factors 2 for the difference in
@@ -189,7 +216,7 @@ module _ {o : Options} {j : Job} {s : Lent} {c : Counters} {t : Lent} (call : Ca
 
 -- ==== Demand 3. Never worse
 
-module _ {o : Options} {j : Job} {s : Lent} {c : Counters} {t : Lent} (call : Called o j s Accepted c t) where
+module _ {o : Options} {j : Job} {s : Lent} {c : Counters} {m n : ℕ} {t : Lent} (call : Called o j s Accepted c m n t) where
   -- the counters tell both T-counts.
   -- Rules out: T before taken after rotations dropped out; T after that leaves conditional rotations out
   pub t-counts-told : (c .«t_before» ≡ tCountHanded j) × (c .«t_after» ≡ tCountLeft j t)
@@ -207,10 +234,10 @@ module _ {o : Options} {j : Job} {s : Lent} {c : Counters} {t : Lent} (call : Ca
       let h : c .«t_after» ≤ c .«t_before» = rw (← counters-are call) (no-more-than-source o j s (answer-is call)) in
       omega arith
 
-module _ {o o′ : Options} {j j′ : Job} {s s′ : Lent} {c c′ : Counters} {t t′ : Lent} where
+module _ {o o′ : Options} {j j′ : Job} {s s′ : Lent} {c c′ : Counters} {m n m′ n′ : ℕ} {t t′ : Lent} where
   -- "Of two accepted runs alike but for rounds and word limit, the one with more rounds has no higher T-count".
   -- Rules out: a last round whose worse result is kept; another strategy where there are many rounds
-  pub more-rounds-never-worse : Called o j s Accepted c t → Called o′ j′ s′ Accepted c′ t′ → AlikeButRoundsAndLimit o o′ j j′
+  pub more-rounds-never-worse : Called o j s Accepted c m n t → Called o′ j′ s′ Accepted c′ m′ n′ t′ → AlikeButRoundsAndLimit o o′ j j′
       → o .rounds ≤ o′ .rounds
       → tCountLeft j′ t′ ≤ tCountLeft j t
   more-rounds-never-worse x y alike h =
@@ -222,11 +249,11 @@ module _ {o o′ : Options} {j j′ : Job} {s s′ : Lent} {c c′ : Counters} {
 
   -- "equal rounds give equal results and counters".
   -- Rules out: an answer that depends on what the work stores held; ids that depend on the limit
-  pub equal-rounds-equal-results : Called o j s Accepted c t → Called o′ j′ s′ Accepted c′ t′ → AlikeButLimit o o′ j j′
+  pub equal-rounds-equal-results : Called o j s Accepted c m n t → Called o′ j′ s′ Accepted c′ m′ n′ t′ → AlikeButLimit o o′ j j′
       → SameLeft t t′ × (c′ ≡ c)
   equal-rounds-equal-results x y alike =
       let one = acceptance x in
-      let other : Holds (programOf j) (endWork o j) s′ t′
+      let other : AcceptanceLeaves (programOf j) (endWork o j) s′ t′
       = rw (← alike-rules (alike .others), ← alike .rounds, ← alike-program j j′ (alike .others .job)) (acceptance y) in (
         record {
           operations = agree-then _ _ _ (one .operations) (other .operations);
@@ -238,11 +265,25 @@ module _ {o o′ : Options} {j j′ : Job} {s s′ : Lent} {c c′ : Counters} {
             (results-counters (equal-rounds o o′ j j′ s s′ (alike .others .job) (but-limit alike) (answer-is x) (answer-is y))),
       )
 
-module _ {o o′ : Options} {j j′ : Job} {s s′ : Lent} {a a′ : Answer} {c c′ : Counters} {t t′ : Lent} where
+  -- and as many operations and axes.
+  -- Rules out: axes that a refused trial stored; operations counted up to the longest result slice
+  pub equal-rounds-equal-numbers : Called o j s Accepted c m n t → Called o′ j′ s′ Accepted c′ m′ n′ t′ → AlikeButLimit o o′ j j′
+      → (m′ ≡ m) × (n′ ≡ n)
+  equal-rounds-equal-numbers x y alike =
+      let end : endWork o′ j′ ≡ endWork o j
+      = rw (alike-rules (alike .others), alike .rounds, alike-program j j′ (alike .others .job)) refl in
+      (
+        sym (operations-are y) ∙ accepted-operations o′ j′ s′ (answer-is y) ∙ ap (λ (w : Work). length (w .items)) end
+            ∙ sym (sym (operations-are x) ∙ accepted-operations o j s (answer-is x)),
+        sym (axes-are y) ∙ accepted-axes o′ j′ s′ (answer-is y) ∙ ap (λ (w : Work). length (w .store .axes)) end
+            ∙ sym (sym (axes-are x) ∙ accepted-axes o j s (answer-is x)),
+      )
+
+module _ {o o′ : Options} {j j′ : Job} {s s′ : Lent} {a a′ : Answer} {c c′ : Counters} {m n m′ n′ : ℕ} {t t′ : Lent} where
   -- "an accepted or non-Hermitian run gets the same answer at every larger limit": the limit lies in the domain, and 3 does not refuse the
   -- stores ("long enough if 3 does not refuse them").
   -- Rules out: 10 at a limit above one that was enough; slots laid out so that a larger limit tests larger sums
-  pub larger-limit-same-answer : Called o j s a c t → Called o′ j′ s′ a′ c′ t′ → AlikeButLimit o o′ j j′
+  pub larger-limit-same-answer : Called o j s a c m n t → Called o′ j′ s′ a′ c′ m′ n′ t′ → AlikeButLimit o o′ j j′
       → (a ≡ Accepted) ⊎ (a ≡ NonHermitianAxis) → limitOf o ≤ limitOf o′ → limitOf o′ ≤ 1048576 → (a′ ≡ SliceShort → ⊥)
       → (a′ ≡ a) × (c′ ≡ c)
   larger-limit-same-answer x y alike e h k n =
@@ -255,7 +296,7 @@ module _ {o o′ : Options} {j j′ : Job} {s s′ : Lent} {a a′ : Answer} {c 
 
 -- ==== Request M-103. "Report the words exactly"
 
-module _ {o : Options} {j : Job} {s : Lent} {a : Answer} {c : Counters} {t : Lent} (call : Called o j s a c t) where
+module _ {o : Options} {j : Job} {s : Lent} {a : Answer} {c : Counters} {m n : ℕ} {t : Lent} (call : Called o j s a c m n t) where
   -- "A rewriting should return the largest word sum that was tested": that of 01's run, which knows no limit.
   -- Rules out: the sum tested last; the words that the axes take in the end
   pub words-told : a ≡ Accepted → c .«packed_words» ≡ runOf o j .peak
@@ -284,8 +325,8 @@ module _ {o : Options} {j : Job} {s : Lent} {a : Answer} {c : Counters} {t : Len
       (λ e. exactly .0 e .0, λ h. exactly .1 (h, even))
 
 -- a second call, alike but for the limit, with stores that are long enough for it
-module _ {o o′ : Options} {j j′ : Job} {s s′ : Lent} {a′ : Answer} {c c′ : Counters} {t t′ : Lent} (x : Called o j s Accepted c t)
-    (y : Called o′ j′ s′ a′ c′ t′) (alike : AlikeButLimit o o′ j j′) (long : a′ ≡ SliceShort → ⊥) where
+module _ {o o′ : Options} {j j′ : Job} {s s′ : Lent} {a′ : Answer} {c c′ : Counters} {m n m′ n′ : ℕ} {t t′ : Lent}
+    (x : Called o j s Accepted c m n t) (y : Called o′ j′ s′ a′ c′ m′ n′ t′) (alike : AlikeButLimit o o′ j j′) (long : a′ ≡ SliceShort → ⊥) where
   -- the number that the first call returned is the sum that the second one's run tests
   words-again : runOf o′ j′ .peak ≡ c .«packed_words»
   words-again =
@@ -316,14 +357,14 @@ module _ {o o′ : Options} {j j′ : Job} {s s′ : Lent} {a′ : Answer} {c c�
       omega (arith, h, words-told x refl, limit-fits o (checking-options o j s passed))
 
   -- the number as the limit: accepted, with the same results and the same counters.
-  -- Rules out: a number that leaves out the images of F; results that depend on the limit
+  -- Rules out: a number that leaves out the images of F; a test that refuses a sum equal to the limit
   pub number-is-enough : limitOf o′ ≡ c .«packed_words» → (a′ ≡ Accepted) × (SameLeft t t′ × (c′ ≡ c))
   number-is-enough e =
       let yes′ = accepted-by-the-number (omega (arith, within-domain)) .1 (omega (arith, e)) in
-      (yes′, equal-rounds-equal-results x (subst (λ (b : Answer). Called o′ j′ s′ b c′ t′) yes′ y) alike)
+      (yes′, equal-rounds-equal-results x (subst (λ (b : Answer). Called o′ j′ s′ b c′ m′ n′ t′) yes′ y) alike)
 
   -- one less: 10.
-  -- Rules out: a number that no sum of the run reaches; the limit tested by "no larger than" where a sum equals it
+  -- Rules out: the limit of the first call handed back as the number; a sum that counts slots which are free again
   pub one-less-is-refused : limitOf o′ + 1 ≡ c .«packed_words» → a′ ≡ ExpansionLimit
   one-less-is-refused e =
       limit-where y (passed-again (omega (arith, within-domain))) .1 (omega (arith, e, words-again))

@@ -1,20 +1,32 @@
-// The public call of Rewriting: the core by value, then the lent counters become the run's.
+// The public call of Rewriting, the counters lent; and the same by value, for callers that hold none.
 ghost use mathlib.Core.Path.{_≡_};
 ghost use Rattle.checking.specs.Call.{jobOf, lentOf};
-ghost use Rattle.model.specs.Rewriting.{rewriting};
-ghost use Rattle.rewriting.specs.Call.{replyOf};
+ghost use Rattle.model.specs.Rewriting.{Called};
+ghost use Rattle.optimize.specs.Call.{CalledBy};
+ghost use Rattle.rewriting.specs.Call.{answeredBy};
 use model::Answer;
 use model::Counters;
 use model::Counts;
 use model::Options;
-use rewrite::Rewritten;
+use optimize::Rewritten;
 
-// The end of a call: the counters become the run's, and its answer is given.
-fn conclude(stats: &mut Counters, r: Rewritten) -> Answer
-    ensures { λ a. ⌜ (now (stats .exit) ≡ r .counters) × (a ≡ r .answer) ⌝ }
+// What a call answers beside the counters: how many operations came out, how many axes are stored.
+pub struct Answered {
+    pub answer: Answer,
+    pub operations: usize,
+    pub axes: usize,
+}
+
+// The end of a call: the counters become the run's, and the rest is answered.
+fn conclude(stats: &mut Counters, r: Rewritten) -> Answered
+    ensures { λ a. ⌜ (now (stats .exit) ≡ r .counters) × (a ≡ answeredBy r) ⌝ }
 {
     *stats = r.counters;
-    r.answer
+    Answered {
+        answer: r.answer,
+        operations: r.operations,
+        axes: r.axes,
+    }
 }
 
 // Rewriting.
@@ -29,13 +41,13 @@ pub fn rewriting(
     result_operations: &mut [u32],
     result_rows: &mut [u32],
     stats: &mut Counters,
-) -> Answer
-    ensures { λ a. ⌜ replyOf a (now (stats .exit))
-        (lentOf (now (words .exit)) (now (numbers .exit)) (now («result_operations» .exit)) (now («result_rows» .exit)))
-        ≡ rewriting options (jobOf counts (now (nodes .entry)) (now (operations .entry)) (now (rows .entry)))
-        (lentOf (now (words .entry)) (now (numbers .entry)) (now («result_operations» .entry)) (now («result_rows» .entry))) ⌝ }
+) -> Answered
+    ensures { λ a. ⌜ Called options (jobOf counts (now (nodes .entry)) (now (operations .entry)) (now (rows .entry)))
+        (lentOf (now (words .entry)) (now (numbers .entry)) (now («result_operations» .entry)) (now («result_rows» .entry)))
+        (a .answer) (now (stats .exit)) (a .operations) (a .axes)
+        (lentOf (now (words .exit)) (now (numbers .exit)) (now («result_operations» .exit)) (now («result_rows» .exit))) ⌝ }
 {
-    let r = rewrite::rewrite(
+    let r = optimize::optimize_rotations(
         counts,
         options,
         nodes,
@@ -47,4 +59,41 @@ pub fn rewriting(
         result_rows,
     );
     conclude(stats, r)
+}
+
+// Rewriting, lent counters of its own, which come back with the answer.
+pub fn by_value(
+    counts: Counts,
+    options: Options,
+    nodes: &[u32],
+    operations: &[u32],
+    rows: &[u32],
+    words: &mut [u64],
+    numbers: &mut [u32],
+    result_operations: &mut [u32],
+    result_rows: &mut [u32],
+) -> Rewritten
+    ensures { λ r. ⌜ CalledBy options (jobOf counts (now (nodes .entry)) (now (operations .entry)) (now (rows .entry)))
+        (lentOf (now (words .entry)) (now (numbers .entry)) (now («result_operations» .entry)) (now («result_rows» .entry))) r
+        (lentOf (now (words .exit)) (now (numbers .exit)) (now («result_operations» .exit)) (now («result_rows» .exit))) ⌝ }
+{
+    let mut stats = model::no_counters();
+    let a = rewriting(
+        counts,
+        options,
+        nodes,
+        operations,
+        rows,
+        words,
+        numbers,
+        result_operations,
+        result_rows,
+        &mut stats,
+    );
+    Rewritten {
+        answer: a.answer,
+        counters: stats,
+        operations: a.operations,
+        axes: a.axes,
+    }
 }

@@ -1,7 +1,7 @@
 // What is printed of a job.
 use crate::numbers;
 use model::Counters;
-use rewrite::Rewritten;
+use optimize::Rewritten;
 
 fn next_number(v: usize) {
     io::write_all(1, b" ");

@@ -1,12 +1,12 @@
 -- What a Checking that passes says of the program. Assumes nothing.
 use mathlib.Core.Path.{_≡_, refl, sym, ap, _∙_}
-use mathlib.Core.Bool.{Bool, true, false, not, _||_, true≢false, false≢true}
+use mathlib.Core.Bool.{Bool, true, false, not, _||_, true≢false}
 use mathlib.Core.List.{List, [], _∷_, map}
 use Prim.Native.Nat.{ℕ, zero, suc, _/_, _%_, _≤_, _<_}
 use native.Mathlib.Omega.{arith}
 use lib.Dec.{eqb, ltb, leb}
-use lib.ListN.{length, length-map}
-use borrow.Author.Tests.{ltb-false, leb-false}
+use lib.ListN.{length, getD, length-map}
+use borrow.Author.Tests.{eqb-true, ltb-false, leb-false}
 use Rattle.store.specs.Chunk.{chunks, chunks-length}
 use Rattle.model.specs.declared.Options.{Options}
 use Rattle.model.specs.declared.Answer.{Answer}
@@ -27,20 +27,34 @@ use Rattle.theory.specs.ByNode.{ChildrenBefore, Ordered}
 
 -- ---- answers
 
+-- by number
+answers : List Answer
+answers =
+    Accepted ∷ CountOutside ∷ OptionOutside ∷ SliceShort ∷ BadNode ∷ BadQubit ∷ BadReference ∷ BadOperation ∷ BadOutcome ∷ NonHermitianAxis ∷
+    ExpansionLimit ∷ BadText ∷ []
+
+numbered : (a : Answer) → getD answers (numberOf a) Accepted ≡ a
+unfolding answers
+numbered Accepted = refl
+numbered CountOutside = refl
+numbered OptionOutside = refl
+numbered SliceShort = refl
+numbered BadNode = refl
+numbered BadQubit = refl
+numbered BadReference = refl
+numbered BadOperation = refl
+numbered BadOutcome = refl
+numbered NonHermitianAxis = refl
+numbered ExpansionLimit = refl
+numbered BadText = refl
+
+-- no two have one number
+pub same-number : (a b : Answer) → numberOf a ≡ numberOf b → a ≡ b
+same-number a b e = sym (numbered a) ∙ ap (λ (n : ℕ). getD answers n Accepted) e ∙ numbered b
+
 -- the work goes on only after 0
 pub accepts-only : (a : Answer) → accepts a ≡ true → a ≡ Accepted
-accepts-only Accepted h = refl
-accepts-only CountOutside h = absurd (false≢true h)
-accepts-only OptionOutside h = absurd (false≢true h)
-accepts-only SliceShort h = absurd (false≢true h)
-accepts-only BadNode h = absurd (false≢true h)
-accepts-only BadQubit h = absurd (false≢true h)
-accepts-only BadReference h = absurd (false≢true h)
-accepts-only BadOperation h = absurd (false≢true h)
-accepts-only BadOutcome h = absurd (false≢true h)
-accepts-only NonHermitianAxis h = absurd (false≢true h)
-accepts-only ExpansionLimit h = absurd (false≢true h)
-accepts-only BadText h = absurd (false≢true h)
+accepts-only a h = same-number a Accepted (eqb-true (numberOf a) 0 h)
 
 -- 0 is the number of acceptance
 pub answered : (j : Answer) (a : Answer) (n : ℕ) → a ≡ j → n ≡ numberOf a → n ≡ 0 → j ≡ Accepted

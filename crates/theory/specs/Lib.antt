@@ -23,6 +23,7 @@ pub mod Checked
 pub mod TCountRun
 pub mod Alike
 pub mod Replies
+pub mod Called
 pub mod Limit
 pub mod AcceptedRun
 pub mod TCountCalls

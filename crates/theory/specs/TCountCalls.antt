@@ -3,12 +3,13 @@ use mathlib.Core.Path.{_≡_, refl, sym, ap, _∙_}
 use mathlib.Core.Logic.{inl}
 use mathlib.Core.Bool.{false}
 use Prim.Native.Nat.{_≤_}
+use lib.ListN.{length}
 use Rattle.model.specs.declared.Options.{Options}
 use Rattle.model.specs.declared.Answer.the-variants.{Accepted}
 use Rattle.model.specs.Program.{Job, programOf}
 use Rattle.model.specs.Rules.{rulesOf}
 use Rattle.model.specs.Packing.{packed}
-use Rattle.model.specs.Run.{Finished, answerOf}
+use Rattle.model.specs.Run.{Finished, endOf, answerOf}
 use Rattle.model.specs.Results.{countersOf}
 use Rattle.model.specs.Checking.{Lent, checking}
 use Rattle.model.specs.Rewriting.{Reply, accepted, afterEnding, rewriting}
@@ -46,6 +47,13 @@ module _ (o : Options) (j : Job) (s : Lent) (yes′ : rewriting o j s .answer �
   -- and its counters are the run's
   pub accepted-counters : rewriting o j s .counters ≡ countersOf (rulesOf o) (programOf j) finish
   accepted-counters = ap (λ (x : Reply). x .counters) accepted-reply ∙ unfold accepted in refl
+
+  -- as are the numbers of operations that came out and of axes that are stored
+  pub accepted-operations : rewriting o j s .operations ≡ length (endOf (rulesOf o) (o .rounds) (programOf j) .items)
+  accepted-operations = ap (λ (x : Reply). x .operations) accepted-reply ∙ unfold accepted in refl
+
+  pub accepted-axes : rewriting o j s .axes ≡ length (endOf (rulesOf o) (o .rounds) (programOf j) .store .axes)
+  accepted-axes = ap (λ (x : Reply). x .axes) accepted-reply ∙ unfold accepted in refl
 
   -- an accepted call leaves no more T than its source has
   pub no-more-than-source : rewriting o j s .counters .«t_after» ≤ rewriting o j s .counters .«t_before»

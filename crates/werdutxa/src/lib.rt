@@ -4,7 +4,7 @@ ghost use mathlib.Core.Path.{_≡_};
 ghost use Rattle.model.specs.Interface.{numberOf};
 ghost use Rattle.model.specs.Checking.{checking};
 ghost use Rattle.checking.specs.Call.{jobOf, lentOf};
-ghost use Rattle.werdutxa.specs.Calls.{countsOf, strategyOf, optionsOf, countedBy, ifAccepted, ExportedCall, ExportedListing};
+ghost use Rattle.werdutxa.specs.Calls.{countsOf, strategyOf, optionsOf, countedBy, ExportedCall, ExportedListing};
 use model::Counters;
 use model::Counts;
 use model::Options;
@@ -96,7 +96,7 @@ pub extern "C" fn werdutxa_rewrite(
         r (now (counted .exit))
         (lentOf (now (words .exit)) (now (numbers .exit)) (now («result_operations» .exit)) (now («result_rows» .exit))) ⌝ }
 {
-    let rewritten = rewrite::rewrite(
+    let rewritten = rewriting::by_value(
         counts(qubits, node_count, operation_count),
         options(
             lookback,
@@ -118,12 +118,9 @@ pub extern "C" fn werdutxa_rewrite(
         result_operations,
         result_rows,
     );
-    let reply = rewritten.answer;
-    let answer = model::number_of(reply);
-    let operations_out = if_accepted(answer, rewritten.operations);
-    let axes = if_accepted(answer, rewritten.axes);
-    count(rewritten.counters, operations_out, axes, counted);
-    answer
+    count(rewritten.counters, rewritten.operations, rewritten.axes, counted);
+    let answer = rewritten.answer;
+    model::number_of(answer)
 }
 
 // Listing: the number of its answer; the text is the first `size` bytes of the output.
@@ -196,16 +193,6 @@ fn options(
         measure_depth,
         max_packed_words: limit,
     }
-}
-
-// What only an accepted run has: 0 after a refusal.
-fn if_accepted(answer: u32, n: usize) -> usize
-    ensures { λ r. ⌜ r ≡ ifAccepted answer n ⌝ }
-{
-    if answer == 0 {
-        return n;
-    }
-    0
 }
 
 // The counters and how many operations and axes there are, in the order of a listing's first line and then those it has not, the words last.

@@ -1,8 +1,9 @@
 -- Rewriting on what was read, and its text. Assumes nothing.
-use mathlib.Core.Path.{sym}
+use mathlib.Core.Path.{refl, sym}
 use Prim.Native.Nat.{_*_}
 use lib.Seq.{length-take-le}
-use Rattle.listing.specs.Listed.{call-at, printing-asks, run-called}
+use Rattle.theory.specs.Called.{called-at}
+use Rattle.listing.specs.Listed.{printing-asks, run-called}
 use native.Mathlib.Omega.{arith}
 use borrow.Author.Needs.{needs}
 use Rattle.listing.proofs.run.Statement.{statement}
@@ -23,33 +24,33 @@ mul-c-2 c = search needs
 defaults-requires : tie.Need-defaults-requires
 defaults-requires c κs = search needs
 
-slice-aggregate-rewrite : tie.Need-slice-aggregate-rewrite
-slice-aggregate-rewrite c =
+slice-aggregate-by-value : tie.Need-slice-aggregate-by-value
+slice-aggregate-by-value c =
     let s = c .before .before .before .before .before .before .before .before .before .before .before .before .before in
     sym (length-take-le (s .args .counts .nodes * 5) (s .args .nodes .now)
     (omega (arith, s .pre .small .nodes, s .pre .read-room .nodes-room)))
 
-slice-aggregate-rewrite-2 : tie.Need-slice-aggregate-rewrite-2
-slice-aggregate-rewrite-2 c =
+slice-aggregate-by-value-2 : tie.Need-slice-aggregate-by-value-2
+slice-aggregate-by-value-2 c =
     let s = c .before .before .before .before .before .before .before .before .before .before .before .before .before .before in
     sym (length-take-le (s .args .counts .operations * 6) (s .args .operations .now)
     (omega (arith, s .pre .small .operations, s .pre .read-room .operations-room)))
 
-slice-aggregate-rewrite-3 : tie.Need-slice-aggregate-rewrite-3
-slice-aggregate-rewrite-3 c =
+slice-aggregate-by-value-3 : tie.Need-slice-aggregate-by-value-3
+slice-aggregate-by-value-3 c =
     let s = c .before .before .before .before .before .before .before .before .before .before .before .before .before .before .before in
     sym (length-take-le (2 * s .args .counts .qubits * 4) (s .args .rows .now)
     (omega (arith, s .pre .small .qubits, s .pre .read-room .rows-room)))
 
-rewrite-requires : tie.Need-rewrite-requires
-rewrite-requires c κs = search needs
+by-value-requires : tie.Need-by-value-requires
+by-value-requires c κs = search needs
 
 reply-requires : tie.Need-reply-requires
 reply-requires c κs =
     let r = c .before .before .before .before .before .before .before .before .before .before .before .before in
     let d = r .before .before .before .before .before .before .before .before in
     let p = d .before .before .before .before .before .before .before .before .before .before .before .before .pre in
-    printing-asks _ (p .small) _ _ _ (call-at (d .defaults .ensures) (r .rewrite .ensures)) _ (p .room)
+    printing-asks _ (p .small) _ _ _ (called-at (d .defaults .ensures) refl (r .by-value .ensures)) _ (p .room)
 
 same-length : tie.Need-same-length
 same-length c = search needs
@@ -71,7 +72,7 @@ returns c =
     let r = c .before .before .before .before .before .before .before .before .before .before .before .before .before .before .before in
     let d = r .before .before .before .before .before .before .before .before in
     run-called _ (d .before .before .before .before .before .before .before .before .before .before .before .before .pre .small) _ _ _
-    (call-at (d .defaults .ensures) (r .rewrite .ensures)) (c .before .before .reply .ensures)
+    (called-at (d .defaults .ensures) refl (r .by-value .ensures)) (c .before .before .reply .ensures)
 
 pub run-spec : {M : Type 1} → statement M
 run-spec =
@@ -82,10 +83,10 @@ run-spec =
     mul-c
     mul-c-2
     defaults-requires
-    slice-aggregate-rewrite
-    slice-aggregate-rewrite-2
-    slice-aggregate-rewrite-3
-    rewrite-requires
+    slice-aggregate-by-value
+    slice-aggregate-by-value-2
+    slice-aggregate-by-value-3
+    by-value-requires
     reply-requires
     same-length
     same-length-2

@@ -43,9 +43,9 @@ use denote.Exit.{yes}
 use Rattle.model.specs.declared.Counters.{Counters}
 use Rattle.model.proofs.Counters as T
 use Rattle.model.proofs.Counters.Laws as T′
-use Rattle.rewrite.specs.declared.Rewritten.{Rewritten}
-use Rattle.rewrite.proofs.Rewritten as R
-use Rattle.rewrite.proofs.Rewritten.Laws as R′
+use Rattle.optimize.specs.declared.Rewritten.{Rewritten}
+use Rattle.optimize.proofs.Rewritten as R
+use Rattle.optimize.proofs.Rewritten.Laws as R′
 use Rattle.rewriting.proofs.conclude.Key.{name as #rewriting·conclude}
 use Rattle.rewriting.proofs.conclude as f
 use Rattle.rewriting.proofs.conclude.Statement as stated

@@ -56,17 +56,17 @@ use Rattle.model.specs.declared.Answer.{Answer}
 use Rattle.model.proofs.Answer as E
 use Rattle.model.proofs.Answer.Laws as E′
 use Rattle.model.specs.Checking.{Lent}
-use Rattle.rewrite.specs.declared.Rewritten.{Rewritten}
-use Rattle.rewrite.proofs.Rewritten as R
-use Rattle.rewrite.proofs.Rewritten.Laws as R′
+use Rattle.optimize.specs.declared.Rewritten.{Rewritten}
+use Rattle.optimize.proofs.Rewritten as R
+use Rattle.optimize.proofs.Rewritten.Laws as R′
 use Rattle.checking.specs.Call.{jobOf, lentOf}
 use Rattle.model.specs.Rewriting.{rewriting}
-use Rattle.rewrite.specs.Call.{RewritingCall}
+use Rattle.optimize.specs.Call.{RewritingCall}
 use Rattle.rewriting.specs.Call.{replyOf, replied}
-use Rattle.rewrite.proofs.rewrite as core
-use Rattle.rewrite.proofs.rewrite.Symbol as core-def
-use Rattle.rewrite.proofs.rewrite.Symbol.{name as #rewrite·rewrite}
-use Rattle.rewrite.proofs.rewrite.Met as core-thm
+use Rattle.optimize.proofs.optimize_rotations as core
+use Rattle.optimize.proofs.optimize_rotations.Symbol as core-def
+use Rattle.optimize.proofs.optimize_rotations.Symbol.{name as #optimize·optimize-rotations}
+use Rattle.optimize.proofs.optimize_rotations.Met as core-thm
 use Rattle.rewriting.proofs.conclude as last
 use Rattle.rewriting.proofs.conclude.Symbol as last-def
 use Rattle.rewriting.proofs.conclude.Symbol.{name as #rewriting·conclude}
@@ -325,7 +325,7 @@ module _ {M : Type 1} (𝓤 : URA M) (H : Heap 𝓤) (A : Atoms 𝓤) (W : Given
       owned ! OB (Is OB) (LL.makes O.the-type O′.the-plain 𝓤 H A) o _ io $ fjoin ! $
       owned ! CB (Is CB) (LL.makes K.the-type K′.the-plain 𝓤 H A) c _ ic $ fjoin ! $ done !
 
-  module _ (C : Calls 𝓤 H) (Λ : Loops 𝓤 H) (fm : FmC 𝓤 H (W .laws) C) (known-core : Triple 𝓤 (C #rewrite·rewrite) (Core 𝓤 H A mem run))
+  module _ (C : Calls 𝓤 H) (Λ : Loops 𝓤 H) (fm : FmC 𝓤 H (W .laws) C) (known-core : Triple 𝓤 (C #optimize·optimize-rotations) (Core 𝓤 H A mem run))
       (known-conclude : Triple 𝓤 (C #rewriting·conclude) (Conclude 𝓤 H A mem run)) where
     walk : Is (ShrSlice (named 0) κn u32) xn (vn ∷ []) → Is (ShrSlice (named 1) κp u32) xp (vp ∷ [])
         → Is (ShrSlice (named 2) κr u32) xr (vr ∷ [])
@@ -413,7 +413,7 @@ module _ {M : Type 1} (𝓤 : URA M) (H : Heap 𝓤) (A : Atoms 𝓤) (W : Given
         by ! (exits a u′ zs (hs .0) (replied e e₂) ew ex ed em))))))))))))))))))))))))))))))))))))
 
 module _ {M : Type 1} (𝓤 : URA M) (H : Heap 𝓤) (A : Atoms 𝓤) (W : Given 𝓤 H A) (mem : Memory → SProp 𝓤) (run : Routine → Fun 𝓤) where
-  rewriting-walks : (C : Calls 𝓤 H) (Λ : Loops 𝓤 H) → FmC 𝓤 H (W .laws) C → Triple 𝓤 (C #rewrite·rewrite) (Core 𝓤 H A mem run)
+  rewriting-walks : (C : Calls 𝓤 H) (Λ : Loops 𝓤 H) → FmC 𝓤 H (W .laws) C → Triple 𝓤 (C #optimize·optimize-rotations) (Core 𝓤 H A mem run)
       → Triple 𝓤 (C #rewriting·conclude) (Conclude 𝓤 H A mem run)
       → Walks 𝓤 H A f.ended stayed (WpFn 𝓤 H C Λ code.function) (f.clauses 𝓤 H A mem run)
   rewriting-walks C Λ fm known-core known-conclude =
@@ -433,7 +433,7 @@ module _ {M : Type 1} (𝓤 : URA M) (H : Heap 𝓤) (A : Atoms 𝓤) (W : Given
       (are .1 .1 .1 .1 .1 .1 .1 .1 .0 .0 .1)))
 
 rewriting-meets : {M : Type 1} (𝓤 : URA M) (H : Heap 𝓤) (A : Atoms 𝓤) → Given 𝓤 H A → (mem : Memory → SProp 𝓤) (run : Routine → Fun 𝓤)
-    (𝓣 : Tables 𝓤 H) → Triple 𝓤 (𝓣 .C #rewrite·rewrite) (Core 𝓤 H A mem run) → Triple 𝓤 (𝓣 .C #rewriting·conclude) (Conclude 𝓤 H A mem run)
+    (𝓣 : Tables 𝓤 H) → Triple 𝓤 (𝓣 .C #optimize·optimize-rotations) (Core 𝓤 H A mem run) → Triple 𝓤 (𝓣 .C #rewriting·conclude) (Conclude 𝓤 H A mem run)
     → Meets 𝓤 H A f.signature (WpFn 𝓤 H (𝓣 .C) (𝓣 .Λ) code.function) (f.spec 𝓤 H A mem run)
 rewriting-meets 𝓤 H A W mem run 𝓣 known-core known-conclude =
     walk-meets 𝓤 H A f.ended stayed W
@@ -451,7 +451,7 @@ rewriting-spec 𝓤 H 𝓜 𝓖 𝓡 =
     entered 𝓤 H (tripleOf 𝓤 H (𝓖 .A) f.signature (f.spec 𝓤 H (𝓖 .A) (𝓜 .mem) (𝓡 .run)))
     (tables 𝓤 H 𝓜 𝓡 code.env .C) (tables 𝓤 H 𝓜 𝓡 code.env .Λ) #rewriting·rewriting code.function (code.unfolded 𝓤 H 𝓜 𝓡)
     (rewriting-meets 𝓤 H (𝓖 .A) (givenOf 𝓤 H 𝓜 𝓖) (𝓜 .mem) (𝓡 .run) (tablesOf 𝓤 H 𝓜 (tables 𝓤 H 𝓜 𝓡 code.env))
-    (cited 𝓤 H (Core 𝓤 H (𝓖 .A) (𝓜 .mem) (𝓡 .run)) 𝓜 𝓡 code.env #rewrite·rewrite core-def.routine code.calls-rewrite·rewrite
+    (cited 𝓤 H (Core 𝓤 H (𝓖 .A) (𝓜 .mem) (𝓡 .run)) 𝓜 𝓡 code.env #optimize·optimize-rotations core-def.routine code.calls-optimize·optimize-rotations
     (core-thm.met 𝓤 H 𝓜 𝓖 𝓡))
     (cited 𝓤 H (Conclude 𝓤 H (𝓖 .A) (𝓜 .mem) (𝓡 .run)) 𝓜 𝓡 code.env #rewriting·conclude last-def.routine code.calls-rewriting·conclude
     (last-thm.met 𝓤 H 𝓜 𝓖 𝓡)))

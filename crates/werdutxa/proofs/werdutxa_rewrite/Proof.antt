@@ -10,17 +10,11 @@ counts-requires c κs = search needs
 options-requires : tie.Need-options-requires
 options-requires c κs = search needs
 
-rewrite-requires : tie.Need-rewrite-requires
-rewrite-requires c κs = search needs
+by-value-requires : tie.Need-by-value-requires
+by-value-requires c κs = search needs
 
 number-of-requires : tie.Need-number-of-requires
 number-of-requires c κs = search needs
-
-if-accepted-requires : tie.Need-if-accepted-requires
-if-accepted-requires c κs = search needs
-
-if-accepted-requires-2 : tie.Need-if-accepted-requires-2
-if-accepted-requires-2 c κs = search needs
 
 count-requires : tie.Need-count-requires
 count-requires c κs = search needs
@@ -53,10 +47,8 @@ werdutxa-rewrite-spec =
     (tie.spec
     counts-requires
     options-requires
-    rewrite-requires
+    by-value-requires
     number-of-requires
-    if-accepted-requires
-    if-accepted-requires-2
     count-requires
     same-length
     same-length-2

@@ -1,8 +1,8 @@
 -- Results, then zeros. Assumes nothing.
-use Rattle.rewrite.specs.Conclusion.{accept-finish, accept-done}
+use Rattle.optimize.specs.Conclusion.{accept-finish, accept-done}
 use borrow.Author.Needs.{needs}
-use Rattle.rewrite.proofs.accept.Statement.{statement}
-use Rattle.rewrite.proofs.accept.Tie as tie
+use Rattle.optimize.proofs.accept.Statement.{statement}
+use Rattle.optimize.proofs.accept.Tie as tie
 
 finish-requires : tie.Need-finish-requires
 finish-requires c κs =

@@ -2,8 +2,8 @@
 use mathlib.Core.Path.{_∙_}
 use Rattle.results.specs.Zeros.{zeroed-whole}
 use borrow.Author.Needs.{needs}
-use Rattle.rewrite.proofs.stop.Statement.{statement}
-use Rattle.rewrite.proofs.stop.Tie as tie
+use Rattle.optimize.proofs.stop.Statement.{statement}
+use Rattle.optimize.proofs.stop.Tie as tie
 
 clean-requires : tie.Need-clean-requires
 clean-requires c κs = search needs

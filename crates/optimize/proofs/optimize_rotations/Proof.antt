@@ -1,8 +1,8 @@
 -- The whole call. Assumes nothing.
-use Rattle.rewrite.specs.Call.{call-refused, call-sizes, call-run, call-done}
+use Rattle.optimize.specs.Call.{call-refused, call-sizes, call-run, call-done}
 use borrow.Author.Needs.{needs}
-use Rattle.rewrite.proofs.rewrite.Statement.{statement}
-use Rattle.rewrite.proofs.rewrite.Tie as tie
+use Rattle.optimize.proofs.optimize_rotations.Statement.{statement}
+use Rattle.optimize.proofs.optimize_rotations.Tie as tie
 
 checking-requires : tie.Need-checking-requires
 checking-requires c κs = search needs
@@ -65,8 +65,8 @@ returns-2 c =
     call-done _ _ _ _ _ _ _ _ _ (checking .checking .ensures) (number-of .number-of .ensures) (test .if1 .left)
     (shape-of .shape-of .ensures) (run .run .ensures)
 
-pub rewrite-spec : {M : Type 1} → statement M
-rewrite-spec =
+pub optimize-rotations-spec : {M : Type 1} → statement M
+optimize-rotations-spec =
     tie.close
     (tie.spec
     checking-requires

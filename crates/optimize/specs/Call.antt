@@ -10,11 +10,9 @@ use Rattle.model.specs.declared.Counts.{Counts}
 use Rattle.model.specs.declared.Answer.{Answer}
 use Rattle.model.specs.declared.Answer.the-variants.{Accepted}
 use Rattle.model.specs.Interface.{accepts, numberOf}
-use Rattle.model.specs.Program.{Job, programOf}
-use Rattle.model.specs.Rules.{rulesOf}
-use Rattle.model.specs.Run.{endOf}
+use Rattle.model.specs.Program.{Job}
 use Rattle.model.specs.Checking.{Lent, badCount, badOption, checking}
-use Rattle.model.specs.Rewriting.{rewriting}
+use Rattle.model.specs.Rewriting.{rewriting, Called}
 use Rattle.theory.specs.Cases.{if-true, neither}
 use Rattle.theory.specs.Checked.{accepts-only}
 use Rattle.theory.specs.Replies.{refused-reply}
@@ -25,24 +23,14 @@ use Rattle.layout.specs.Shape.{shapeOf}
 use Rattle.records.specs.Given.{programIn}
 use Rattle.packing.specs.Checked.{checked-sizes, checked-pack}
 use Rattle.points.specs.Points.{OptionsIn}
-use Rattle.decision.specs.End.{endIn}
 use Rattle.checking.specs.Call.{jobOf, lentOf}
-use Rattle.rewrite.specs.declared.Rewritten.{Rewritten}
-use Rattle.rewrite.specs.Reply.{Replies, replies-as, refusedBy, replies-refused}
-use Rattle.rewrite.specs.Conclusion.{replyIn, RunPre}
+use Rattle.optimize.specs.declared.Rewritten.{Rewritten}
+use Rattle.optimize.specs.Reply.{replyOf, refusedBy, reply-refused}
+use Rattle.optimize.specs.Conclusion.{replyIn, RunPre}
 
--- what a call answers and leaves: answer, counters and lent slices as the model has them; where it is accepted, also how many operations
--- came out and how many axes are stored
-pub record RewritingCall (o : Options) (j : Job) (s : Lent) (r : Rewritten) (s′ : Lent) : Type 0 where
-  pub answer : r .answer ≡ rewriting o j s .answer
-  pub counters : r .counters ≡ rewriting o j s .counters
-  pub lent : s′ ≡ rewriting o j s .lent
-  pub operations : rewriting o j s .answer ≡ Accepted → r .operations ≡ length (endOf (rulesOf o) (o .rounds) (programOf j) .items)
-  pub axes : rewriting o j s .answer ≡ Accepted → r .axes ≡ length (endOf (rulesOf o) (o .rounds) (programOf j) .store .axes)
-
-call-as : (o : Options) (j : Job) (s : Lent) {r : Rewritten} {s′ : Lent}
-    → Replies (rewriting o j s) (endOf (rulesOf o) (o .rounds) (programOf j)) r s′ → RewritingCall o j s r s′
-call-as o j s h = record { answer = h .answer; counters = h .counters; lent = h .lent; operations = h .operations; axes = h .axes }
+-- with options o, job j and slices s lent, a call handed back r and left the slices s′
+abbrev pub CalledBy : Options → Job → Lent → Rewritten → Lent → Type 0
+CalledBy o j s r s′ = Called o j s (r .answer) (r .counters) (r .operations) (r .axes) s′
 
 -- what refusal 2 grants
 options-in : (o : Options) → badOption o ≡ false → OptionsIn o
@@ -65,11 +53,10 @@ module _ (o : Options) (c : Counts) (ns os rs ws xs to rt : List ℕ) {a : Answe
 
   -- 1 to 8
   pub call-refused : (m ≡ 0 → ⊥) → {r : Rewritten} → r ≡ refusedBy a
-      → RewritingCall o (jobOf c ns os rs) (lentOf ws xs to rt) r (lentOf ws xs to rt)
-  call-refused n f =
-      call-as o j s
-      (replies-as (sym (refused-reply o j s a (sym checked) (ne-eqb (numberOf a) 0 (λ e. n (number ∙ e)))))
-      (replies-refused a (endOf (rulesOf o) (o .rounds) (programOf j)) s (λ e. n (number ∙ ap numberOf e)) f))
+      → CalledBy o (jobOf c ns os rs) (lentOf ws xs to rt) r (lentOf ws xs to rt)
+  call-refused n f = record {
+    replied = reply-refused a s f ∙ sym (refused-reply o j s a (sym checked) (ne-eqb (numberOf a) 0 (λ e. n (number ∙ e))));
+  }
 
   module _ (zero : m ≡ 0) where
     passes : checking o (jobOf c ns os rs) (lentOf ws xs to rt) ≡ Accepted
@@ -80,11 +67,10 @@ module _ (o : Options) (c : Counts) (ns os rs ws xs to rt : List ℕ) {a : Answe
 
     -- the shape's program is the job's
     run-called : {r : Rewritten} {s′ : Lent}
-        → Replies (replyIn (shapeOf c (o .«max_packed_words»)) o ns os rs (lentOf ws xs to rt))
-        (endIn (shapeOf c (o .«max_packed_words»)) o ns os rs) r s′
-        → RewritingCall o (jobOf c ns os rs) (lentOf ws xs to rt) r s′
+        → replyOf r s′ ≡ replyIn (shapeOf c (o .«max_packed_words»)) o ns os rs (lentOf ws xs to rt)
+        → CalledBy o (jobOf c ns os rs) (lentOf ws xs to rt) r s′
     unfolding rewriting programIn shapeOf
-    run-called k = call-as o j s (replies-as (sym (if-true _ _ (ap accepts passes))) k)
+    run-called k = record { replied = k ∙ sym (if-true _ _ (ap accepts passes)) }
 
     module _ {z : Shape} (shape : z ≡ shapeOf c (o .«max_packed_words»)) where
       pub call-run : RunPre z o ns os rs ws xs to rt
@@ -97,6 +83,6 @@ module _ (o : Options) (c : Counts) (ns os rs ws xs to rt : List ℕ) {a : Answe
             fit = record { operations = l .operations; rows = l .rows };
           })
 
-      pub call-done : {r : Rewritten} {s′ : Lent} → Replies (replyIn z o ns os rs (lentOf ws xs to rt)) (endIn z o ns os rs) r s′
-          → RewritingCall o (jobOf c ns os rs) (lentOf ws xs to rt) r s′
-      call-done {r} {s′} q = run-called (subst (λ (y : Shape). Replies (replyIn y o ns os rs s) (endIn y o ns os rs) r s′) shape q)
+      pub call-done : {r : Rewritten} {s′ : Lent} → replyOf r s′ ≡ replyIn z o ns os rs (lentOf ws xs to rt)
+          → CalledBy o (jobOf c ns os rs) (lentOf ws xs to rt) r s′
+      call-done q = run-called (q ∙ ap (λ (y : Shape). replyIn y o ns os rs s) shape)

@@ -1,8 +1,8 @@
 -- By the decision. Assumes nothing.
-use Rattle.rewrite.specs.Conclusion.{conclude-accept, conclude-stop}
+use Rattle.optimize.specs.Conclusion.{conclude-accept, conclude-stop}
 use borrow.Author.Needs.{needs}
-use Rattle.rewrite.proofs.conclude.Statement.{statement}
-use Rattle.rewrite.proofs.conclude.Tie as tie
+use Rattle.optimize.proofs.conclude.Statement.{statement}
+use Rattle.optimize.proofs.conclude.Tie as tie
 
 enum-known-d : tie.Need-enum-known-d
 enum-known-d c = search needs

@@ -33,8 +33,8 @@ use Rattle.decision.specs.declared.Decision.the-variants.{Done, Refused}
 use Rattle.decision.specs.End.{endIn, finishedIn, end-barriers, DecidedAs}
 use Rattle.decision.specs.Decision.{runIn, DecisionAs}
 use Rattle.checking.specs.Call.{lentOf}
-use Rattle.rewrite.specs.declared.Rewritten.{Rewritten}
-use Rattle.rewrite.specs.Reply.{Replies, replies-as, StoppedAs, replies-stopped}
+use Rattle.optimize.specs.declared.Rewritten.{Rewritten}
+use Rattle.optimize.specs.Reply.{replyOf, StoppedAs, reply-stopped}
 
 -- the model's reply after Checking, s lent
 abbrev pub replyIn : Shape → Options → List ℕ → List ℕ → List ℕ → Lent → Reply
@@ -109,20 +109,16 @@ module _ (o : Options) {z : Shape} {ns os rs : List ℕ} {x : Decided} {ws xs to
       ∙ ap (afterEnding (rulesOf o) p (lentOf ws xs to rt)) (hermitian-ending (rulesOf o) (o .rounds) p (d .hermitian))
 
   pub accept-done : {vs ys to′ rt′ : List ℕ} → Finished z os (x .items) (x .axes) (x .changed) ws xs to rt vs ys to′ rt′
-      → Replies (replyIn z o ns os rs (lentOf ws xs to rt)) (endIn z o ns os rs)
-      (record { answer = Accepted; counters = x .counters; operations = x .items; axes = x .axes }) (lentOf vs ys to′ rt′)
+      → replyOf (record { answer = Accepted; counters = x .counters; operations = x .items; axes = x .axes }) (lentOf vs ys to′ rt′)
+      ≡ replyIn z o ns os rs (lentOf ws xs to rt)
   unfolding accepted
   accept-done f =
       let d = h .decided in
-      replies-as (sym accepted-is) (record {
-        answer = refl;
-        counters = d .counters;
-        lent =
-            finished-are (d .given) (d .granted) (d .work) (end-barriers o (d .given) (d .hermitian)) (lentOf ws xs to rt) (x .changed)
-            (d .changed) refl refl f;
-        operations = λ k. sym (sym (ap length (d .work .items)) ∙ view-length itemSaid xs (z .u) itemsRow 0 (x .items));
-        axes = λ k. sym (held-count (d .work .axes));
-      })
+      let items = sym (sym (ap length (d .work .items)) ∙ view-length itemSaid xs (z .u) itemsRow 0 (x .items)) in
+      let lent =
+      finished-are (d .given) (d .granted) (d .work) (end-barriers o (d .given) (d .hermitian)) (lentOf ws xs to rt) (x .changed)
+      (d .changed) refl refl f in
+      rw (accepted-is, d .counters, items, sym (held-count (d .work .axes)), lent) refl
 
 -- ---- by the decision
 
@@ -138,11 +134,11 @@ module _ (o : Options) {z : Shape} {ns os rs : List ℕ} {d : Decision} {ws xs t
   conclude-accept x e = record { decided = h .decision .done x e; fit = h .fit }
 
   pub conclude-stop : (a : Answer) → d ≡ Refused a → {r : Rewritten} {vs ys : List ℕ} → StoppedAs a ws xs r vs ys
-      → Replies (replyIn z o ns os rs (lentOf ws xs to rt)) (endIn z o ns os rs) r (lentOf vs ys to rt)
+      → replyOf r (lentOf vs ys to rt) ≡ replyIn z o ns os rs (lentOf ws xs to rt)
   conclude-stop a e s =
       let k = h .decision .refused a e in
-      replies-as (sym (run-stopped (rulesOf o) (programIn z ns os rs) (lentOf ws xs to rt) (z .limit) (runIn z o ns os rs) a
-      (k .answer) (k .other))) (replies-stopped a (endIn z o ns os rs) (k .other) s)
+      reply-stopped a s
+      ∙ sym (run-stopped (rulesOf o) (programIn z ns os rs) (lentOf ws xs to rt) (z .limit) (runIn z o ns os rs) a (k .answer) (k .other))
 
 -- ---- from the start
 
@@ -156,6 +152,6 @@ module _ {z : Shape} {o : Options} {ns os rs : List ℕ} {ws xs to rt : List ℕ
   pub run-conclude : ConcludePre z o ns os rs d vs ys to rt
   run-conclude = record { ws₀ = ws; xs₀ = xs; decision = k; fit = h .fit }
 
-  pub run-done : {r : Rewritten} {s : Lent} → Replies (replyIn z o ns os rs (lentOf vs ys to rt)) (endIn z o ns os rs) r s
-      → Replies (replyIn z o ns os rs (lentOf ws xs to rt)) (endIn z o ns os rs) r s
-  run-done q = replies-as (reply-same z o ns os rs to rt (k .long)) q
+  pub run-done : {r : Rewritten} {s : Lent} → replyOf r s ≡ replyIn z o ns os rs (lentOf vs ys to rt)
+      → replyOf r s ≡ replyIn z o ns os rs (lentOf ws xs to rt)
+  run-done q = q ∙ reply-same z o ns os rs to rt (k .long)

@@ -1,8 +1,8 @@
 -- A refusal. Assumes nothing.
-use Rattle.rewrite.specs.Reply.{refused-is}
+use Rattle.optimize.specs.Reply.{refused-is}
 use borrow.Author.Needs.{needs}
-use Rattle.rewrite.proofs.refused.Statement.{statement}
-use Rattle.rewrite.proofs.refused.Tie as tie
+use Rattle.optimize.proofs.refused.Statement.{statement}
+use Rattle.optimize.proofs.refused.Tie as tie
 
 no-counters-requires : tie.Need-no-counters-requires
 no-counters-requires c κs = search needs

@@ -1,10 +1,9 @@
 // Rewriting by value: Checking, then the decision, then the results or zeros. Nothing is written into the results before the last refusal.
 ghost use mathlib.Core.Path.{_≡_};
 ghost use Rattle.checking.specs.Call.{jobOf, lentOf};
-ghost use Rattle.decision.specs.End.{endIn};
-ghost use Rattle.rewrite.specs.Reply.{Replies, refusedBy, StoppedAs};
-ghost use Rattle.rewrite.specs.Conclusion.{replyIn, AcceptPre, ConcludePre, RunPre};
-ghost use Rattle.rewrite.specs.Call.{RewritingCall};
+ghost use Rattle.optimize.specs.Reply.{replyOf, refusedBy, StoppedAs};
+ghost use Rattle.optimize.specs.Conclusion.{replyIn, AcceptPre, ConcludePre, RunPre};
+ghost use Rattle.optimize.specs.Call.{CalledBy};
 use decision::Decided;
 use decision::Decision;
 use layout::Shape;
@@ -56,10 +55,10 @@ fn accept(
 ) -> Rewritten
     requires { ⌜ AcceptPre shape options (now nodes) (now operations) (now rows) x (now words) (now numbers)
         (now «result_operations») (now «result_rows») ⌝ }
-    ensures { λ r. ⌜ Replies (replyIn shape options (now (nodes .entry)) (now (operations .entry)) (now (rows .entry))
-        (lentOf (now (words .entry)) (now (numbers .entry)) (now («result_operations» .entry)) (now («result_rows» .entry))))
-        (endIn shape options (now (nodes .entry)) (now (operations .entry)) (now (rows .entry))) r
-        (lentOf (now (words .exit)) (now (numbers .exit)) (now («result_operations» .exit)) (now («result_rows» .exit))) ⌝ }
+    ensures { λ r. ⌜ replyOf r
+        (lentOf (now (words .exit)) (now (numbers .exit)) (now («result_operations» .exit)) (now («result_rows» .exit)))
+        ≡ replyIn shape options (now (nodes .entry)) (now (operations .entry)) (now (rows .entry))
+        (lentOf (now (words .entry)) (now (numbers .entry)) (now («result_operations» .entry)) (now («result_rows» .entry))) ⌝ }
 {
     let counters = x.counters;
     results::finish(
@@ -96,10 +95,10 @@ fn conclude(
 ) -> Rewritten
     requires { ⌜ ConcludePre shape options (now nodes) (now operations) (now rows) d (now words) (now numbers)
         (now «result_operations») (now «result_rows») ⌝ }
-    ensures { λ r. ⌜ Replies (replyIn shape options (now (nodes .entry)) (now (operations .entry)) (now (rows .entry))
-        (lentOf (now (words .entry)) (now (numbers .entry)) (now («result_operations» .entry)) (now («result_rows» .entry))))
-        (endIn shape options (now (nodes .entry)) (now (operations .entry)) (now (rows .entry))) r
-        (lentOf (now (words .exit)) (now (numbers .exit)) (now («result_operations» .exit)) (now («result_rows» .exit))) ⌝ }
+    ensures { λ r. ⌜ replyOf r
+        (lentOf (now (words .exit)) (now (numbers .exit)) (now («result_operations» .exit)) (now («result_rows» .exit)))
+        ≡ replyIn shape options (now (nodes .entry)) (now (operations .entry)) (now (rows .entry))
+        (lentOf (now (words .entry)) (now (numbers .entry)) (now («result_operations» .entry)) (now («result_rows» .entry))) ⌝ }
 {
     match d {
         Decision::Done(x) => accept(
@@ -132,10 +131,10 @@ fn run(
 ) -> Rewritten
     requires { ⌜ RunPre shape options (now nodes) (now operations) (now rows) (now words) (now numbers)
         (now «result_operations») (now «result_rows») ⌝ }
-    ensures { λ r. ⌜ Replies (replyIn shape options (now (nodes .entry)) (now (operations .entry)) (now (rows .entry))
-        (lentOf (now (words .entry)) (now (numbers .entry)) (now («result_operations» .entry)) (now («result_rows» .entry))))
-        (endIn shape options (now (nodes .entry)) (now (operations .entry)) (now (rows .entry))) r
-        (lentOf (now (words .exit)) (now (numbers .exit)) (now («result_operations» .exit)) (now («result_rows» .exit))) ⌝ }
+    ensures { λ r. ⌜ replyOf r
+        (lentOf (now (words .exit)) (now (numbers .exit)) (now («result_operations» .exit)) (now («result_rows» .exit)))
+        ≡ replyIn shape options (now (nodes .entry)) (now (operations .entry)) (now (rows .entry))
+        (lentOf (now (words .entry)) (now (numbers .entry)) (now («result_operations» .entry)) (now («result_rows» .entry))) ⌝ }
 {
     let d = decision::decide(nodes, operations, rows, words, numbers, shape, options);
     conclude(
@@ -152,8 +151,8 @@ fn run(
     )
 }
 
-// Rewriting.
-pub fn rewrite(
+// Rewriting, by value.
+pub fn optimize_rotations(
     counts: Counts,
     options: Options,
     nodes: &[u32],
@@ -164,7 +163,7 @@ pub fn rewrite(
     result_operations: &mut [u32],
     result_rows: &mut [u32],
 ) -> Rewritten
-    ensures { λ r. ⌜ RewritingCall options (jobOf counts (now (nodes .entry)) (now (operations .entry)) (now (rows .entry)))
+    ensures { λ r. ⌜ CalledBy options (jobOf counts (now (nodes .entry)) (now (operations .entry)) (now (rows .entry)))
         (lentOf (now (words .entry)) (now (numbers .entry)) (now («result_operations» .entry)) (now («result_rows» .entry))) r
         (lentOf (now (words .exit)) (now (numbers .exit)) (now («result_operations» .exit)) (now («result_rows» .exit))) ⌝ }
 {

@@ -1,8 +1,8 @@
 -- The decision, then the conclusion. Assumes nothing.
-use Rattle.rewrite.specs.Conclusion.{run-conclude, run-done}
+use Rattle.optimize.specs.Conclusion.{run-conclude, run-done}
 use borrow.Author.Needs.{needs}
-use Rattle.rewrite.proofs.run.Statement.{statement}
-use Rattle.rewrite.proofs.run.Tie as tie
+use Rattle.optimize.proofs.run.Statement.{statement}
+use Rattle.optimize.proofs.run.Tie as tie
 
 decide-requires : tie.Need-decide-requires
 decide-requires c κs =

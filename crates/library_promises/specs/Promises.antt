@@ -1,0 +1,103 @@
+-- The three demands about `werdutxa_rewrite` of include/werdutxa.h, which customers link, in the numbers that a caller sees. What it ensures for
+-- all arguments is `ExportedCall o j s r k t`: with options o, job j and slices s lent a call returned r, counted the fourteen numbers k and left
+-- the slices t. By `rewriting-called` (Calls) it is a call that `promises` speaks of, so all that is promised there holds of it, and the wrong
+-- programs named there are ruled out; here stand the mission's sentences. Assumes nothing.
+use mathlib.Core.Path.{_≡_, refl, sym, ap, _∙_}
+use mathlib.Core.Logic.{_⊎_, inl, inr, ⊎-elim}
+use mathlib.Core.Bool.{Bool}
+use mathlib.Core.List.{List}
+use Prim.Native.Nat.{ℕ, _-_, _≤_}
+use native.Mathlib.Omega.{arith}
+use lib.ListN.{length}
+use Rattle.groups.specs.Abelian.{pow2}
+use Rattle.model.specs.declared.Options.{Options}
+use Rattle.model.specs.declared.Answer.{Answer}
+use Rattle.model.specs.declared.Answer.the-variants.{Accepted, NonHermitianAxis}
+use Rattle.model.specs.Interface.{numberOf, noCounters}
+use Rattle.model.specs.Program.{Job, programOf}
+use Rattle.model.specs.Checking.{Lent}
+use Rattle.model.specs.Rewriting.{rewriting}
+use Rattle.theory.specs.Replies.{limitOf}
+use Rattle.run_effect.specs.RunEffect.{Effects, sourceEffect, resultEffect}
+use Rattle.promises.specs.Left.{operationsIn, rowsIn, wordsIn}
+use Rattle.promises.specs.Strategies.{endWork}
+use Rattle.promises.specs.Alike.{AlikeButRoundsAndLimit, AlikeButLimit}
+use Rattle.promises.specs.Promises.{Cleared, AcceptanceLeaves, SameLeft, tCountHanded, tCountLeft}
+use Rattle.promises.specs.Promises as rewriting-promises
+use Rattle.werdutxa.specs.Calls.{countedBy, ExportedCall, ExportedListing}
+use Rattle.library_promises.specs.Calls.{rewriting-called, rewriting-called-as}
+
+-- fourteen zeros
+abbrev pub nothingCounted : List ℕ
+nothingCounted = countedBy noCounters 0 0
+
+-- ==== Demand 1. Memory
+
+module _ {o : Options} {j : Job} {s : Lent} {r : ℕ} {k : List ℕ} {t : Lent} (call : ExportedCall o j s r k t) where
+  refused-counts : (1 ≤ r) → rewriting o j s .counters ≡ noCounters → k ≡ nothingCounted
+  refused-counts h e =
+      let none = rewriting-promises.nothing-counted (rewriting-called call) (λ f. omega (arith, call .answer, ap numberOf f)) in
+      call .counts ∙ rw (e, none .0, none .1) refl
+
+  -- a call returns 0 to 10
+  pub returns-0-to-10 : r ≤ 10
+  returns-0-to-10 = omega (arith, call .answer, rewriting-promises.answers-0-to-10 (rewriting-called call))
+
+  -- "refusals 1 to 8 leave all slices unchanged"
+  pub refusals-1-to-8 : 1 ≤ r → r ≤ 8 → (t ≡ s) × (k ≡ nothingCounted)
+  refusals-1-to-8 h l =
+      let p = rewriting-promises.refusals-1-to-8 (rewriting-called call) (omega (arith, call .answer)) (omega (arith, call .answer)) in
+      (p .0, refused-counts h (p .1))
+
+  -- "9 and 10 leave program and results unchanged and both work stores zero"
+  pub refusals-9-and-10 : 9 ≤ r → Cleared s t × (k ≡ nothingCounted)
+  refusals-9-and-10 h =
+      let p = rewriting-promises.refusals-9-and-10 (rewriting-called call) (omega (arith, call .answer)) in
+      (p .0, refused-counts (omega arith) (p .1))
+
+  -- "acceptance leaves results, axis words and zeros"
+  pub acceptance : r ≡ 0 → AcceptanceLeaves (programOf j) (endWork o j) s t
+  acceptance e = rewriting-promises.acceptance (rewriting-called-as call Accepted e)
+
+-- ==== Demand 2. Meaning
+
+  -- "the rewritten program is proved to have its source's effect for every choice of outcomes and every product of frame rows"
+  pub effect-kept : r ≡ 0 → (outcomes : ℕ → Bool) (ns : List ℕ)
+      → pow2 (Effects (programOf j)) (length (programOf j .operations) - length (operationsIn j t))
+      (resultEffect (programOf j) (wordsIn j t) (operationsIn j t) (rowsIn j t) outcomes ns)
+      ≡ sourceEffect (programOf j) outcomes ns
+  effect-kept e = rewriting-promises.effect-kept (rewriting-called-as call Accepted e)
+
+-- ==== Demand 3. Never worse
+
+  -- "neither exceeds the source's"
+  pub never-above-source : r ≡ 0 → tCountLeft j t ≤ tCountHanded j
+  never-above-source e = rewriting-promises.never-above-source (rewriting-called-as call Accepted e)
+
+module _ {o o′ : Options} {j j′ : Job} {s s′ : Lent} {r r′ : ℕ} {k k′ : List ℕ} {t t′ : Lent} (x : ExportedCall o j s r k t)
+    (y : ExportedCall o′ j′ s′ r′ k′ t′) where
+  -- "Of two accepted runs alike but for rounds and word limit, the one with more rounds has no higher T-count"
+  pub more-rounds-never-worse : r ≡ 0 → r′ ≡ 0 → AlikeButRoundsAndLimit o o′ j j′ → o .rounds ≤ o′ .rounds
+      → tCountLeft j′ t′ ≤ tCountLeft j t
+  more-rounds-never-worse e e′ =
+      rewriting-promises.more-rounds-never-worse (rewriting-called-as x Accepted e) (rewriting-called-as y Accepted e′)
+
+  -- "equal rounds give equal results and counters"
+  pub equal-rounds-equal-results : r ≡ 0 → r′ ≡ 0 → AlikeButLimit o o′ j j′ → SameLeft t t′ × (k′ ≡ k)
+  equal-rounds-equal-results e e′ alike =
+      let p = rewriting-called-as x Accepted e in
+      let q = rewriting-called-as y Accepted e′ in
+      let same = rewriting-promises.equal-rounds-equal-results p q alike in
+      let numbers = rewriting-promises.equal-rounds-equal-numbers p q alike in
+      (same .0, y .counts ∙ rw (same .1, numbers .0, numbers .1) (sym (x .counts)))
+
+  -- "an accepted or non-Hermitian run gets the same answer at every larger limit", which lies in the domain, with stores that 3 takes
+  pub larger-limit-same-answer : AlikeButLimit o o′ j j′ → (r ≡ 0) ⊎ (r ≡ 9) → limitOf o ≤ limitOf o′ → limitOf o′ ≤ 1048576 → (r′ ≡ 3 → ⊥)
+      → r′ ≡ r
+  larger-limit-same-answer alike e h l n = ⊎-elim (λ f. again Accepted f (inl refl)) (λ f. again NonHermitianAxis f (inr refl)) e
+    where
+      again : (a : Answer) → r ≡ numberOf a → (a ≡ Accepted) ⊎ (a ≡ NonHermitianAxis) → r′ ≡ r
+      again a f g =
+          let p = rewriting-promises.larger-limit-same-answer (rewriting-called-as x a f) (rewriting-called y) alike g h l
+          (λ i. n (y .answer ∙ ap numberOf i)) in
+          y .answer ∙ ap numberOf (p .0) ∙ sym f

@@ -1,0 +1,1 @@
+// what calls of the exported functions leave: theorems, no code
