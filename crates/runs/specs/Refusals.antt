@@ -210,17 +210,21 @@ pub record AfterCalls : Type 0 where
   pub ten : rewriting (defaultsAt 11) listed slices ≡ record {
     answer = ExpansionLimit;
     counters = noCounters;
+    operations = 0;
+    axes = 0;
     lent = record { words = replicate 29 0; numbers = replicate 361 0; operations = replicate 19 7; rows = replicate 9 7 };
   }
   -- 9: the same
   pub nine : rewriting options (job1 nodes (rotate 1 1 1 ∷ [])) slices ≡ record {
     answer = NonHermitianAxis;
     counters = noCounters;
+    operations = 0;
+    axes = 0;
     lent = record { words = replicate 29 0; numbers = replicate 361 0; operations = replicate 19 7; rows = replicate 9 7 };
   }
   -- 8: nothing is written
   pub eight : rewriting options (job1 nodes (conditional 1 0 1 0 ∷ [])) slices
-      ≡ record { answer = BadOutcome; counters = noCounters; lent = slices }
+      ≡ record { answer = BadOutcome; counters = noCounters; operations = 0; axes = 0; lent = slices }
 
 pub after-calls : AfterCalls
 unfolding everything
