@@ -52,14 +52,15 @@ module _ {z : Shape} (o : Options) {st : State} {s : Sizes} (same : s ≡ sizesO
       subst (λ (n : Sizes). ExchangePre n (exchangeRules o) ws xs (st .out)) (sym same)
       (exchange-pre (r .granted) (r .work) (r .well) (exchangeRules o) (k .candidates))
 
-  -- h are the counters that the pass left
-  module _ {d : Progress} {ys : List ℕ} (x : Exchanged s (exchangeRules o) ws xs (st .out) d ys) {h : Counters}
-      (counts : h ≡ moreSwaps (countersAt st) (d .swaps)) where
-    pub swapped-at : (i : ℕ) (p : Program) (w : Work) → RunAt z i st ws xs p w
-        → RunAt z (i + 1) (withOut (d .out) (withCounts h st)) ws ys p (exchangePass (z .l) (rulesOf o) w)
+  -- g are the counters that the pass was lent, h those that it left
+  module _ {g h : Counters} (lent : g ≡ countersAt st) {d : Progress} {ys : List ℕ}
+      (passed : Exchanged s (exchangeRules o) ws xs (st .out) d ys × (h ≡ moreSwaps g (d .swaps))) where
+    pub swapped-at : {next : State} → next ≡ withCounts h st → (i : ℕ) (p : Program) (w : Work) → RunAt z i st ws xs p w
+        → RunAt z (i + 1) (withOut (d .out) next) ws ys p (exchangePass (z .l) (rulesOf o) w)
     unfolding rulesOf member anyOf
-    swapped-at i p w r =
-        rw counts (
+    swapped-at f i p w r =
+        let x = passed .0 in
+        rw (f, passed .1, lent) (
           let g = rulesOf o in
           let b = subst (λ (n : Sizes). Exchanged n (exchangeRules o) ws xs (st .out) d ys) same x in
           let e = exchange-is (sizesOf z (st .axes)) g ws w (r .work .axes .are) (r .work .items) b in

@@ -35,14 +35,15 @@ module _ {z : Shape} {st : State} {s : Sizes} (same : s ≡ sizesOf z (st .axes)
       let r = a .at in
       subst (λ (n : Sizes). LayeringPre n ws xs (st .out)) (sym same) (layering-pre (r .granted) (r .work) (r .well))
 
-  -- h are the counters that the pass left
-  module _ {d : Layering} {ys : List ℕ} (x : LayeredAs s ws xs (st .out) d ys) {h : Counters}
-      (counts : h ≡ moreMerges (countersAt st) (d .merged)) where
-    pub layered-at : (i : ℕ) (p : Program) (w : Work) → RunAt z i st ws xs p w
-        → RunAt z (i + 1) (withOut (d .out) (withCounts h st)) ws ys p (layeringPass (z .l) w)
+  -- g are the counters that the pass was lent, h those that it left
+  module _ {g h : Counters} (lent : g ≡ countersAt st) {d : Layering} {ys : List ℕ}
+      (passed : LayeredAs s ws xs (st .out) d ys × (h ≡ moreMerges g (d .merged))) where
+    pub layered-at : {next : State} → next ≡ withCounts h st → (i : ℕ) (p : Program) (w : Work) → RunAt z i st ws xs p w
+        → RunAt z (i + 1) (withOut (d .out) next) ws ys p (layeringPass (z .l) w)
     unfolding member anyOf
-    layered-at i p w r =
-        rw counts (
+    layered-at f i p w r =
+        let x = passed .0 in
+        rw (f, passed .1, lent) (
           let b = subst (λ (n : Sizes). LayeredAs n ws xs (st .out) d ys) same x in
           let e = layered-pass b w (r .work .axes) (sym (r .work .items)) in
           record {

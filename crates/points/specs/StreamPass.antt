@@ -47,9 +47,9 @@ module _ (o : Options) (merging : Bool) (st : State) {z : Shape} {ws xs : List �
       → SomeWork (λ prog w g. PassAtWork z (streamRules o merging) prog w (st .axes) (st .out) (st .peak) ws xs g)
   stream-pre s = record { program = s .program; work = s .work; rules = rulesOf o; it = stream-at (s .at) }
 
-  -- h are the counters that the pass left
-  module _ {r : Step} {ws′ xs′ : List ℕ} {h : Counters}
-      (x : StreamedAs z (streamRules o merging) (st .out) (st .axes) (st .peak) ws xs (countersAt st) r ws′ xs′ h) where
+  -- g are the counters that the pass was lent, h those that it left
+  module _ {g : Counters} (lent : g ≡ countersAt st) {r : Step} {ws′ xs′ : List ℕ} {h : Counters}
+      (x : StreamedAs z (streamRules o merging) (st .out) (st .axes) (st .peak) ws xs g r ws′ xs′ h) where
     pub stream-limit : r ≡ ExpansionLimit → (i : ℕ) (p : Program) (w : Work) → RunAt z i st ws xs p w
         → EndedAs z (i + 1) ExpansionLimit ws′ xs′ p (streamPass (z .l) (rulesOf o) merging w)
     stream-limit e i p w a = ended-limit (x .passed p w (rulesOf o) (stream-at a) .refused e)
@@ -57,13 +57,13 @@ module _ (o : Options) (merging : Bool) (st : State) {z : Shape} {ws xs : List �
     module _ {d : State} (e : r ≡ Next d) where
       -- the counters are the run's
       counts : h ≡ raised (countersAt st) (d .merges) (d .absorbed)
-      counts = x .counters ∙ rw (next-counts e .0, next-counts e .1) refl
+      counts = x .counters ∙ rw (lent, next-counts e .0, next-counts e .1) refl
 
-      pub stream-done : (i : ℕ) (p : Program) (w : Work) → RunAt z i st ws xs p w
-          → EndedAs z (i + 1) (Next (withCounts h d)) ws′ xs′ p (streamPass (z .l) (rulesOf o) merging w)
-      stream-done i p w a =
+      pub stream-done : {next : State} → next ≡ withCounts h d → (i : ℕ) (p : Program) (w : Work) → RunAt z i st ws xs p w
+          → EndedAs z (i + 1) (Next next) ws′ xs′ p (streamPass (z .l) (rulesOf o) merging w)
+      stream-done f i p w a =
           let b = x .passed p w (rulesOf o) (stream-at a) in
-          rw counts (ended-at {i = i + 1} (omega arith) (record {
+          rw (f, counts) (ended-at {i = i + 1} (omega arith) (record {
             granted = granted-same (a .granted) (x .left .words .long) (x .left .numbers .long);
             work = b .work d e;
             well = demands.stream-at (a .granted .sized) (rulesOf o) (a .well) merging;
