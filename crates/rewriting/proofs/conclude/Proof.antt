@@ -1,5 +1,5 @@
 -- `rewriting::conclude` meets its contract: a walk of its MIR, by hand. The borrow is opened, the counters are written whole, the borrow is
--- closed at them, and the answer is given.
+-- closed at them, and what is answered is put together.
 -- Assumes nothing.
 use mathlib.Core.Path.{refl}
 use Prim.Native.Nat.{ℕ}
@@ -18,9 +18,9 @@ use contract.Monad.{Fun}
 use contract.Running.{givenOf, tables, tablesOf}
 use types.Kit.{Given, ‵, _⊛_, _$_, _∵_, !, qed, by, move, keep, drop, split, join, fsplit, fsplit3, fjoin, fjoin3, feqI, suffices}
 use types.Kit.{frame, done}
-use types.Run.{look, store-raw, init, forget, stop, hop, fld, from, load, of-opd, assigns, returns, enter, alloc1, alloc0}
+use types.Run.{look, store-raw, init, forget, stop, hop, fld, from, load, of-opd, and-then, no-more, assigns, returns, enter, alloc1, alloc0}
 use types.Run.{params1, pass1, pass0, free1, free0}
-use types.Part.{whole, sub, look-in}
+use types.Part.{agg, whole, sub, look-in}
 use types.SemTy.{Body}
 use sound.WpLaws.{WpFn-mono}
 use denote.RattleType.{RattleType, owns}
@@ -31,10 +31,6 @@ use denote.Signature.{plain}
 use denote.Steps.{opens, closes, owned, nothing}
 use denote.Struct.Steps.{spelt}
 use denote.Struct.Laws as LL
-use denote.Enum.Laws as EL
-use Rattle.model.specs.declared.Answer.{Answer}
-use Rattle.model.proofs.Answer as E
-use Rattle.model.proofs.Answer.Laws as E′
 use denote.Triple.Entry.{onEntry}
 use denote.Triple.Spec.{Meets, tripleOf}
 use denote.Triple.Table.{entered}
@@ -46,6 +42,10 @@ use Rattle.model.proofs.Counters.Laws as T′
 use Rattle.optimize.specs.declared.Rewritten.{Rewritten}
 use Rattle.optimize.proofs.Rewritten as R
 use Rattle.optimize.proofs.Rewritten.Laws as R′
+use Rattle.rewriting.specs.declared.Answered.{Answered}
+use Rattle.rewriting.proofs.Answered as E
+use Rattle.rewriting.proofs.Answered.Laws as E′
+use Rattle.rewriting.specs.Call.{answeredBy}
 use Rattle.rewriting.proofs.conclude.Key.{name as #rewriting·conclude}
 use Rattle.rewriting.proofs.conclude as f
 use Rattle.rewriting.proofs.conclude.Statement as stated
@@ -66,22 +66,24 @@ stayed = (stay-ref (0 ∷ []) tt (plain (λ _. B)), (stay-none (λ _. RB) yes, t
 
 module _ {M : Type 1} (𝓤 : URA M) (H : Heap 𝓤) (A : Atoms 𝓤) (W : Given 𝓤 H A) (at-mem : Memory → SProp 𝓤) (run : Routine → Fun 𝓤)
     (κ : Lft) (q : Share) (b o : ℕ) (γ : GName) (h : Counters) (r : Rewritten) (ir : Is RB r (LL.val R.the-type R′.the-laws r ∷ [])) where
-  -- the counters that are stored, the answer that is given, and its machine value
+  -- the counters that are stored, what is answered, and its machine value
   abbrev stored : Counters
   stored = r .counters
 
-  abbrev given : Answer
-  given = r .answer
+  abbrev given : Answered
+  given = answeredBy r
 
   abbrev va : Val
-  va = EL.val E.the-type E′.the-laws given
+  va = LL.val E.the-type E′.the-laws given
 
-  -- what is known of r's counters and answer
+  -- what is known of r's counters, and of what is answered
   is : Is B (r .counters) (T′.lowered (r .counters) ∷ [])
   is = LL.owed R.the-type R′.the-laws r (LL.val R.the-type R′.the-laws r ∷ []) ir .1 .0
 
   ia : Is EB given (va ∷ [])
-  ia = LL.owed R.the-type R′.the-laws r (LL.val R.the-type R′.the-laws r ∷ []) ir .0
+  ia =
+      let o = LL.owed R.the-type R′.the-laws r (LL.val R.the-type R′.the-laws r ∷ []) ir in
+      LL.owes E.the-type E′.the-laws given (o .0, (o .1 .1 .0, (o .1 .1 .1 .0, tt)))
 
   abbrev x : RefT Counters × (Rewritten × Unit {0})
   x = (record { ptr = (b, o); name = γ; now = h }, (r, tt))
@@ -99,7 +101,7 @@ module _ {M : Type 1} (𝓤 : URA M) (H : Heap 𝓤) (A : Atoms 𝓤) (W : Given
       (stored, (tt, tt)) (tt, (tt, tt))) $ says ! (refl, refl) $ nothing ! $ move ! (3 ∷ 0 ∷ []) $ join ! $
       frame ! $ feqI ! (List Val) (vptr b o ∷ []) (vptr b o ∷ []) refl $ fjoin3 ! $ nothing ! $
       owned ! RB (Is RB) (LL.makes R.the-type R′.the-plain 𝓤 H A) r _ ir $ fjoin ! $ move ! (1 ∷ 0 ∷ []) $ fjoin ! $
-      owned ! EB (Is EB) (EL.makes E.the-type E′.the-plain 𝓤 H A) given _ ia $ move ! (1 ∷ 0 ∷ []) $ done !
+      owned ! EB (Is EB) (LL.makes E.the-type E′.the-plain 𝓤 H A) given _ ia $ move ! (1 ∷ 0 ∷ []) $ done !
 
   module _ (C : Calls 𝓤 H) (Λ : Loops 𝓤 H) where
     walk : ent 𝓤 (onEntry 𝓤 H A f.signature (κ, tt) (q, tt) x at)
@@ -115,8 +117,10 @@ module _ {M : Type 1} (𝓤 : URA M) (H : Heap 𝓤) (A : Atoms 𝓤) (W : Given
         -- [the struct's cell; what the old counters own; the open borrow; obs; auth; …; r's; _2; …; _1; …; room for _0; …]
         assigns ! (of-opd ! (load ! (from ! (fld ! refl (stop !))) (look-in ! 7 (sub ! 1 refl (whole !)))))
         (from ! (hop ! (look ! 9 refl) (stop !))) (store-raw ! 0 refl (LL.lawful T.the-type T′.the-laws 𝓤 H A W .typed stored _ is .0)) $
-        assigns ! (of-opd ! (load ! (from ! (fld ! refl (stop !))) (look-in ! 7 (sub ! 0 refl (whole !))))) (from ! (stop !))
-        (init ! 11 refl (EL.lawful E.the-type E′.the-laws 𝓤 H A W tt .typed given _ ia .0)) $
+        assigns ! (agg ! (and-then ! (load ! (from ! (fld ! refl (stop !))) (look-in ! 7 (sub ! 0 refl (whole !)))) (and-then !
+        (load ! (from ! (fld ! refl (stop !))) (look-in ! 7 (sub ! 2 refl (whole !)))) (and-then !
+        (load ! (from ! (fld ! refl (stop !))) (look-in ! 7 (sub ! 3 refl (whole !)))) (no-more !))))) (from ! (stop !))
+        (init ! 11 refl (LL.lawful E.the-type E′.the-laws 𝓤 H A W .typed given _ ia .0)) $
         move ! (1 ∷ []) $ drop ! $ owned ! B (Is B) (LL.makes T.the-type T′.the-plain 𝓤 H A) stored _ is $ move ! (1 ∷ 0 ∷ []) $
         closes ! tt B stored (T′.lowered stored ∷ []) b o $
         returns ! (look ! 9 refl) $ forget ! 5 refl $ forget ! 7 refl $ forget ! 9 refl $

@@ -34,7 +34,6 @@ use denote.Slice.{sliceVal, MutSlice, ShrSlice, Room, finally}
 use denote.Slice.{slice-vals, mut-slice-tells, shr-slice-tells, shr-slice-lawful, shr-slice-copy}
 use denote.Steps.{peeks, heard, nothing, owned}
 use denote.Struct.Laws as LL
-use denote.Enum.Laws as EL
 use denote.Triple.Entry.{onEntry}
 use denote.Triple.Spec.{Meets, tripleOf}
 use denote.Triple.Statement.{Contract, Triple}
@@ -52,17 +51,17 @@ use Rattle.model.proofs.Options as O
 use Rattle.model.proofs.Options.Laws as O′
 use Rattle.model.specs.declared.Counters.{Counters}
 use Rattle.model.proofs.Counters as T
-use Rattle.model.specs.declared.Answer.{Answer}
-use Rattle.model.proofs.Answer as E
-use Rattle.model.proofs.Answer.Laws as E′
+use Rattle.rewriting.specs.declared.Answered.{Answered}
+use Rattle.rewriting.proofs.Answered as E
+use Rattle.rewriting.proofs.Answered.Laws as E′
 use Rattle.model.specs.Checking.{Lent}
 use Rattle.optimize.specs.declared.Rewritten.{Rewritten}
 use Rattle.optimize.proofs.Rewritten as R
 use Rattle.optimize.proofs.Rewritten.Laws as R′
 use Rattle.checking.specs.Call.{jobOf, lentOf}
-use Rattle.model.specs.Rewriting.{rewriting}
-use Rattle.optimize.specs.Call.{RewritingCall}
-use Rattle.rewriting.specs.Call.{replyOf, replied}
+use Rattle.model.specs.Rewriting as model
+use Rattle.optimize.specs.Call.{CalledBy}
+use Rattle.rewriting.specs.Call.{answeredBy, called}
 use Rattle.optimize.proofs.optimize_rotations as core
 use Rattle.optimize.proofs.optimize_rotations.Symbol as core-def
 use Rattle.optimize.proofs.optimize_rotations.Symbol.{name as #optimize·optimize-rotations}
@@ -81,7 +80,7 @@ infixr 30 _&_
 abbrev _&_ {ℓ κ} : {A : Type ℓ} {B : Type κ} → A → B → A × B
 a & b = (a, b)
 
--- the types of stats, counts, options, the core's answer, and an answer
+-- the types of stats, counts, options, what the core hands back, and what is answered
 abbrev B : RattleType
 B = T.the-row
 
@@ -264,14 +263,15 @@ module _ {M : Type 1} (𝓤 : URA M) (H : Heap 𝓤) (A : Atoms 𝓤) (W : Given
 
   -- what the core says, what `conclude` says, and what the contract says
   abbrev Called : Rewritten → Finals → Type 0
-  Called r zs = RewritingCall o (jobOf c (now xn) (now xp) (now xr)) (lentOf (now xw) (now xx) (now xd) (now xm)) r (lent-last zs)
+  Called r zs = CalledBy o (jobOf c (now xn) (now xp) (now xr)) (lentOf (now xw) (now xx) (now xd) (now xm)) r (lent-last zs)
 
-  abbrev Concluded : Rewritten → Answer → Counters → Type 0
-  Concluded r a h = (h ≡ r .counters) × (a ≡ r .answer)
+  abbrev Concluded : Rewritten → Answered → Counters → Type 0
+  Concluded r a h = (h ≡ r .counters) × (a ≡ answeredBy r)
 
-  abbrev Replied : Answer → Counters → Finals → Type 0
+  abbrev Replied : Answered → Counters → Finals → Type 0
   Replied a h zs =
-      replyOf a h (lent-last zs) ≡ rewriting o (jobOf c (now xn) (now xp) (now xr)) (lentOf (now xw) (now xx) (now xd) (now xm))
+      model.Called o (jobOf c (now xn) (now xp) (now xr)) (lentOf (now xw) (now xx) (now xd) (now xm)) (a .answer) h (a .operations) (a .axes)
+      (lent-last zs)
 
   -- what comes in is what the core asks, the counters with their token, and the program's slices once more
   goes-in : ent 𝓤 Entry (sep 𝓤 (Core 𝓤 H A mem run .pre to-core)
@@ -300,13 +300,13 @@ module _ {M : Type 1} (𝓤 : URA M) (H : Heap 𝓤) (A : Atoms 𝓤) (W : Given
       move ! (1 ∷ 0 ∷ []) $ join ! $ frame ! $ done !
 
   -- what there is at exit
-  abbrev Exit : Answer → Val → Finals → Counters → List (Item 𝓤)
+  abbrev Exit : Answered → Val → Finals → Counters → List (Item 𝓤)
   Exit a u zs h =
       toks₇ ∷ tok-s ∷ ‵ Own-n ∷ ‵ Own-p ∷ ‵ Own-r ∷ ‵ (finally u64 (xw .name) (last-w zs)) ∷ ‵ (finally u32 (xx .name) (last-x zs)) ∷
       ‵ (finally u32 (xd .name) (last-d zs)) ∷ ‵ (finally u32 (xm .name) (last-m zs)) ∷ ‵ (fres (xs .name) (B .coded .code h)) ∷
       ‵ (EB .own a (u ∷ [])) ∷ []
 
-  exits : (a : Answer) (u : Val) (zs : Finals) (h : Counters) → Replied a h zs
+  exits : (a : Answered) (u : Val) (zs : Finals) (h : Counters) → Replied a h zs
       → length (last-w zs) ≡ length (now xw) → length (last-x zs) ≡ length (now xx) → length (last-d zs) ≡ length (now xd)
       → length (last-m zs) ≡ length (now xm)
       → ent 𝓤 (⋆ 𝓤 H A (Exit a u zs h)) (Post u)
@@ -325,7 +325,8 @@ module _ {M : Type 1} (𝓤 : URA M) (H : Heap 𝓤) (A : Atoms 𝓤) (W : Given
       owned ! OB (Is OB) (LL.makes O.the-type O′.the-plain 𝓤 H A) o _ io $ fjoin ! $
       owned ! CB (Is CB) (LL.makes K.the-type K′.the-plain 𝓤 H A) c _ ic $ fjoin ! $ done !
 
-  module _ (C : Calls 𝓤 H) (Λ : Loops 𝓤 H) (fm : FmC 𝓤 H (W .laws) C) (known-core : Triple 𝓤 (C #optimize·optimize-rotations) (Core 𝓤 H A mem run))
+  module _ (C : Calls 𝓤 H) (Λ : Loops 𝓤 H) (fm : FmC 𝓤 H (W .laws) C)
+      (known-core : Triple 𝓤 (C #optimize·optimize-rotations) (Core 𝓤 H A mem run))
       (known-conclude : Triple 𝓤 (C #rewriting·conclude) (Conclude 𝓤 H A mem run)) where
     walk : Is (ShrSlice (named 0) κn u32) xn (vn ∷ []) → Is (ShrSlice (named 1) κp u32) xp (vp ∷ [])
         → Is (ShrSlice (named 2) κr u32) xr (vr ∷ [])
@@ -391,7 +392,7 @@ module _ {M : Type 1} (𝓤 : URA M) (H : Heap 𝓤) (A : Atoms 𝓤) (W : Given
         -- [what `conclude` asks; the slices' tokens; last: m, d, x, w; what p, r and n own; _20; …]
         calls-at ! fm (Conclude 𝓤 H A mem run) known-conclude (to-conclude r u)
         (and-then ! (load ! (from ! (stop !)) (look ! 9 refl)) (and-then ! (load ! (from ! (stop !)) (look ! 27 refl)) (no-more !))) (λ u′.
-        use1 W (later (some (λ (a : Answer). (tok-s ⊛ ‵ (EB .own a (u′ ∷ []))) ⊛
+        use1 W (later (some (λ (a : Answered). (tok-s ⊛ ‵ (EB .own a (u′ ∷ []))) ⊛
         raw (ensured 𝓤 H A last.ended (last.clauses 𝓤 H A mem run) (κs, tt) (xs, (r, tt)) tt a)))) (id⊢ 𝓤 _) $
         await ! tt $ pick ! (λ a. split ! $ move ! (1 ∷ []) $
         use1 W (some (λ (hs : Counters × (Unit {0} × Unit {0})). ‵ (lasts last.ended (κs, tt) (xs, (r, tt)) hs) ⊛
@@ -399,7 +400,7 @@ module _ {M : Type 1} (𝓤 : URA M) (H : Heap 𝓤) (A : Atoms 𝓤) (W : Given
         pick ! (λ hs. split ! $ move ! (1 ∷ []) $ heard ! (Concluded r a (hs .0)) (λ e₂. fsplit ! $ move ! (1 ∷ []) $ drop ! $
         move ! (1 ∷ []) $ split ! $ move ! (1 ∷ []) $ peeks ! EB (Is EB) (shows 𝓤 H A EB) a (u′ ∷ []) (λ ia.
         -- [the answer's; the token of s; last: s; the slices' tokens; last: m, d, x, w; what p, r and n own; _20; …]
-        land ! (from ! (stop !)) (init ! 51 refl (EL.lawful E.the-type E′.the-laws 𝓤 H A W tt .typed a _ ia .0)) $
+        land ! (from ! (stop !)) (init ! 51 refl (LL.lawful E.the-type E′.the-laws 𝓤 H A W .typed a _ ia .0)) $
         returns ! (look ! 51 refl) $ forget ! 11 refl $ forget ! 13 refl $ forget ! 15 refl $ forget ! 17 refl $ forget ! 19 refl $
         forget ! 21 refl $ forget ! 23 refl $ forget ! 25 refl $ forget ! 27 refl $ forget ! 29 refl $ forget ! 31 refl $ forget ! 33 refl $
         forget ! 35 refl $ forget ! 37 refl $ forget ! 39 refl $ forget ! 41 refl $ forget ! 43 refl $ forget ! 45 refl $ forget ! 47 refl $
@@ -410,7 +411,7 @@ module _ {M : Type 1} (𝓤 : URA M) (H : Heap 𝓤) (A : Atoms 𝓤) (W : Given
         move ! (25 ∷ 26 ∷ []) $ free1 ! $ move ! (23 ∷ 24 ∷ []) $ free1 ! $ move ! (21 ∷ 22 ∷ []) $ free1 ! $ move ! (19 ∷ 20 ∷ []) $
         free1 ! $ move ! (17 ∷ 18 ∷ []) $ free1 ! $ move ! (15 ∷ 16 ∷ []) $ free1 ! $ move ! (13 ∷ 14 ∷ []) $ free1 ! $
         move ! (11 ∷ 12 ∷ []) $ free1 ! $ free0 ! $ keep ! (3 ∷ 1 ∷ 10 ∷ 8 ∷ 9 ∷ 7 ∷ 6 ∷ 5 ∷ 4 ∷ 2 ∷ 0 ∷ []) $
-        by ! (exits a u′ zs (hs .0) (replied e e₂) ew ex ed em))))))))))))))))))))))))))))))))))))
+        by ! (exits a u′ zs (hs .0) (called e e₂) ew ex ed em))))))))))))))))))))))))))))))))))))
 
 module _ {M : Type 1} (𝓤 : URA M) (H : Heap 𝓤) (A : Atoms 𝓤) (W : Given 𝓤 H A) (mem : Memory → SProp 𝓤) (run : Routine → Fun 𝓤) where
   rewriting-walks : (C : Calls 𝓤 H) (Λ : Loops 𝓤 H) → FmC 𝓤 H (W .laws) C → Triple 𝓤 (C #optimize·optimize-rotations) (Core 𝓤 H A mem run)
