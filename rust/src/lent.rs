@@ -2,6 +2,9 @@
 
 use crate::options::Options;
 
+/// The most qubits that a program may have.
+pub(crate) const MOST_QUBITS: usize = 4_096;
+
 /// The bytes that a listing's output must have room for: the largest listing.
 pub const LISTING_BYTES: usize = 215_369;
 
@@ -89,7 +92,7 @@ impl Sizes {
     /// What refusal 3 asks for, or nothing where refusal 1 or 2 comes before it.
     pub fn of(records: &Records, options: &Options) -> Self {
         let Records { qubits, node_count, operation_count, .. } = *records;
-        let in_domain = qubits <= 4_096 && node_count <= 65_535 && operation_count <= 65_535;
+        let in_domain = qubits <= MOST_QUBITS && node_count <= 65_535 && operation_count <= 65_535;
         if !in_domain || !options.in_domain() {
             return Self::default();
         }

@@ -1,6 +1,6 @@
 //! Programs from Pauli strings, records and listings say the same.
 
-use werdutxa::{NONE, Operation, Options, Pauli, Program, Refusal, list, optimize, show};
+use werdutxa::{Letter, NONE, Operation, Options, Pauli, Program, Refusal, list, optimize, show};
 
 const EXAMPLE: &str = include_str!("../../oracle/listing/example.in");
 const EXAMPLE_OUT: &str = include_str!("../../oracle/listing/example.out");
@@ -21,6 +21,46 @@ fn strings() {
         assert_eq!(pauli(again), pauli(text));
     }
     assert_eq!(pauli("-X2").dense(2), "-IIX");
+}
+
+/// A qubit is digits without leading zeros, once in a string.
+#[test]
+fn qubits_of_strings() {
+    let strings =
+        ["X+1", "X-0", "X01", "X00", "I01", "X0 Z+1", "X0Z1", "X 0", "X0,Z1", "0", "X18446744073709551616", "é0", "Xé0", "X٣"];
+    for text in strings {
+        assert!(text.parse::<Pauli>().is_err(), "{text:?}");
+    }
+    for (text, again) in
+        [("X0", "X0"), ("X10 Z9", "Z9 X10"), ("- X0  Z1 ", "-X0 Z1"), ("X18446744073709551615", "X18446744073709551615")]
+    {
+        assert_eq!(pauli(text).to_string(), again);
+    }
+}
+
+/// I may stand with a qubit, as any letter may.
+#[test]
+fn identities_of_strings() {
+    for (text, again) in [("I0", "I"), ("X0 I1", "X0"), ("-iI7 I3", "-iI"), ("I2 Y1", "Y1")] {
+        assert_eq!(text.parse::<Pauli>().map(|pauli| pauli.to_string()), Ok(again.to_string()));
+    }
+    for text in ["X0 I0", "I0 X0", "I0 I0", "I1 X0 I1"] {
+        assert!(text.parse::<Pauli>().is_err(), "{text:?}");
+    }
+}
+
+/// A letter for each qubit is read as what it was printed from: on no qubits too, and with a letter that is far out.
+#[test]
+fn dense_strings() {
+    assert_eq!(
+        (pauli("I").dense(0), pauli("-I").dense(0), pauli("I").dense(1)),
+        ("I".to_string(), "-I".to_string(), "I".to_string())
+    );
+    assert_eq!(pauli("Z").dense(0), "Z");
+    assert_eq!(pauli("iX4095").dense(4_096), format!("i{}X", "I".repeat(4_095)));
+    assert_eq!(pauli("X4096").dense(1), "X4096");
+    assert_eq!(pauli("X").dense(usize::MAX), "X0");
+    assert_eq!(Pauli::letter(usize::MAX, Letter::Y).dense(1), format!("Y{}", usize::MAX));
 }
 
 /// 01's starred products.
