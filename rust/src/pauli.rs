@@ -2,6 +2,7 @@
 
 use std::fmt;
 use std::str::FromStr;
+use std::sync::Arc;
 
 use crate::lent::MOST_QUBITS;
 
@@ -41,8 +42,8 @@ pub enum Letter {
 pub struct Pauli {
     /// How many quarter turns, 0 to 3.
     phase: u32,
-    /// By rising qubit.
-    letters: Vec<(usize, Letter)>,
+    /// By rising qubit; copies share them, so that many operations about one axis take little room.
+    letters: Arc<[(usize, Letter)]>,
 }
 
 /// A string that is no Pauli string.
@@ -58,7 +59,7 @@ impl fmt::Display for NoPauli {
 impl std::error::Error for NoPauli {}
 
 impl Letter {
-    pub(crate) fn of_number(number: u32) -> Option<Self> {
+    fn of_number(number: u32) -> Option<Self> {
         [None, Some(Self::X), Some(Self::Y), Some(Self::Z)].get(number as usize).copied().flatten()
     }
 
@@ -80,12 +81,12 @@ impl Letter {
 impl Pauli {
     /// One letter on one qubit.
     pub fn letter(qubit: usize, letter: Letter) -> Self {
-        Self { phase: 0, letters: vec![(qubit, letter)] }
+        Self { phase: 0, letters: Arc::new([(qubit, letter)]) }
     }
 
     /// Letters by rising qubit, and so many quarter turns.
     pub(crate) fn new(quarters: u32, letters: Vec<(usize, Letter)>) -> Self {
-        Self { phase: quarters % 4, letters }
+        Self { phase: quarters % 4, letters: letters.into() }
     }
 
     /// How many quarter turns stand in front, 0 to 3: 2 is a minus.
@@ -129,16 +130,10 @@ impl Pauli {
     }
 
     /// The letters of a packed word: x-words, then z-words.
-    pub(crate) fn unpacked(qubits: usize, word: &[u64]) -> Self {
+    pub(crate) fn unpacked(word: &[u64]) -> Self {
         let (x, z) = word.split_at(word.len() / 2);
-        let bit = |plane: &[u64], qubit: usize| plane[qubit / 64] >> (qubit % 64) & 1 == 1;
-        let letter = |qubit| match (bit(x, qubit), bit(z, qubit)) {
-            (false, false) => None,
-            (true, false) => Some((qubit, Letter::X)),
-            (true, true) => Some((qubit, Letter::Y)),
-            (false, true) => Some((qubit, Letter::Z)),
-        };
-        Self { phase: 0, letters: (0..qubits).filter_map(letter).collect() }
+        let columns = x.iter().zip(z).enumerate();
+        Self { phase: 0, letters: columns.flat_map(|(column, (&x, &z))| unpacked_letters(column, x, z)).collect() }
     }
 
     fn sign(&self) -> &'static str {
@@ -154,7 +149,7 @@ impl Pauli {
             return self.to_string();
         }
         let mut letters = vec!['I'; length];
-        for &(qubit, letter) in &self.letters {
+        for &(qubit, letter) in self.letters.iter() {
             letters[qubit] = letter.name();
         }
         self.sign().chars().chain(letters).collect()
@@ -218,4 +213,17 @@ fn with_qubit(field: &str) -> Option<Named> {
 /// A letter by its name, I included.
 fn letter_named(name: char) -> Option<Option<Letter>> {
     "IXYZ".find(name).map(|number| Letter::of_number(number as u32))
+}
+
+/// The letters of the 64 qubits of a column, by rising qubit: X has x, Z has z, Y both.
+pub(crate) fn unpacked_letters(column: usize, x: u64, z: u64) -> impl Iterator<Item = (usize, Letter)> {
+    (0..64).filter_map(move |place| {
+        let letter = match (x >> place & 1, z >> place & 1) {
+            (0, 0) => return None,
+            (_, 0) => Letter::X,
+            (0, _) => Letter::Z,
+            _ => Letter::Y,
+        };
+        Some((64 * column + place, letter))
+    })
 }

@@ -13,8 +13,8 @@ pub type OperationRecord = [u32; 6];
 pub type RowRecord = [u32; 4];
 
 const IDENTITY: NodeRecord = [0; 5];
-const LETTER: u32 = 1;
-const PRODUCT: u32 = 2;
+pub(crate) const LETTER: u32 = 1;
+pub(crate) const PRODUCT: u32 = 2;
 
 pub(crate) const ROTATE: u32 = 1;
 pub(crate) const MEASURE: u32 = 2;
@@ -62,7 +62,7 @@ impl Program {
         program
     }
 
-    /// As the paper has records; nothing is tested.
+    /// As the paper has records; nothing is tested. Rows behind two for each qubit are not looked at.
     pub fn from_records(qubits: usize, nodes: Vec<NodeRecord>, operations: Vec<OperationRecord>, rows: Vec<RowRecord>) -> Self {
         Self { qubits, nodes, operations, rows, places: HashMap::new() }
     }
@@ -154,31 +154,17 @@ impl Program {
         }
     }
 
+    pub(crate) fn node_records(&self) -> &[NodeRecord] {
+        &self.nodes
+    }
+
     pub(crate) fn operation_records(&self) -> &[OperationRecord] {
         &self.operations
     }
 
+    /// Two for each qubit, without those behind.
     pub(crate) fn row_records(&self) -> &[RowRecord] {
-        &self.rows
-    }
-
-    /// Every node worked out, where the node records are good.
-    pub(crate) fn values(&self) -> Option<Vec<Pauli>> {
-        let mut values: Vec<Pauli> = Vec::with_capacity(self.nodes.len());
-        for &[kind, first, second, third, fourth] in &self.nodes {
-            let value = match kind {
-                0 => Pauli::default(),
-                LETTER if second == 0 => Pauli::default(),
-                LETTER => Pauli::letter(first as usize, Letter::of_number(second)?),
-                PRODUCT => {
-                    let (left, right) = (values.get(first as usize)?, values.get(third as usize)?);
-                    left.times(right).turned(second % 4 + fourth % 4)
-                }
-                _ => return None,
-            };
-            values.push(value);
-        }
-        Some(values)
+        &self.rows[..self.qubits.saturating_mul(2).min(self.rows.len())]
     }
 }
 

@@ -50,6 +50,7 @@ fn counts() {
     ];
     for records in bad {
         refused(&records, &options, sizes, Refusal::CountOutside);
+        assert_eq!(Sizes::of(&records, &options), Sizes::default());
     }
     assert_eq!(optimize(&Program::new(4_097), &Options::default()), Err(Refusal::CountOutside));
 }
