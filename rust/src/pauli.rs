@@ -176,7 +176,7 @@ impl FromStr for Pauli {
 type Named = (usize, Option<Letter>);
 
 /// A Pauli string, and the largest qubit that it names, be it with I; a lone I names none.
-fn read(text: &str) -> Result<(Pauli, Option<usize>), NoPauli> {
+pub(crate) fn read(text: &str) -> Result<(Pauli, Option<usize>), NoPauli> {
     let phases = [("-i", 3), ("+i", 1), ("i", 1), ("-", 2), ("+", 0)];
     let sign = phases.iter().find_map(|&(sign, phase)| Some((text.strip_prefix(sign)?, phase)));
     let (letters, phase) = sign.unwrap_or((text, 0));
