@@ -2,6 +2,9 @@
 
 use crate::options::Options;
 
+/// The most qubits that a program may have.
+pub(crate) const MOST_QUBITS: usize = 4_096;
+
 /// The bytes that a listing's output must have room for: the largest listing.
 pub const LISTING_BYTES: usize = 215_369;
 
@@ -89,7 +92,7 @@ impl Sizes {
     /// What refusal 3 asks for, or nothing where refusal 1 or 2 comes before it.
     pub fn of(records: &Records, options: &Options) -> Self {
         let Records { qubits, node_count, operation_count, .. } = *records;
-        let in_domain = qubits <= 4_096 && node_count <= 65_535 && operation_count <= 65_535;
+        let in_domain = qubits <= MOST_QUBITS && (1..=65_535).contains(&node_count) && operation_count <= 65_535;
         if !in_domain || !options.in_domain() {
             return Self::default();
         }
@@ -100,6 +103,13 @@ impl Sizes {
     pub fn of_listing() -> Self {
         // One word per plane has the most axes; the other counts are those that refusal 11 lets through.
         Self::at(64, 128, 128, 256)
+    }
+
+    /// Memory of these sizes, all zero, for one call.
+    pub(crate) fn lend<T>(self, call: impl FnOnce(&mut Memory) -> T) -> T {
+        let (mut words, mut numbers) = (vec![0; self.words], vec![0; self.numbers]);
+        let (mut operations, mut rows) = (vec![0; self.operations], vec![0; self.rows]);
+        call(&mut Memory { words: &mut words, numbers: &mut numbers, operations: &mut operations, rows: &mut rows })
     }
 
     fn at(qubits: usize, node_count: usize, operation_count: usize, limit: usize) -> Self {

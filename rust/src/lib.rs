@@ -1,8 +1,8 @@
 //! Werdutxa for Rust: a proved rewriter of rotations in Pauli-based programs.
 //!
 //! A [`Program`] is built from Pauli strings or records; [`optimize`] rewrites it by [`Options`], in memory of its own, and hands back what is
-//! [`Rewritten`] or the [`Refusal`]. [`rewrite`], [`check`] and [`list_into`] are the same calls on lent slices and allocate nothing. [`list`] is
-//! the paper's Listing.
+//! [`Rewritten`] or the [`Refusal`]; [`show`] has both as Pauli strings. [`rewrite`], [`check`] and [`list_into`] are the same calls on lent
+//! slices and allocate nothing. [`list`] is the paper's Listing.
 //!
 //! What is proved is the library that this crate links; what is here reads and writes its records.
 
@@ -15,6 +15,7 @@ mod program;
 mod refusal;
 mod result;
 mod show;
+mod values;
 
 pub use calls::{check, list_into, rewrite};
 pub use lent::{Counted, LISTING_BYTES, MINUS_ONE, Memory, NONE, Records, Sizes, width};

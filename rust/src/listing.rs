@@ -1,7 +1,7 @@
 //! Listing: the paper's text in, its text out.
 
 use crate::calls::list_into;
-use crate::lent::{LISTING_BYTES, Memory, Sizes};
+use crate::lent::{LISTING_BYTES, Sizes};
 use crate::refusal::Refusal;
 
 /// What Listing answers and prints.
@@ -21,14 +21,8 @@ pub struct Listing {
 /// assert_eq!(listing.text, "      11       0       0       0       0       0       0       0       0\n");
 /// ```
 pub fn list(text: &str) -> Listing {
-    let sizes = Sizes::of_listing();
     let mut output = vec![0; LISTING_BYTES];
-    let mut words = vec![0; sizes.words];
-    let mut numbers = vec![0; sizes.numbers];
-    let mut operations = vec![0; sizes.operations];
-    let mut rows = vec![0; sizes.rows];
-    let mut memory = Memory { words: &mut words, numbers: &mut numbers, operations: &mut operations, rows: &mut rows };
-    let (answer, size) = list_into(text.as_bytes(), &mut output, &mut memory);
+    let (answer, size) = Sizes::of_listing().lend(|memory| list_into(text.as_bytes(), &mut output, memory));
     output.truncate(size);
     Listing { answer, text: String::from_utf8(output).expect("a listing is digits and blanks") }
 }

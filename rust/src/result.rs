@@ -2,12 +2,13 @@
 
 use std::fmt;
 
-use crate::calls::rewrite;
-use crate::lent::{Counted, MINUS_ONE, Memory, NONE, Sizes, width};
+use crate::calls::{check, rewrite};
+use crate::lent::{Counted, MINUS_ONE, MOST_QUBITS, Memory, NONE, Sizes, width};
 use crate::options::{LARGEST, Options};
 use crate::pauli::Pauli;
-use crate::program::{CONDITIONAL_ROTATE, MEASURE, Program};
+use crate::program::{CONDITIONAL_ROTATE, MEASURE, Program, ROTATE};
 use crate::refusal::Refusal;
+use crate::values::values;
 
 /// An operation about a Pauli string; angles are -3 to 4 eighths.
 #[derive(Clone, Debug, PartialEq, Eq)]
@@ -64,14 +65,10 @@ pub struct View {
 /// ```
 pub fn optimize(program: &Program, options: &Options) -> Result<Rewritten, Refusal> {
     let records = program.records();
-    let sizes = Sizes::of(&records, options);
-    let mut words = vec![0; sizes.words];
-    let mut numbers = vec![0; sizes.numbers];
-    let mut operations = vec![0; sizes.operations];
-    let mut rows = vec![0; sizes.rows];
-    let mut memory = Memory { words: &mut words, numbers: &mut numbers, operations: &mut operations, rows: &mut rows };
-    let counted = rewrite(&records, options, &mut memory)?;
-    Ok(Rewritten::read(program.qubits(), counted, &memory))
+    Sizes::of(&records, options).lend(|memory| {
+        let counted = rewrite(&records, options, memory)?;
+        Ok(Rewritten::read(program.qubits(), counted, memory).expect("an accepted call leaves a result"))
+    })
 }
 
 /// The smallest word limit that a program is accepted with, or why none is: one call at the largest limit, which tells the largest word sum
@@ -90,27 +87,33 @@ pub fn smallest_limit(program: &Program, options: &Options) -> Result<usize, Ref
 }
 
 impl Rewritten {
-    /// What an accepted call left in the slices that it was lent.
-    pub fn read(qubits: usize, counted: Counted, memory: &Memory) -> Self {
-        let words = memory.words.chunks(2 * width(qubits)).take(counted.axes);
-        let axes: Vec<Pauli> = words.map(|word| Pauli::unpacked(qubits, word)).collect();
-        let signed = |id: u32, sign: u32| axes[id as usize].clone().turned(if sign == MINUS_ONE { 2 } else { 0 });
-        let operations = memory.operations.chunks_exact(6).take(counted.operations);
-        let rows = memory.rows.chunks_exact(4).take(2 * qubits);
-        Self {
-            counted,
-            operations: operations.map(|record| Operation::read(signed(record[1], record[2]), record)).collect(),
-            frame: rows
-                .map(|record| match record[2] {
-                    MINUS_ONE => FrameRow::Kept,
-                    id => FrameRow::Given(signed(id, record[3])),
-                })
-                .collect(),
-            axes,
+    /// What an accepted call left in the slices that it was lent; nothing where they hold no such result for so many qubits.
+    pub fn read(qubits: usize, counted: Counted, memory: &Memory) -> Option<Self> {
+        if qubits > MOST_QUBITS {
+            return None;
         }
+        let axes: Vec<Pauli> = first(counted.axes, 2 * width(qubits), memory.words)?.map(Pauli::unpacked).collect();
+        let on_qubits = |axis: &Pauli| axis.letters().iter().all(|&(qubit, _)| qubit < qubits);
+        let signed = |id: u32, sign: u32| {
+            let quarters = match sign {
+                1 => 0,
+                MINUS_ONE => 2,
+                _ => return None,
+            };
+            Some(axes.get(id as usize)?.clone().turned(quarters))
+        };
+        let operation = |record: &[u32]| Operation::read(signed(record[1], record[2])?, record);
+        let row = |(place, record): (usize, &[u32])| match record[2] {
+            _ if record[..2] != [place as u32 / 2, place as u32 % 2] => None,
+            MINUS_ONE => Some(FrameRow::Kept),
+            id => Some(FrameRow::Given(signed(id, record[3])?)),
+        };
+        let operations = first(counted.operations, 6, memory.operations)?.map(operation).collect::<Option<_>>()?;
+        let frame = first(2 * qubits, 4, memory.rows)?.enumerate().map(row).collect::<Option<_>>()?;
+        axes.iter().all(on_qubits).then_some(Self { counted, operations, frame, axes })
     }
 
-    /// What came out as Pauli strings, with the source's rows where they are kept.
+    /// What came out as Pauli strings, with the source's rows where they are kept: `source` is the view of the program that was rewritten.
     pub fn view(&self, source: &View) -> View {
         let row = |(row, kept): (&FrameRow, &Pauli)| match row {
             FrameRow::Kept => kept.clone(),
@@ -124,30 +127,59 @@ impl Rewritten {
     }
 }
 
+/// So many records, if they are there.
+fn first<T>(count: usize, length: usize, slice: &[T]) -> Option<impl Iterator<Item = &[T]>> {
+    let records = slice.chunks_exact(length);
+    (records.len() >= count).then(|| records.take(count))
+}
+
 impl Program {
-    /// The program as Pauli strings, where its records are good.
+    /// The program as Pauli strings, exactly where Checking lets its records through: not where a call answers by 1, by 3 for rows that are
+    /// missing, or by 4 to 8. What is refused by 9 is shown, with its i.
+    ///
+    /// ```
+    /// # use werdutxa::{NoPauli, Program};
+    /// let mut program = Program::new(1);
+    /// program.rotate("iZ", 1)?;
+    /// assert_eq!(program.view().unwrap().to_string(), "  rotate   iZ  π/8\n  frame    x0: X\n  frame    z0: Z\n");
+    /// program.rotate("Z1", 1)?;
+    /// assert!(program.view().is_none());
+    /// # Ok::<(), NoPauli>(())
+    /// ```
     pub fn view(&self) -> Option<View> {
-        let values = self.values()?;
-        let axis = |node: u32, phase: u32| Some(values.get(node as usize)?.clone().turned(phase));
-        let operations = self.operation_records().iter();
-        let rows = self.row_records().iter();
+        self.checked().ok()?;
+        let (operations, rows) = (self.operation_records(), self.row_records());
+        let shown = operations.iter().map(|record| record[1]).chain(rows.iter().map(|record| record[2]));
+        let values = values(self.qubits(), self.node_records(), shown);
+        let axis = |node: u32, phase: u32| Some(values.get(&node)?.clone().turned(phase));
+        let operation = |record: &[u32; 6]| Operation::read(axis(record[1], record[2])?, record);
         Some(View {
             qubits: self.qubits(),
-            operations: operations
-                .map(|record| Some(Operation::read(axis(record[1], record[2])?, record)))
-                .collect::<Option<_>>()?,
-            frame: rows.map(|record| axis(record[2], record[3])).collect::<Option<_>>()?,
+            operations: operations.iter().map(operation).collect::<Option<_>>()?,
+            frame: rows.iter().map(|record| axis(record[2], record[3])).collect::<Option<_>>()?,
         })
+    }
+
+    /// Checking, with no words to lend beyond the fewest.
+    fn checked(&self) -> Result<(), Refusal> {
+        let (records, options) = (self.records(), Options::with_limit(0));
+        Sizes::of(&records, &options).lend(|memory| check(&records, &options, memory))
     }
 }
 
 impl Operation {
-    fn read(axis: Pauli, record: &[u32]) -> Self {
-        let (angle, outcome) = (signed_eighths(record[3]), record[4] as u16);
+    /// Nothing where there is no such operation.
+    fn read(axis: Pauli, record: &[u32]) -> Option<Self> {
+        let angle = (record[3] < 8).then(|| signed_eighths(record[3] as i32))?;
+        let number = |field: u32| u16::try_from(field).ok().filter(|_| field != NONE);
         match record[0] {
-            MEASURE => Self::Measure { axis, outcome, target: (record[5] != NONE).then_some(record[5] as u16) },
-            CONDITIONAL_ROTATE => Self::ConditionalRotate { axis, angle, if_one: outcome },
-            _ => Self::Rotate { axis, angle },
+            ROTATE => Some(Self::Rotate { axis, angle }),
+            MEASURE => {
+                let target = if record[5] == NONE { None } else { Some(number(record[5])?) };
+                Some(Self::Measure { axis, outcome: number(record[4])?, target })
+            }
+            CONDITIONAL_ROTATE => Some(Self::ConditionalRotate { axis, angle, if_one: number(record[4])? }),
+            _ => None,
         }
     }
 
@@ -158,14 +190,15 @@ impl Operation {
     }
 }
 
-/// 0 to 7 eighths as -3 to 4.
-fn signed_eighths(angle: u32) -> i32 {
-    let angle = angle as i32 % 8;
+/// Eighths modulo 8 as -3 to 4.
+fn signed_eighths(angle: i32) -> i32 {
+    let angle = angle.rem_euclid(8);
     if angle > 4 { angle - 8 } else { angle }
 }
 
-/// `k` eighths of π.
+/// `k` eighths of π, modulo 8 eighths.
 fn angle_name(k: i32) -> String {
+    let k = signed_eighths(k);
     let sign = if k < 0 { "-" } else { "" };
     let size = ["0", "π/8", "π/4", "3π/8", "π/2"][k.unsigned_abs() as usize];
     format!("{sign}{size}")
@@ -180,9 +213,10 @@ impl View {
 
 impl fmt::Display for View {
     fn fmt(&self, f: &mut fmt::Formatter<'_>) -> fmt::Result {
-        let names: Vec<String> = self.operations.iter().map(|operation| self.axis_name(operation.axis())).collect();
-        let wide = names.iter().map(String::len).max().unwrap_or(0);
-        for (operation, name) in self.operations.iter().zip(&names) {
+        // Names are made twice and not kept: together they may be larger than the view.
+        let names = || self.operations.iter().map(|operation| self.axis_name(operation.axis()));
+        let wide = names().map(|name| name.len()).max().unwrap_or(0);
+        for (operation, name) in self.operations.iter().zip(names()) {
             match operation {
                 Operation::Rotate { angle, .. } => writeln!(f, "  rotate   {name:>wide$}  {}", angle_name(*angle))?,
                 Operation::Measure { outcome, target: None, .. } => writeln!(f, "  measure  {name:>wide$}  outcome {outcome}")?,

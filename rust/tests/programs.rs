@@ -1,6 +1,6 @@
 //! Programs from Pauli strings, records and listings say the same.
 
-use werdutxa::{NONE, Operation, Options, Pauli, Program, Refusal, list, optimize, show};
+use werdutxa::{Letter, NONE, Operation, Options, Pauli, Program, Refusal, View, list, optimize, show};
 
 const EXAMPLE: &str = include_str!("../../oracle/listing/example.in");
 const EXAMPLE_OUT: &str = include_str!("../../oracle/listing/example.out");
@@ -21,6 +21,46 @@ fn strings() {
         assert_eq!(pauli(again), pauli(text));
     }
     assert_eq!(pauli("-X2").dense(2), "-IIX");
+}
+
+/// A qubit is digits without leading zeros, once in a string.
+#[test]
+fn qubits_of_strings() {
+    let strings =
+        ["X+1", "X-0", "X01", "X00", "I01", "X0 Z+1", "X0Z1", "X 0", "X0,Z1", "0", "X18446744073709551616", "é0", "Xé0", "X٣"];
+    for text in strings {
+        assert!(text.parse::<Pauli>().is_err(), "{text:?}");
+    }
+    for (text, again) in
+        [("X0", "X0"), ("X10 Z9", "Z9 X10"), ("- X0  Z1 ", "-X0 Z1"), ("X18446744073709551615", "X18446744073709551615")]
+    {
+        assert_eq!(pauli(text).to_string(), again);
+    }
+}
+
+/// I may stand with a qubit, as any letter may.
+#[test]
+fn identities_of_strings() {
+    for (text, again) in [("I0", "I"), ("X0 I1", "X0"), ("-iI7 I3", "-iI"), ("I2 Y1", "Y1")] {
+        assert_eq!(text.parse::<Pauli>().map(|pauli| pauli.to_string()), Ok(again.to_string()));
+    }
+    for text in ["X0 I0", "I0 X0", "I0 I0", "I1 X0 I1"] {
+        assert!(text.parse::<Pauli>().is_err(), "{text:?}");
+    }
+}
+
+/// A letter for each qubit is read as what it was printed from: on no qubits too, and with a letter that is far out.
+#[test]
+fn dense_strings() {
+    assert_eq!(
+        (pauli("I").dense(0), pauli("-I").dense(0), pauli("I").dense(1)),
+        ("I".to_string(), "-I".to_string(), "I".to_string())
+    );
+    assert_eq!(pauli("Z").dense(0), "Z");
+    assert_eq!(pauli("iX4095").dense(4_096), format!("i{}X", "I".repeat(4_095)));
+    assert_eq!(pauli("X4096").dense(1), "X4096");
+    assert_eq!(pauli("X").dense(usize::MAX), "X0");
+    assert_eq!(Pauli::letter(usize::MAX, Letter::Y).dense(1), format!("Y{}", usize::MAX));
 }
 
 /// 01's starred products.
@@ -88,6 +128,72 @@ fn refusals_are_shown() {
     assert!(shown.starts_with("before\n") && shown.ends_with("refused by 10: The run needs more words than the word limit.\n"));
     let bad = Program::from_records(1, vec![[9; 5]], vec![], vec![]);
     assert!(show(&bad, &Options::default()).starts_with("refused by 3"));
+}
+
+/// On no qubits there is one axis, and it is shown.
+#[test]
+fn no_qubits_are_shown() {
+    let mut program = Program::new(0);
+    program.measure("-I", 0, None).unwrap().rotate("I", 1).unwrap();
+    assert_eq!(program.view().unwrap().to_string(), "  measure  -I  outcome 0\n  rotate    I  π/8\n");
+    assert!(show(&program, &Options::with_limit(64)).contains("after\n  measure  -I  outcome 0\n"));
+}
+
+/// Rows behind two for each qubit are not looked at by a call, and not shown.
+#[test]
+fn surplus_rows_are_not_shown() {
+    let rows = [[0, 0, 1, 0], [0, 1, 0, 2], [9, 9, 9, 9], [1, 0, 0, 0]];
+    let program = |rows: &[[u32; 4]]| Program::from_records(1, vec![[0; 5], [1, 0, 1, 0, 0]], vec![], rows.to_vec());
+    assert!(optimize(&program(&rows), &Options::with_limit(64)).is_ok());
+    assert_eq!(program(&rows).view().unwrap().frame, [pauli("X"), pauli("-I")]);
+    assert_eq!(program(&rows).view(), program(&rows[..2]).view());
+    let shown = show(&program(&rows), &Options::with_limit(64));
+    assert_eq!(shown, show(&program(&rows[..2]), &Options::with_limit(64)));
+}
+
+/// What Checking refuses is not shown; the one that it lets through is.
+#[test]
+fn bad_records_are_not_shown() {
+    let view = |qubits, nodes: &[[u32; 5]], operations: &[[u32; 6]], rows: &[[u32; 4]]| {
+        let program = Program::from_records(qubits, nodes.to_vec(), operations.to_vec(), rows.to_vec());
+        assert_eq!(show(&program, &Options::with_limit(64)).starts_with("refused by "), program.view().is_none());
+        program.view()
+    };
+    let (nodes, rows) = ([[0; 5], [1, 0, 3, 0, 0]], [[0, 0, 0, 0], [0, 1, 1, 0]]);
+    let measure = [2, 1, 0, 0, 65_534, NONE];
+    assert!(view(1, &nodes, &[measure], &rows).is_some());
+    assert!(view(5_000, &nodes, &[], &[]).is_none() && view(1, &[], &[], &rows).is_none());
+    assert!(view(1, &nodes, &[], &rows[..1]).is_none());
+    for node in [[3, 0, 0, 0, 0], [1, 0, 4, 0, 0], [1, 1, 1, 0, 0], [1, u32::MAX, 1, 0, 0], [2, 0, 4, 0, 0], [2, 1, 0, 0, 0]] {
+        assert!(view(1, &[[0; 5], node], &[], &[[0, 0, 0, 0], [0, 1, 0, 0]]).is_none(), "{node:?}");
+    }
+    let operations = [
+        [0, 1, 0, 1, 0, NONE],
+        [4, 1, 0, 1, 0, NONE],
+        [1, 1, 0, 8, 0, NONE],
+        [1, 1, 0, u32::MAX, 0, NONE],
+        [1, 1, 4, 1, 0, NONE],
+        [1, 2, 0, 1, 0, NONE],
+        [2, 1, 0, 0, NONE, NONE],
+        [2, 1, 0, 0, 65_536, NONE],
+        [2, 1, 0, 0, 0, 65_536],
+        [3, 1, 0, 1, 0, NONE],
+    ];
+    for operation in operations {
+        assert!(view(1, &nodes, &[operation], &rows).is_none(), "{operation:?}");
+    }
+    for row in [[0, 0, 1, 0], [1, 1, 1, 0], [0, 1, 2, 0], [0, 1, 1, 4]] {
+        assert!(view(1, &nodes, &[], &[[0, 0, 0, 0], row]).is_none(), "{row:?}");
+    }
+}
+
+/// Views that people put together print too: angles are modulo 8.
+#[test]
+fn made_up_views_print() {
+    let rotate = |angle| Operation::Rotate { axis: pauli("Z40"), angle };
+    let view = View { qubits: 1, operations: [9, -5, i32::MIN].map(rotate).to_vec(), frame: vec![] };
+    let name = pauli("Z40").dense(0);
+    assert_eq!(view.to_string(), format!("  rotate   {name}  π/8\n  rotate   {name}  3π/8\n  rotate   {name}  0\n"));
 }
 
 /// The texts of the gate's list: a line with the number of bytes and five lengths, then the bytes and a newline.

@@ -3,7 +3,9 @@
 mod lent;
 
 use lent::{Guarded, Lent};
-use werdutxa::{LISTING_BYTES, NONE, Options, Program, Records, Refusal, Sizes, check, list, list_into, optimize, rewrite};
+use werdutxa::{
+    LISTING_BYTES, NONE, NoPauli, Options, Program, Records, Refusal, Row, Sizes, check, list, list_into, optimize, rewrite,
+};
 
 const IDENTITY: [u32; 5] = [0; 5];
 
@@ -50,8 +52,21 @@ fn counts() {
     ];
     for records in bad {
         refused(&records, &options, sizes, Refusal::CountOutside);
+        assert_eq!(Sizes::of(&records, &options), Sizes::default());
     }
     assert_eq!(optimize(&Program::new(4_097), &Options::default()), Err(Refusal::CountOutside));
+}
+
+/// As many qubits as a number can say take no memory for each, and are answered.
+#[test]
+fn many_qubits() {
+    for qubits in [5_000_000_000, usize::MAX] {
+        let mut program = Program::new(qubits);
+        program.rotate("Z4999999999", 1).unwrap().frame_row(4_999_999_999, Row::Z, "Z").unwrap();
+        program_refused(&program, Refusal::CountOutside);
+        assert!(program.records().rows.len() <= 8 * 4_096 && program.view().is_none());
+    }
+    assert_eq!(Program::new(4_096).records().rows.len(), 8 * 4_096);
 }
 
 #[test]
@@ -112,6 +127,52 @@ fn nodes() {
     program_refused(&of_nodes(0, &[IDENTITY, [1, 0, 0, 0, 0]]), Refusal::BadQubit);
 }
 
+fn axis_refused(axis: &str, refusal: Refusal) {
+    let mut program = Program::new(2);
+    program.rotate(axis, 1).unwrap();
+    program_refused(&program, refusal);
+    assert_eq!(program.view(), None, "{axis}");
+}
+
+/// Cut to 32 bits these qubits would be there, and two of them one.
+#[test]
+fn large_qubits() {
+    for axis in ["Z4294967296", "Z0 Z4294967296", "Z4294967296 Z8589934592", "Z4294967295", "Z18446744073709551615"] {
+        axis_refused(axis, Refusal::BadQubit);
+    }
+}
+
+/// A string may name no qubit that is not there, not even with I; a lone I names none.
+#[test]
+fn qubits_of_strings() {
+    for axis in ["ZIII", "III", "I2", "Z0 I2", "Z0 I4294967296", "IIZ", "Z2", "-iZ4095"] {
+        axis_refused(axis, Refusal::BadQubit);
+    }
+    for axis in ["I", "Z", "ZI", "II", "I1", "Z0 I1"] {
+        assert!(optimize(Program::new(2).rotate(axis, 1).unwrap(), &Options::with_limit(64)).is_ok(), "{axis}");
+    }
+    assert!(optimize(Program::new(0).rotate("I", 1).unwrap(), &Options::with_limit(64)).is_ok());
+}
+
+/// A row of a qubit that is not there, also where records of such a row lie behind.
+#[test]
+fn rows_of_strings() {
+    for qubit in [1, 2, 4_294_967_296, 1 << 63, usize::MAX] {
+        for row in [Row::X, Row::Z] {
+            let mut program = Program::new(1);
+            program.frame_row(qubit, row, "X").unwrap();
+            program_refused(&program, Refusal::BadQubit);
+        }
+    }
+    let rows = (0..4).map(|i| [i / 2, i % 2, 0, 0]).collect();
+    let mut surplus = Program::from_records(1, vec![IDENTITY], vec![], rows);
+    assert!(optimize(surplus.frame_row(0, Row::Z, "Z").unwrap(), &Options::with_limit(64)).is_ok());
+    program_refused(surplus.frame_row(1, Row::Z, "Z").unwrap(), Refusal::BadQubit);
+    let mut program = Program::from_records(2, vec![IDENTITY], vec![], vec![[0, 0, 0, 0]]);
+    program_refused(program.frame_row(0, Row::X, "X").unwrap(), Refusal::SliceShort);
+    program_refused(program.frame_row(1, Row::X, "X").unwrap(), Refusal::SliceShort);
+}
+
 #[test]
 fn references() {
     program_refused(&of_operations(&[[1, 2, 0, 1, NONE, NONE]]), Refusal::BadReference);
@@ -136,6 +197,25 @@ fn operations() {
     for operation in bad {
         program_refused(&of_operations(&[operation]), Refusal::BadOperation);
     }
+}
+
+/// The mark for none is no outcome and no target.
+#[test]
+fn marks_in_operations() {
+    let mark = NONE as u16;
+    let refused = |write: fn(&mut Program, u16) -> Result<&mut Program, NoPauli>| {
+        let mut program = Program::new(1);
+        write(program.measure("X", 0, None).unwrap(), mark).unwrap();
+        program_refused(&program, Refusal::BadOperation);
+        assert_eq!(program.view(), None);
+    };
+    refused(|program, mark| program.measure("Z", 1, Some(mark)));
+    refused(|program, mark| program.measure("Z", mark, Some(mark)));
+    refused(|program, mark| program.measure("Z", mark, None));
+    refused(|program, mark| program.conditional_rotate("Z", 1, mark));
+    let mut program = Program::new(1);
+    program.measure("Z", mark - 1, Some(mark - 1)).unwrap().conditional_rotate("Z", 1, mark - 1).unwrap();
+    assert!(optimize(&program, &Options::with_limit(64)).is_ok());
 }
 
 #[test]

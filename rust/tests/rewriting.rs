@@ -4,8 +4,8 @@ mod lent;
 
 use lent::Lent;
 use werdutxa::{
-    FrameRow, Operation, Options, Pauli, Program, Refusal, Rewritten, Row, Sizes, Strategy, optimize, rewrite, smallest_limit,
-    width,
+    Counted, FrameRow, Operation, Options, Pauli, Program, Refusal, Rewritten, Row, Sizes, Strategy, optimize, rewrite,
+    smallest_limit, width,
 };
 
 const STRATEGIES: [Strategy; 2] = [Strategy::Merge, Strategy::Litinski];
@@ -34,7 +34,7 @@ fn run(program: &Program, options: &Options) -> Result<Rewritten, Refusal> {
     let mut lent = Lent::new(Sizes::of(&records, options));
     let counted = rewrite(&records, options, &mut lent.lend());
     assert!(lent.sentinels_hold());
-    counted.map(|counted| Rewritten::read(program.qubits(), counted, &lent.lend()))
+    counted.map(|counted| Rewritten::read(program.qubits(), counted, &lent.lend()).unwrap())
 }
 
 fn example_is_rewritten(qubits: usize, strategy: Strategy) {
@@ -105,13 +105,38 @@ fn lent_slices() {
             });
             let counted = rewrite(&program.records(), &options, &mut lent.lend()).unwrap();
             assert!(lent.sentinels_hold());
-            assert_eq!(Rewritten::read(4, counted, &lent.lend()), wanted);
+            assert_eq!(Rewritten::read(4, counted, &lent.lend()), Some(wanted.clone()));
             let zero_from = |slice: &[u32], from: usize| slice[from..].iter().all(|&number| number == 0);
             assert!(zero_from(lent.operations.inside(), 6 * counted.operations));
             assert!(zero_from(lent.rows.inside(), 8 * 4) && zero_from(lent.numbers.inside(), 0));
             assert!(lent.words.inside()[2 * counted.axes..].iter().all(|&word| word == 0));
         }
     }
+}
+
+/// What no accepted call left is not read.
+#[test]
+fn no_result() {
+    let program = mixed();
+    let options = Options::with_limit(100);
+    let mut lent = Lent::new(Sizes::of(&program.records(), &options));
+    let counted = rewrite(&program.records(), &options, &mut lent.lend()).unwrap();
+    let mut read = |qubits, counted| Rewritten::read(qubits, counted, &lent.lend());
+    assert!(read(4, counted).is_some());
+    for qubits in [1, 5, 64, 65, 4_096, 4_097, usize::MAX] {
+        assert_eq!(read(qubits, counted), None, "{qubits} qubits");
+    }
+    let more = [counted.operations + 1, 1_000, usize::MAX];
+    for counted in more.map(|operations| Counted { operations, ..counted }) {
+        assert_eq!(read(4, counted), None);
+    }
+    for counted in [0, 1, 1_000, usize::MAX].map(|axes| Counted { axes, ..counted }) {
+        assert_eq!(read(4, counted), None);
+    }
+    // as they are before a call
+    let mut lent = Lent::new(Sizes::of(&program.records(), &options));
+    assert_eq!(Rewritten::read(4, counted, &lent.lend()), None);
+    assert_eq!(Rewritten::read(4, counted, &Lent::new(Sizes::default()).lend()), None);
 }
 
 /// The words that a run tells are the least limit that accepts it.
