@@ -22,7 +22,7 @@ fn call(
     result_rows: &mut [u32],
 ) {
     lent_memory::fill(w, m, result_operations, result_rows);
-    let r = optimize::optimize_rotations(
+    let r = rewriting::by_value(
         c,
         o,
         nodes,
