@@ -176,7 +176,7 @@ uint32_t werdutxa_rewrite(
     struct werdutxa_counted *counted);
 
 /* Listing: 0, or a refusal 1 or 3 to 11. The first *size bytes of output are the listing that is printed, after a refusal its number and
- * eight zeros; an output below WERDUTXA_LISTING_BYTES is refused by 3, and nothing is printed. */
+ * eight zeros; an output below WERDUTXA_LISTING_BYTES is refused by 3 before the text is looked at, and nothing is printed. */
 uint32_t werdutxa_list(
     const uint8_t *text, size_t text_length,
     uint8_t *output, size_t output_length,
