@@ -3,7 +3,14 @@
  * Link target/staticlib/libwerdutxa.a, which `rt staticlib werdutxa` writes. Nothing is allocated and nothing is kept between calls.
  *
  * A slice is a pointer and a length, counted in numbers. No pointer is NULL, not even one with length 0. A slice that a call writes overlaps
- * no other. This is all that a caller must grant: every other input is answered, at worst by a refusal. */
+ * no other. This is all that a caller must grant: every other input is answered, at worst by a refusal.
+ *
+ * A call takes less than 20 KiB of stack, whatever the job. Measured on x86-64 with rattle-kit-5b-plain, from the caller's frame on, as the
+ * deepest of 5,318 jobs and 310 listings: Checking 8,760 bytes, Rewriting 10,664, Listing 18,440; by the machine code no path of calls takes
+ * more, and none recurses (oracle/README.md, "Stack").
+ *
+ * A call cannot be stopped: it ends by itself. Its time grows with the square of the rotations, and with a large window much faster: one
+ * exchange among 3,072 rotations took 9 seconds (docs/SPEED.md, "How long a call may take"). */
 #ifndef WERDUTXA_H
 #define WERDUTXA_H
 
@@ -26,7 +33,7 @@ enum werdutxa_answer {
     WERDUTXA_BAD_REFERENCE = 6,       /* an operation's or row's node or phase is out of range, or a row is out of turn */
     WERDUTXA_BAD_OPERATION = 7,       /* unknown kind, angle above 7, or an outcome or target that is none */
     WERDUTXA_BAD_OUTCOME = 8,         /* an outcome measured twice, or a condition that is not measured earlier */
-    WERDUTXA_NON_HERMITIAN_AXIS = 9,  /* the total phase of an operation or row is odd */
+    WERDUTXA_NON_HERMITIAN_AXIS = 9,  /* the total phase of an operation, or of a row that is a root, is odd */
     WERDUTXA_EXPANSION_LIMIT = 10,    /* the run needs more words than the limit */
     WERDUTXA_BAD_TEXT = 11            /* Listing only: the text is no listing */
 };
@@ -52,7 +59,8 @@ enum {
 };
 
 /* Fields of a row record, handed in: qubit, 0 x or 1 z, node, phase. Two rows for each qubit, rising, x before z.
- * As a result: qubit, 0 or 1, axis, sign; of a row that is kept as it was handed in: WERDUTXA_MINUS_ONE, 0. */
+ * As a result: qubit, 0 or 1, axis, sign; of a row that is kept as it was handed in: WERDUTXA_MINUS_ONE, 0. Kept are all rows where nothing
+ * was absorbed, and else those that are no roots: a root names, anywhere in its products, a qubit that an operation names. */
 enum { WERDUTXA_ROW_FIELDS = 4 };
 
 /* No outcome or no target. The largest outcome and target are one below. */
@@ -168,7 +176,7 @@ uint32_t werdutxa_rewrite(
     struct werdutxa_counted *counted);
 
 /* Listing: 0, or a refusal 1 or 3 to 11. The first *size bytes of output are the listing that is printed, after a refusal its number and
- * eight zeros; an output below WERDUTXA_LISTING_BYTES is refused by 3, and nothing is printed. */
+ * eight zeros; an output below WERDUTXA_LISTING_BYTES is refused by 3 before the text is looked at, and nothing is printed. */
 uint32_t werdutxa_list(
     const uint8_t *text, size_t text_length,
     uint8_t *output, size_t output_length,

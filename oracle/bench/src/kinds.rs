@@ -1,7 +1,7 @@
 //! The jobs of `bench --kinds`, one kind of work each, at word limits that fit.
 
-use generator::timed::{Axes, repeated, rotations};
-use jobs::{Job, Options};
+use generator::timed::{Axes, long_groups, repeated, rotations};
+use jobs::{Job, MAX_LIMIT, Options};
 
 /// A name and a job.
 pub type Kind = (&'static str, Job);
@@ -55,6 +55,19 @@ fn exchanges(seed: u64, qubits: usize, count: usize, axes: usize, weight: usize)
 pub fn growth() -> Vec<Job> {
     [5_000, 10_000, 20_000, 40_000]
         .map(|count| rotations(1, 64, count, Axes::Weight(3)))
+        .into()
+}
+
+/// One exchange of two groups, as long as the largest window lets them be.
+pub fn windows() -> Vec<Job> {
+    [64, 128, 256, 512]
+        .map(|pairs| {
+            with(&long_groups(pairs), |o| {
+                o.window = MAX_LIMIT;
+                o.rounds = 1;
+                o.clifford_to_frame = false;
+            })
+        })
         .into()
 }
 

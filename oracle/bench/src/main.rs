@@ -34,8 +34,12 @@ fn main() {
         None => programs(),
         Some("--kinds") => compare_kinds(&args[1..]),
         Some("--before") => compare_before(&args[1..]),
-        Some("--growth") => grow(),
-        Some(other) => panic!("{other}: bench [--kinds [NAME ..] | --before [NAME ..] | --growth]"),
+        Some("--growth") => grow(kinds::growth()),
+        Some("--window") => grow(kinds::windows()),
+        Some("--jobs") => chosen(&args[1..]).for_each(|(_, job)| print!("{job}")),
+        Some(other) => panic!(
+            "{other}: bench [--kinds [NAME ..] | --before [NAME ..] | --jobs [NAME ..] | --growth | --window]"
+        ),
     }
 }
 
@@ -98,8 +102,8 @@ fn best_of_libraries(job: &Job) -> [f64; 2] {
 }
 
 /// Rotations, then milliseconds of the Rust with a scan, of the Rust itself and of ours, for a plot.
-fn grow() {
-    for job in kinds::growth() {
+fn grow(jobs: Vec<Job>) {
+    for job in jobs {
         let job = kinds::fitted(job);
         let [hash, scan, ours] = best(&job);
         println!("{} {scan:.1} {hash:.1} {ours:.1}", job.operations.len());

@@ -164,23 +164,41 @@ pub const CASES: &[Case] = &[
         change: |job| touching(job, 65, &[0, 64], 31),
         begins: "10 0 0 0 0 0 0 0",
     },
+    Case {
+        rule: "a palindrome of 1,028: 254 rounds leave T 12",
+        operations: "X:1",
+        change: |job| palindrome(job, 514, 254),
+        begins: "0 1028 12 508 0 0 12 2",
+    },
+    Case {
+        rule: "a palindrome of 1,028: 255 rounds leave T 8, the most rounds do not end it",
+        operations: "X:1",
+        change: |job| palindrome(job, 514, 255),
+        begins: "0 1028 8 510 0 0 8 2",
+    },
 ];
 
-/// X Z X .. Z X by 1, then the same backwards by -1 but for the last X by 1. The two rotations in the middle cancel and clear
-/// `last` of X and then of Z, so that of the others none merges: each round takes four rotations away, the last one two.
-fn ladder(job: &mut Job, height: usize, rounds: usize) {
+/// X Z X Z .. by 1, so many, then the same backwards by -1. The two rotations in the middle cancel and clear `last` of their
+/// axis, then the two beside them that of the other axis, so that nothing else merges: each round takes four rotations away.
+fn palindrome(job: &mut Job, half: usize, rounds: usize) {
     let mut program = Program::new(1);
     let axes = [program.leaf(0, 1), program.leaf(0, 3)];
-    let up: Vec<i64> = (0..2 * height - 1).map(|i| axes[i % 2]).collect();
-    let rotation = |node: i64, angle: i64| [1, node, 0, angle, -1, -1];
-    let mut operations: Vec<_> = up.iter().map(|&node| rotation(node, 1)).collect();
-    operations.extend(up[1..].iter().rev().map(|&node| rotation(node, 7)));
-    operations.push(rotation(axes[0], 1));
+    let rotation = |i: usize, angle: i64| [1, axes[i % 2], 0, angle, -1, -1];
+    let there = (0..half).map(|i| rotation(i, 1));
+    let back = (0..half).rev().map(|i| rotation(i, 7));
+    job.operations = there.chain(back).collect();
     job.rows = frame::identity(&mut program);
     job.nodes = program.nodes;
-    job.operations = operations;
     job.options.rounds = rounds;
     job.options.limit = 64;
+}
+
+/// The same with X in the middle, so high that the last round takes the first and the last X: the last by 1, so that this
+/// round absorbs what they make.
+fn ladder(job: &mut Job, height: usize, rounds: usize) {
+    palindrome(job, 2 * height - 1, rounds);
+    let last = job.operations.last_mut().expect("a ladder has rotations");
+    last[3] = 1;
 }
 
 /// Z on each of these qubits by 4: absorbed, a touch of each; the images are words that are stored already.

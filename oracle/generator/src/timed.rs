@@ -63,6 +63,20 @@ pub fn repeated(seed: u64, qubits: usize, count: usize, axes: &[Axes], barriers:
     start.job(operations)
 }
 
+/// Two long groups that are exchanged: XX and YY of so many pairs of qubits, Z of each qubit, and the first group again. Every
+/// product word of the two groups has a sum of zero.
+pub fn long_groups(pairs: usize) -> Job {
+    let mut start = Start::new(2 * pairs);
+    let program = &mut start.program;
+    let mut group = Vec::new();
+    for q in (0..2 * pairs).step_by(2) {
+        group.extend([1, 2].map(|letter| program.letters(&[(q, letter), (q + 1, letter)])));
+    }
+    let between: Vec<i64> = (0..2 * pairs).map(|q| program.leaf(q, 3)).collect();
+    let nodes = [&group[..], &between, &group].concat();
+    start.job(nodes.iter().map(|&node| [1, node, 0, 1, 0, 0]).collect())
+}
+
 fn rotation(rng: &mut Rng, program: &Program, node: i64) -> [i64; 6] {
     let (node, phase) = program.signed(node, rng.chance(50));
     [1, node, phase, rng.between(1, 7) as i64, 0, 0]
