@@ -1,4 +1,5 @@
 -- What is printed lies in the output. Assumes nothing.
+use Rattle.listing_call.specs.Rooms.{called-fits}
 use mathlib.Core.Path.{sym}
 use lib.Seq.{length-take-le}
 use native.Mathlib.Omega.{arith}
@@ -45,7 +46,7 @@ array-share-prefix-output c = search needs
 slice-aggregate-write-all : tie.Need-slice-aggregate-write-all
 slice-aggregate-write-all c =
     let l = c .before .before .before .before .before .before .listing in
-    sym (length-take-le (l .result .size) (l .last .1 .0) (omega (arith, l .ensures .fits, l .kept .1 .0)))
+    sym (length-take-le (l .result .size) (l .last .1 .0) (omega (arith, called-fits (l .ensures), l .kept .1 .0)))
 
 write-all-requires : tie.Need-write-all-requires
 write-all-requires c κs = search needs

@@ -13,11 +13,11 @@ options-requires c κs = search needs
 by-value-requires : tie.Need-by-value-requires
 by-value-requires c κs = search needs
 
-number-of-requires : tie.Need-number-of-requires
-number-of-requires c κs = search needs
-
 count-requires : tie.Need-count-requires
 count-requires c κs = search needs
+
+number-of-requires : tie.Need-number-of-requires
+number-of-requires c κs = search needs
 
 same-length : tie.Need-same-length
 same-length c = search needs
@@ -33,13 +33,11 @@ same-length-4 c = search needs
 
 returns : tie.Need-returns
 returns c =
-    let axes = c .before .before in
-    let out = axes .before in
-    let answer = out .before in
-    let call = answer .before .before .before .before .before .before .before .before .before in
+    let count = c .before in
+    let call = count .before .before .before .before .before .before .before .before .before .before in
     let options = call .before .before .before .before .before in
-    exported-call _ _ _ _ (options .before .counts .ensures) (options .options .ensures) (call .rewrite .ensures) (answer .number-of .ensures)
-    (out .if-accepted .ensures) (axes .if-accepted2 .ensures) (c .count .ensures)
+    exported-call _ _ _ _ (options .before .counts .ensures) (options .options .ensures) (call .by-value .ensures) (c .number-of .ensures)
+    (count .count .ensures)
 
 pub werdutxa-rewrite-spec : {M : Type 1} → statement M
 werdutxa-rewrite-spec =
@@ -48,8 +46,8 @@ werdutxa-rewrite-spec =
     counts-requires
     options-requires
     by-value-requires
-    number-of-requires
     count-requires
+    number-of-requires
     same-length
     same-length-2
     same-length-3
