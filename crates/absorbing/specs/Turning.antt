@@ -14,7 +14,10 @@ use Rattle.store.specs.Row.{row, Written}
 use Rattle.pauli.specs.Word.{anticommutes, xorWords, phase}
 use Rattle.pauli.specs.ProductLaws.{xorWords-length}
 use Rattle.pauli.specs.SupportLaws.{SupportWithin, product-within}
-use Rattle.product.specs.Product.{OddPhaseOf, odd-anticommutes, even-commutes, StoredPre, StoredWord}
+use Rattle.angle.specs.declared.Phase.{Phase}
+use Rattle.product.specs.declared.Commutation.{Commutation}
+use Rattle.product.specs.declared.Commutation.the-variants.{Commute, Anticommute}
+use Rattle.product.specs.Product.{oddPhase, told-commute, told-anticommute, told-phase, StoredPre, StoredWord}
 use Rattle.model.specs.Words.{Value, asValue, scaled, multiply}
 use Rattle.model.specs.Clifford.{absorbImage}
 use Rattle.theory.specs.Cases.{if-true, if-false}
@@ -91,30 +94,31 @@ module _ {z : Shape} {i b s k : ℕ} {ws xs : List ℕ} (pre : TurnPre z i b s k
   turned-apart e t = stays (apart-commutes (pre .within) (pre .supported .within) (sym e ∙ t))
 
   -- whether it changes is told by the phase of its product with the word at b
-  module _ {e at : ℕ} (place : at ≡ slotPlace (z .limit) (z .l) i) (phased : OddPhaseOf (z .l) (wordAt (z .l) ws b) (wordAt (z .l) ws at) e) where
-    of-image : OddPhaseOf (z .l) (wordAt (z .l) ws b) (imageIn z ws xs i .word) e
+  module _ {r : Commutation} {at : ℕ} (place : at ≡ slotPlace (z .limit) (z .l) i)
+      (told : r ≡ oddPhase (z .l) (wordAt (z .l) ws b) (wordAt (z .l) ws at)) where
+    of-image : r ≡ oddPhase (z .l) (wordAt (z .l) ws b) (imageIn z ws xs i .word)
     unfolding imageIn
-    of-image = rw place at phased
+    of-image = rw place at told
 
     -- it commutes
-    pub turned-not : (e % 2 ≡ 1 → ⊥) → ImageTurned z i b k ws xs ws xs
-    turned-not n = stays (even-commutes of-image n)
+    pub turned-not : r ≡ Commute → ImageTurned z i b k ws xs ws xs
+    turned-not h = stays (told-commute _ _ _ of-image h)
 
     -- "k = 4 gives -P"
-    pub turned-half : {xs′ : List ℕ} → e % 2 ≡ 1 → k ≡ 4 → Written xs (z .u) fPhase i ((getD (row xs (z .u) fPhase) i 0 + 2) % 4) xs′
-        → ImageTurned z i b k ws xs ws xs′
+    pub turned-half : {e : Phase} {xs′ : List ℕ} → r ≡ Anticommute e → k ≡ 4
+        → Written xs (z .u) fPhase i ((getD (row xs (z .u) fPhase) i 0 + 2) % 4) xs′ → ImageTurned z i b k ws xs ws xs′
     unfolding absorbImage
     turned-half o f w =
-        rw (if-false {A = Value} _ _ (ap not (odd-anticommutes of-image o)), if-true {A = Value} _ _ (eq-eqb k 4 f))
+        rw (if-false {A = Value} _ _ (ap not (told-anticommute _ _ _ of-image o)), if-true {A = Value} _ _ (eq-eqb k 4 f))
         (unfold scaled imageIn in (image-phase (pre .there) _ (pre .supported) w))
 
     -- "k = 2 gives iBP, k = -2 gives -iBP"
-    pub turned-quarter : {ws′ xs₁ xs′ : List ℕ} → e % 2 ≡ 1 → (k ≡ 4 → ⊥) → StoredWord (z .l) ws b at at ws′
-        → Written xs (z .u) fPhase i ((getD (row xs (z .u) fPhase) i 0 + (e + k / 2)) % 4) xs₁
+    pub turned-quarter : {e : Phase} {ws′ xs₁ xs′ : List ℕ} → r ≡ Anticommute e → (k ≡ 4 → ⊥) → StoredWord (z .l) ws b at at ws′
+        → Written xs (z .u) fPhase i ((getD (row xs (z .u) fPhase) i 0 + (e .0 + k / 2)) % 4) xs₁
         → SignaturePut z i (bitOr s (signatureIn z xs₁ i)) xs₁ xs′ → ImageTurned z i b k ws xs ws′ xs′
     unfolding absorbImage
-    turned-quarter {ws′} {xs₁} {xs′} o f stored w signed =
-        rw (if-false {A = Value} _ _ (ap not (odd-anticommutes of-image o)), if-false {A = Value} _ _ (ne-eqb k 4 f))
+    turned-quarter {e} {ws′} {xs₁} {xs′} o f stored w signed =
+        rw (if-false {A = Value} _ _ (ap not (told-anticommute _ _ _ of-image o)), if-false {A = Value} _ _ (ne-eqb k 4 f))
         (subst (λ (v : Value). ImageSet z i v ws xs ws′ xs′) (sym value)
         (image-put (pre .there) _ _ _ (pre .words-long) long laid w signed product))
       where
@@ -127,12 +131,12 @@ module _ {z : Shape} {i b s k : ℕ} {ws xs : List ℕ} (pre : TurnPre z i b s k
             (xorWords (wordAt (z .l) ws b) (wordAt (z .l) ws (slotPlace (z .limit) (z .l) i)))
         laid = rw place at stored
 
-        its-phase : e ≡ phase (z .l) (wordAt (z .l) ws b) (wordAt (z .l) ws (slotPlace (z .limit) (z .l) i))
-        its-phase = rw place at (phased .turns o)
+        its-phase : e .0 ≡ phase (z .l) (wordAt (z .l) ws b) (wordAt (z .l) ws (slotPlace (z .limit) (z .l) i))
+        its-phase = rw place at (told-phase _ _ _ told o .turns)
 
         value : scaled (k / 2) (multiply (z .l) (asValue (wordAt (z .l) ws b)) (imageIn z ws xs i))
             ≡ record {
-              turns = (getD (row xs (z .u) fPhase) i 0 + (e + k / 2)) % 4;
+              turns = (getD (row xs (z .u) fPhase) i 0 + (e .0 + k / 2)) % 4;
               word = xorWords (wordAt (z .l) ws b) (wordAt (z .l) ws (slotPlace (z .limit) (z .l) i));
             }
         value = unfold scaled multiply imageIn in (value-eq (quarter-turns _ _ _ (k / 2) its-phase) refl)

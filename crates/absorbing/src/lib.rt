@@ -4,7 +4,7 @@ ghost use Prim.Native.Nat.{_+_, _*_, _%_, _<_, _≤_};
 ghost use lib.Bits.{bitOr};
 ghost use lib.ListN.{length, getD};
 ghost use Rattle.store.specs.Row.{row, Written};
-ghost use Rattle.product.specs.Product.{OddPhaseOf};
+ghost use Rattle.product.specs.Product.{oddPhase};
 ghost use Rattle.model.specs.Words.{setBits, support, wordOf};
 ghost use Rattle.model.specs.Clifford.{Touched, touchAll, absorbWord};
 ghost use Rattle.layout.specs.Rows.{fPhase};
@@ -15,11 +15,11 @@ ghost use Rattle.axes.specs.Beside.{isApart};
 ghost use Rattle.absorbing.specs.Turning.{TurnPre, ImageTurned, TurnsPre, ImagesTurned};
 ghost use Rattle.absorbing.specs.AxisQubits.{BitsAt};
 ghost use Rattle.absorbing.specs.Absorbing.{AbsorbAt};
-use angle::Phase;
 use layout::F_PHASE;
 use layout::IMAGE_SIGNATURE;
 use layout::SIGNATURE;
 use layout::Shape;
+use product::Commutation;
 use steps::State;
 use steps::Step;
 
@@ -103,10 +103,10 @@ fn widen(numbers: &mut [u32], shape: Shape, i: usize, signature: u64)
     clifford::put_signature(numbers, shape, i, signature | old);
 }
 
-// The phase of the product of the words at a and at b where it is odd, else 0.
-fn odd_phase_at(words: &[u64], a: usize, b: usize, l: usize) -> Phase
+// The phase of the product of the words at a and at b where it is odd.
+fn odd_phase_at(words: &[u64], a: usize, b: usize, l: usize) -> Commutation
     requires { ⌜ (a + 2 * l ≤ length (now words)) × (b + 2 * l ≤ length (now words)) ⌝ }
-    ensures { λ r. ⌜ OddPhaseOf l (wordAt l (now (words .entry)) a) (wordAt l (now (words .entry)) b) (r .0) ⌝ }
+    ensures { λ r. ⌜ r ≡ oddPhase l (wordAt l (now (words .entry)) a) (wordAt l (now (words .entry)) b) ⌝ }
 {
     product::odd_phase(axes::word_at(words, a, l), axes::word_at(words, b, l), l)
 }
@@ -129,10 +129,10 @@ fn turn_image(
         return;
     }
     let at = layout::slot_at(shape.limit, shape.l, i);
-    let e = odd_phase_at(&words[..], b, at, shape.l);
-    if e.0 % 2 != 1 {
+    let told = odd_phase_at(&words[..], b, at, shape.l);
+    let Commutation::Anticommute(e) = told else {
         return;
-    }
+    };
     if k == 4 {
         add_phase(numbers, shape.u, i, 2);
         return;

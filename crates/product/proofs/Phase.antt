@@ -1,17 +1,18 @@
 -- The phase, word by word, as the loop sums it. Assumes nothing.
-use mathlib.Core.Path.{_≡_, refl, sym, ap₂, _∙_}
+use mathlib.Core.Path.{_≡_, refl, ap₂, _∙_}
 use mathlib.Core.Bool.{true, false}
 use mathlib.Core.List.{List}
 use Prim.Native.Nat.{ℕ, zero, suc, _+_, _*_, _/_, _%_, _≤_, _<_, min}
 use native.Mathlib.Omega.{arith}
 use lib.Bits.{bitAnd, bitXor, differ}
-use borrow.Author.Tests.{eqb-true}
 use Rattle.bits.specs.Digit.{Digit, off, on, low}
 use Rattle.bits.specs.Bit.{xor-half, xor-low, and-half, and-low}
 use Rattle.bits.specs.Popcount.{popcount, popcount-zero, popcount-step, popcount-xor, popcount-and-xor}
 use Rattle.pauli.specs.Word.{xWord, zWord, common, xorWords, phase, anticommutes}
 use Rattle.pauli.specs.ProductLaws.{xorWords-at, common-more}
-use Rattle.product.specs.Product.{PhaseOf, OddPhaseOf, phase-tells}
+use Rattle.angle.specs.declared.Phase.{Phase}
+use Rattle.product.specs.declared.Commutation.the-variants.{Commute, Anticommute}
+use Rattle.product.specs.Product.{PhaseOf, phase-tells, oddPhase}
 
 -- ---- one number of each plane
 
@@ -139,10 +140,13 @@ module _ (l : ℕ) (p q : List ℕ) (ones twos j : ℕ) (a : Reading l p q ones 
 
 -- ---- `odd_phase`
 
--- the words commute
-pub none-odd : {l : ℕ} {p q : List ℕ} → anticommutes l p q ≡ false → OddPhaseOf l p q 0
-none-odd h = record { turns = λ o. absurd (omega arith); none = λ n. refl; tells = sym h }
+module _ (l : ℕ) (p q : List ℕ) where
+  -- the words commute
+  pub tell-commute : anticommutes l p q ≡ false → Commute ≡ oddPhase l p q
+  unfolding oddPhase
+  tell-commute h = rw h refl
 
--- they anticommute: it is the whole phase
-pub whole-odd : {l : ℕ} {p q : List ℕ} {e : ℕ} → anticommutes l p q ≡ true → PhaseOf l p q e → OddPhaseOf l p q e
-whole-odd {e = e} h f = record { turns = λ o. f .turns; none = λ n. absurd (n (eqb-true (e % 2) 1 (f .tells ∙ h))); tells = f .tells }
+  -- they anticommute: it is the whole phase
+  pub tell-phase : {e : Phase} → anticommutes l p q ≡ true → PhaseOf l p q (e .0) → Anticommute e ≡ oddPhase l p q
+  unfolding oddPhase
+  tell-phase h f = rw (h, ← f .turns) refl

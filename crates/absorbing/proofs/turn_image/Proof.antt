@@ -1,5 +1,5 @@
--- Four cases: signatures that are apart, an even phase, a half turn, a quarter turn. Assumes nothing.
-use Rattle.product.specs.Product.{odd-small}
+-- Four cases: signatures that are apart, words that commute, a half turn, a quarter turn. Assumes nothing.
+use Rattle.product.specs.Product.{told-small}
 use Rattle.absorbing.specs.Turning.{turn-word, turn-slot, turned-apart, turned-not, turned-half, turned-quarter, turn-stored}
 use native.Mathlib.Omega.{arith}
 use borrow.Author.Needs.{needs}
@@ -23,6 +23,12 @@ odd-phase-at-requires c κs =
     let pre = c .before .before .before .before .before .before .before .pre in
     (turn-word pre, turn-slot pre (c .before .slot-at .ensures))
 
+enum-known-told : tie.Need-enum-known-told
+enum-known-told c = search needs
+
+enum-told : tie.Need-enum-told
+enum-told c = search needs
+
 same-length-2 : tie.Need-same-length-2
 same-length-2 c = search needs
 
@@ -34,7 +40,7 @@ returns-2 c =
     let odd-phase-at = c .before .before in
     let slot-at = odd-phase-at .before .before in
     let start = slot-at .before .before .before .before .before .before in
-    turned-not (start .pre) (slot-at .slot-at .ensures) (odd-phase-at .odd-phase-at .ensures) (c .if2 .taken)
+    turned-not (start .pre) (slot-at .slot-at .ensures) (odd-phase-at .odd-phase-at .ensures) (c .enum-told .given .1)
 
 add-phase-requires : tie.Need-add-phase-requires
 add-phase-requires c κs = search needs
@@ -47,17 +53,20 @@ same-length-5 c = search needs
 
 returns-3 : tie.Need-returns-3
 returns-3 c =
-    let test = c .before .before .before .before in
-    let odd-phase-at = test .before .before .before in
+    let add-phase = c .before .before in
+    let test = add-phase .before .before in
+    let told = test .before .before in
+    let odd-phase-at = told .before .before in
     let slot-at = odd-phase-at .before .before in
     let start = slot-at .before .before .before .before .before .before in
-    turned-half (start .pre) (slot-at .slot-at .ensures) (odd-phase-at .odd-phase-at .ensures) (test .before .if2 .left) (test .if3 .taken)
-    (c .before .before .add-phase .ensures)
+    turned-half (start .pre) (slot-at .slot-at .ensures) (odd-phase-at .odd-phase-at .ensures) (told .told .given .1) (test .if2 .taken)
+    (add-phase .add-phase .ensures)
 
 product-word-in-requires : tie.Need-product-word-in-requires
 product-word-in-requires c κs =
-    let slot-at = c .before .before .before .before .before .before in
-    turn-stored (slot-at .before .before .before .before .before .before .pre) (slot-at .slot-at .ensures)
+    let slot-at = c .before .before .before .before .before .before .before in
+    let start = slot-at .before .before .before .before .before .before in
+    turn-stored (start .pre) (slot-at .slot-at .ensures)
 
 cast-add-phase : tie.Need-cast-add-phase
 cast-add-phase c = search needs
@@ -67,12 +76,12 @@ add-add-phase c = search needs
 
 add-phase-requires-2 : tie.Need-add-phase-requires-2
 add-phase-requires-2 c κs =
-    let test = c .before .before .before .before .before .before .before in
-    let odd-phase-at = test .before .before in
+    let told = c .before .before .before .before .before .before .before .before in
+    let odd-phase-at = told .before .before in
     let pre = odd-phase-at .before .before .before .before .before .before .before .before .pre in (
       pre .there .numbers-long,
       pre .there .entry,
-      omega (arith, odd-small (odd-phase-at .odd-phase-at .ensures) (test .if2 .left), pre .quarters .small),
+      omega (arith, told-small _ _ _ (odd-phase-at .odd-phase-at .ensures) (told .told .given .1), pre .quarters .small),
     )
 
 widen-requires : tie.Need-widen-requires
@@ -86,14 +95,16 @@ same-length-7 c = search needs
 
 returns-4 : tie.Need-returns-4
 returns-4 c =
-    let add-phase2 = c .before .before .before .before .before .before in
+    let widen = c .before .before in
+    let add-phase2 = widen .before .before .before .before in
     let product-word-in = add-phase2 .before .before .before .before .before in
     let test = product-word-in .before .before in
-    let odd-phase-at = test .before .before .before in
+    let told = test .before .before in
+    let odd-phase-at = told .before .before in
     let slot-at = odd-phase-at .before .before in
     let start = slot-at .before .before .before .before .before .before in
-    turned-quarter (start .pre) (slot-at .slot-at .ensures) (odd-phase-at .odd-phase-at .ensures) (test .before .if2 .left) (test .if3 .left)
-    (product-word-in .product-word-in .ensures) (add-phase2 .add-phase2 .ensures) (c .before .before .widen .ensures)
+    turned-quarter (start .pre) (slot-at .slot-at .ensures) (odd-phase-at .odd-phase-at .ensures) (told .told .given .1) (test .if2 .left)
+    (product-word-in .product-word-in .ensures) (add-phase2 .add-phase2 .ensures) (widen .widen .ensures)
 
 pub turn-image-spec : {M : Type 1} → statement M
 turn-image-spec =
@@ -104,6 +115,8 @@ turn-image-spec =
     returns
     slot-at-requires
     odd-phase-at-requires
+    enum-known-told
+    enum-told
     same-length-2
     same-length-3
     returns-2
