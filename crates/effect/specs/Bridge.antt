@@ -149,12 +149,12 @@ module _ (l : ℕ) where
 
   -- ---- the images that are held are the letters' images under F
 
-  pub record Holds (held : List Images) (F : Cliff (packed l)) : Type 0 where
+  pub record ImagesOf (held : List Images) (F : Cliff (packed l)) : Type 0 where
     pub letters : (q c : ℕ) → q < 64 * l → Letter c → letterImage l held q c ≡ valueOf l (F .im (letterWord q c))
     pub fits : (P : Packed l) → IsWord l (P .0) → IsWord l (F .im P .1 .0)
 
   -- a pass starts with none
-  pub holds-start : Holds [] (nothing (packed l))
+  pub holds-start : ImagesOf [] (nothing (packed l))
   unfolding letterImage nothing
   holds-start = record { letters = λ q c b x. refl; fits = λ P h. h }
 
@@ -166,8 +166,8 @@ module _ (l : ℕ) where
   conjAt-word true six B P hb hp = xorWords-word l (B .0) (P .0) hb hp
 
   -- it absorbs angle k about B
-  pub holds-absorb : (t : Touched) (F : Cliff (packed l)) (B : Packed l) {k : ℕ} (x : Even k) → IsWord l (B .0) → Holds (t .held) F
-      → Holds (absorbWord l t (B .0) k .held) (absorbed (packed l) F (eighth (pos k)) B (even-angle x))
+  pub holds-absorb : (t : Touched) (F : Cliff (packed l)) (B : Packed l) {k : ℕ} (x : Even k) → IsWord l (B .0) → ImagesOf (t .held) F
+      → ImagesOf (absorbWord l t (B .0) k .held) (absorbed (packed l) F (eighth (pos k)) B (even-angle x))
   unfolding image conj
   holds-absorb t F B {k} x hb h = record {
     letters = λ q c b y.
@@ -242,7 +242,7 @@ module _ (l : ℕ) where
   letter-none F q b = ap (F .im) (packed-ext l (letterWord q 0) (one l) (single-none l q b)) ∙ F .im-unit
 
   -- the product of a word's letters' images, qubits rising, is the image of the word under F
-  pub holds-image : (held : List Images) (F : Cliff (packed l)) → Holds held F → (w : List ℕ) (h : IsWord l w)
+  pub holds-image : (held : List Images) (F : Cliff (packed l)) → ImagesOf held F → (w : List ℕ) (h : IsWord l w)
       → wordImage l held w ≡ valueOf l (F .im (w, h .long))
   unfolding carryRow walk multiplyImages wordImage
   holds-image held F k w h =
@@ -279,7 +279,7 @@ module _ (l : ℕ) where
 
   -- ---- what follows
 
-  module _ (held : List Images) (F : Cliff (packed l)) (k : Holds held F) where
+  module _ (held : List Images) (F : Cliff (packed l)) (k : ImagesOf held F) where
     -- an image is a word
     pub image-word : (w : List ℕ) → IsWord l w → IsWord l (wordImage l held w .word)
     image-word w h = subst (λ (v : Value). IsWord l (v .word)) (sym (holds-image held F k w h)) (k .fits (w, h .long) h)

@@ -6,7 +6,6 @@ use Rattle.model.specs.Exchange.{swaps}
 use Rattle.model.specs.Rounds.{Work, exchangePass}
 use Rattle.theory.specs.Cases.{by-if}
 use Rattle.theory.specs.Every.{Every}
-use Rattle.theory.specs.Segments.{rewriteSegments-every}
 use Rattle.effect.specs.Words.{Setting}
 use Rattle.effect.specs.Effect.{Op}
 use Rattle.effect.specs.Effect as Effect
@@ -14,7 +13,7 @@ use Rattle.effect.specs.Equal.{≈-refl}
 use Rattle.items_effect.specs.Ops.{itemOps}
 use Rattle.items_effect.specs.AxisWords.{AxisWords, Sound}
 use Rattle.items_effect.specs.Segments.{OnRotation, rewriteSegments-effect}
-use Rattle.exchange_effect.specs.Swaps.{swaps-effect, swaps-sound}
+use Rattle.exchange_effect.specs.Swaps.{swaps-effect}
 
 -- rotations about stored axes, with angles below 8
 abbrev pub SoundItems : Work → Type 0
@@ -36,12 +35,3 @@ module _ (H : Setting) (l : ℕ) (r : Rules) (w : Work) (A : AxisWords H l (w .s
       (≈-refl H (itemOps (A .word) barrierOp (w .items)))
       (rewriteSegments-effect H (A .word) barrierOp (Sound axes) (swaps l axes (r .window) (r .candidates) (r .eager))
       (swaps-effect H l axes A (r .window) (r .candidates) (r .eager)) (w .items) sound)
-
-  -- ready for the next pass
-  pub exchangePass-sound : SoundItems (exchangePass l r w)
-  unfolding exchangePass
-  exchangePass-sound =
-      let axes = w .store .axes in
-      by-if SoundItems _ _ _ sound
-      (rewriteSegments-every (Sound axes) (OnRotation (Sound axes)) (λ t h. h) (λ t h. h) (swaps l axes (r .window) (r .candidates) (r .eager))
-      (swaps-sound H l axes A (r .window) (r .candidates) (r .eager)) (w .items) sound)

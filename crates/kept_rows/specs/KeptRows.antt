@@ -159,7 +159,7 @@ module _ (p : Program) (fine : Fine p) (hermitian : packed p .refused ≡ false)
     point-free (layered {v} h) = layeringPass-free l row (node-word p fine (f .node) inside) r v (point-free h)
 
     -- the state at the end of a stream
-    pub point-unmoved : {w : Work} → Reached (width (p .qubits)) r (startOf p) w → (merging : Bool)
+    point-unmoved : {w : Work} → Reached (width (p .qubits)) r (startOf p) w → (merging : Bool)
         → Unmoved (width (p .qubits)) (valueAt (valuesOf p) (f .node) .word) (stream (width (p .qubits)) r merging (begin (w .store)) (w .items))
     point-unmoved {w} h merging =
         stream-unmoved l row (node-word p fine (f .node) inside) r merging w (point-well p fine hermitian r h .stored) (point-turns h)

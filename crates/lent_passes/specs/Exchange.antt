@@ -6,17 +6,17 @@ use native.Mathlib.Omega.{arith}
 use Rattle.model.specs.declared.Counters.{Counters}
 use Rattle.axes.specs.declared.Sizes.{Sizes}
 use Rattle.lent_passes.specs.Raised.{moreSwaps}
-use Rattle.exchange.specs.declared.Rules.{Rules}
+use Rattle.exchange.specs.declared.ExchangeRules.{ExchangeRules}
 use Rattle.exchange.specs.declared.Progress.{Progress}
 use Rattle.exchange.specs.Segments.{Exchanged}
 
 -- a pass makes no more exchanges than there are items
-pub room-for : {z : Sizes} {c : Rules} {ws xs ys : List ℕ} {k : ℕ} {r : Progress} (h : Counters)
+pub room-for : {z : Sizes} {c : ExchangeRules} {ws xs ys : List ℕ} {k : ℕ} {r : Progress} (h : Counters)
     → h .swaps + k < 2 ^ 64 → Exchanged z c ws xs k r ys → h .swaps + r .swaps < 2 ^ 64
 room-for h o e = let f = e .few in omega arith
 
 -- what the core and the adder say together
-pub exchanged : {z : Sizes} {c : Rules} {ws xs ys : List ℕ} {k : ℕ} {h′ : Counters} {q r : Progress} (h : Counters)
+pub exchanged : {z : Sizes} {c : ExchangeRules} {ws xs ys : List ℕ} {k : ℕ} {h′ : Counters} {q r : Progress} (h : Counters)
     → Exchanged z c ws xs k q ys → (h′ ≡ moreSwaps h (q .swaps)) × (r ≡ q)
     → Exchanged z c ws xs k r ys × (h′ ≡ moreSwaps h (r .swaps))
 exchanged {z} {c} {ws} {xs} {ys} {k} {h′} h a e =

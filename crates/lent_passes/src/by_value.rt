@@ -7,8 +7,8 @@ ghost use Rattle.layering.specs.Contracts.{LayeringPre, LayeredAs};
 ghost use Rattle.lent_passes.specs.Raised.{moreMerges, moreSwaps};
 ghost use Rattle.lent_passes.specs.Counted.{Room, StreamedAs};
 use axes::Sizes;
+use exchange::ExchangeRules;
 use exchange::Progress;
-use exchange::Rules;
 use layering::Layering;
 use layout::Shape;
 use model::Counters;
@@ -52,7 +52,7 @@ pub fn exchange(
     words: &[u64],
     numbers: &mut [u32],
     z: Sizes,
-    rules: Rules,
+    rules: ExchangeRules,
     items: usize,
     mut stats: Counters,
 ) -> Swapped

@@ -6,11 +6,12 @@ ghost use Rattle.stream.specs.Passing.{PassAtWork, SomeWork};
 ghost use Rattle.exchange.specs.Segments.{ExchangePre, Exchanged};
 ghost use Rattle.layering.specs.Contracts.{LayeringPre, LayeredAs};
 ghost use Rattle.lent_passes.specs.Counted.{mergesOf, absorbedOf, raised, Room, CountedAs, StreamedAs};
+
 pub mod by_value;
 
 use axes::Sizes;
+use exchange::ExchangeRules;
 use exchange::Progress;
-use exchange::Rules;
 use layering::Layering;
 use layout::Shape;
 use model::Counters;
@@ -111,7 +112,7 @@ pub fn exchange_pass(
     words: &[u64],
     numbers: &mut [u32],
     z: Sizes,
-    rules: Rules,
+    rules: ExchangeRules,
     items: usize,
     stats: &mut Counters,
 ) -> Progress

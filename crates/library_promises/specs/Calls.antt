@@ -7,9 +7,9 @@ use Rattle.model.specs.declared.Answer.{Answer}
 use Rattle.model.specs.Interface.{numberOf}
 use Rattle.model.specs.Program.{Job}
 use Rattle.model.specs.Checking.{Lent}
-use Rattle.model.specs.Rewriting.{Reply, rewriting, Called}
+use Rattle.model.specs.Rewriting.{rewriting, Called}
 use Rattle.theory.specs.Checked.{same-number}
-use Rattle.listing_call.specs.Call.{ListingReply, listingCall, ListingCalled}
+use Rattle.listing_call.specs.Call.{listingCall, ListingCalled}
 use Rattle.werdutxa.specs.Calls.{ExportedCall, ExportedListing}
 
 module _ {o : Options} {j : Job} {s : Lent} {r : ℕ} {k : List ℕ} {t : Lent} (call : ExportedCall o j s r k t) where

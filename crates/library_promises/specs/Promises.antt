@@ -24,7 +24,7 @@ use Rattle.promises.specs.Strategies.{endWork}
 use Rattle.promises.specs.Alike.{AlikeButRoundsAndLimit, AlikeButLimit}
 use Rattle.promises.specs.Promises.{Cleared, AcceptanceLeaves, SameLeft, tCountHanded, tCountLeft}
 use Rattle.promises.specs.Promises as rewriting-promises
-use Rattle.werdutxa.specs.Calls.{countedBy, ExportedCall, ExportedListing}
+use Rattle.werdutxa.specs.Calls.{countedBy, ExportedCall}
 use Rattle.library_promises.specs.Calls.{rewriting-called, rewriting-called-as}
 
 -- fourteen zeros
@@ -59,7 +59,7 @@ module _ {o : Options} {j : Job} {s : Lent} {r : ℕ} {k : List ℕ} {t : Lent} 
   pub acceptance : r ≡ 0 → AcceptanceLeaves (programOf j) (endWork o j) s t
   acceptance e = rewriting-promises.acceptance (rewriting-called-as call Accepted e)
 
--- ==== Demand 2. Meaning
+  -- ==== Demand 2. Meaning
 
   -- "the rewritten program is proved to have its source's effect for every choice of outcomes and every product of frame rows"
   pub effect-kept : r ≡ 0 → (outcomes : ℕ → Bool) (ns : List ℕ)
@@ -68,7 +68,7 @@ module _ {o : Options} {j : Job} {s : Lent} {r : ℕ} {k : List ℕ} {t : Lent} 
       ≡ sourceEffect (programOf j) outcomes ns
   effect-kept e = rewriting-promises.effect-kept (rewriting-called-as call Accepted e)
 
--- ==== Demand 3. Never worse
+  -- ==== Demand 3. Never worse
 
   -- "neither exceeds the source's"
   pub never-above-source : r ≡ 0 → tCountLeft j t ≤ tCountHanded j

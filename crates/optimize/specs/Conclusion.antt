@@ -30,7 +30,7 @@ use Rattle.results.specs.Finish.{FinishPre, Finished, finish-pre, finished-are}
 use Rattle.decision.specs.declared.Decided.{Decided}
 use Rattle.decision.specs.declared.Decision.{Decision}
 use Rattle.decision.specs.declared.Decision.the-variants.{Done, Refused}
-use Rattle.decision.specs.End.{endIn, finishedIn, end-barriers, DecidedAs}
+use Rattle.decision.specs.End.{finishedIn, end-barriers, DecidedAs}
 use Rattle.decision.specs.Decision.{runIn, DecisionAs}
 use Rattle.checking.specs.Call.{lentOf}
 use Rattle.optimize.specs.declared.Rewritten.{Rewritten}

@@ -25,8 +25,8 @@ use Rattle.packing_states.specs.Linked.{Linked}
 use Rattle.packing_states.specs.InMemory.{OfShape}
 use Rattle.packing.specs.Phases.{phaseIn}
 use Rattle.packing.specs.declared.Slots.{Slots}
-use Rattle.packing.specs.declared.Step.{Step}
-use Rattle.packing.specs.declared.Step.the-variants.{Next, NonHermitianAxis, ExpansionLimit}
+use Rattle.packing.specs.declared.PackStep.{PackStep}
+use Rattle.packing.specs.declared.PackStep.the-variants.{Next, NonHermitianAxis, ExpansionLimit}
 
 -- each node below b that is still to be used has a slot of its own, with its word there and its phase beside it;
 -- a free slot is no such node's, and is free once
@@ -100,7 +100,7 @@ holding-done f h = record {
 }
 
 -- how a turn ends that leads to k
-abbrev pub Turned : Program → Shape → ℕ → ℕ → ℕ → Pack → Step → List ℕ → List ℕ → Type 0
+abbrev pub Turned : Program → Shape → ℕ → ℕ → ℕ → Pack → PackStep → List ℕ → List ℕ → Type 0
 Turned p z b n i k (Next st) ws xs = Holding p z b n i k st ws xs
 Turned p z b n i k NonHermitianAxis ws xs = (k .refused ≡ true) × (k .store .peak ≤ z .limit)
 Turned p z b n i k ExpansionLimit ws xs = z .limit < k .store .peak

@@ -23,8 +23,8 @@ use Rattle.packing_states.specs.Uses.{unused-no-roots}
 use Rattle.packing_states.specs.Live.{used-below-same}
 use Rattle.packing_states.specs.InMemory.{total-is, node-is, operation-reference, row-reference, OfShape, given-shape}
 use Rattle.packing.specs.declared.Slots.{Slots}
-use Rattle.packing.specs.declared.Step.{Step}
-use Rattle.packing.specs.declared.Step.the-variants.{Next, NonHermitianAxis, ExpansionLimit}
+use Rattle.packing.specs.declared.PackStep.{PackStep}
+use Rattle.packing.specs.declared.PackStep.the-variants.{Next, NonHermitianAxis, ExpansionLimit}
 use Rattle.packing.specs.Phases.{phaseIn, phase-operation, phase-row}
 use Rattle.packing_states.specs.SomeProgram.{SomeProgram}
 use Rattle.packing.specs.Holding.{slots-among, SlotsHold, Done, Holding, holding-done, Turned, PlaceAt, RootsAt, NodeAt}
@@ -121,7 +121,7 @@ module _ (p : Program) (n : ℕ) (f : before p n .refused ≡ false) (u : 0 < ge
   after-limit z h = rw (before-used p n f u) (omega (arith, peak-within p n 0 (total p) (omega arith)))
 
   -- its roots end its turn
-  after-roots : (z : Shape) (r : Step) (ws xs : List ℕ) → Turned p z (suc n) n (total p) (within p n (total p)) r ws xs
+  after-roots : (z : Shape) (r : PackStep) (ws xs : List ℕ) → Turned p z (suc n) n (total p) (within p n (total p)) r ws xs
       → Turned p z (suc n) (suc n) 0 (before p (suc n)) r ws xs
   after-roots z (Next st) ws xs t = past-roots (rw (before-used p n f u) t)
   after-roots z NonHermitianAxis ws xs t = rw (before-used p n f u) t
@@ -165,7 +165,7 @@ module _ {z : Shape} {st : Slots} {n : ℕ} {ns os rs ws xs : List ℕ} (a : Nod
     place-there i = record { program = programIn z ns os rs; it = place-at i }
 
     -- and has been
-    module _ {x : NodeRecord} {r : Step} {ws′ xs′ : List ℕ} (i : x ≡ nodeRecord ns n) (k : RestKept z ws xs ws′ xs′)
+    module _ {x : NodeRecord} {r : PackStep} {ws′ xs′ : List ℕ} (i : x ≡ nodeRecord ns n) (k : RestKept z ws xs ws′ xs′)
         (t : (p : Program) → PlaceAt p z st n x ws xs → Turned p z (suc n) n 0 (slotted p n) r ws′ xs′) where
       -- refused
       pub turn-odd : r ≡ NonHermitianAxis → RestKept z ws xs ws′ xs′
@@ -197,7 +197,7 @@ module _ {z : Shape} {st : Slots} {n : ℕ} {ns os rs ws xs : List ℕ} (a : Nod
         roots-there = record { program = programIn z ns os rs; it = roots-at }
 
         -- and have been
-        pub turn-roots : (q : Step) {ws″ xs″ : List ℕ} → RestKept z ws′ xs′ ws″ xs″
+        pub turn-roots : (q : PackStep) {ws″ xs″ : List ℕ} → RestKept z ws′ xs′ ws″ xs″
             → ((p : Program) → RootsAt p z s n os rs ws′ xs′ → Turned p z (suc n) n (total p) (within p n (total p)) q ws″ xs″)
             → RestKept z ws xs ws″ xs″ × Turned (programIn z ns os rs) z (suc n) (suc n) 0 (before (programIn z ns os rs) (suc n)) q ws″ xs″
         turn-roots q l m =

@@ -32,7 +32,7 @@ use Rattle.packing_states.specs.Uses.{children-below, children-used}
 use Rattle.packing_states.specs.Live.{used-below-more}
 use Rattle.packing_states.specs.Linked.{linked-same}
 use Rattle.packing.specs.declared.Slots.{Slots}
-use Rattle.packing.specs.declared.Step.the-variants.{Next, ExpansionLimit}
+use Rattle.packing.specs.declared.PackStep.the-variants.{Next, ExpansionLimit}
 use Rattle.packing.specs.Values.{slotOf, phaseOf, usesOf, HeldPre, heldValue, EvaluatePre, valueOfRecord, Evaluated, ChildrenPre}
 use Rattle.packing.specs.Values.{ChildrenReleased, TakePre, taken, KeepPre, Kept}
 use Rattle.packing.specs.Holding.{SlotsHold, SignedAt, Holding, Turned, PlaceAt}

@@ -24,7 +24,7 @@ use Rattle.packing_states.specs.States.{valueOf, within}
 use Rattle.packing_states.specs.ReferenceRows.{ReferenceRows, referenceRows, reference-rows}
 use Rattle.packing.specs.declared.Slots.{Slots}
 use Rattle.packing.specs.declared.ValueHeld.{ValueHeld}
-use Rattle.packing.specs.declared.Step.the-variants.{Next, NonHermitianAxis, ExpansionLimit}
+use Rattle.packing.specs.declared.PackStep.the-variants.{Next, NonHermitianAxis, ExpansionLimit}
 use Rattle.packing.specs.Holding.{Turned, RootAt}
 use Rattle.packing.specs.RestKept.{turnRows, RestKept}
 use Rattle.packing.specs.Bounds.{slots-fit}

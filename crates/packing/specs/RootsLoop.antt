@@ -18,8 +18,8 @@ use Rattle.packing_states.specs.States.{within}
 use Rattle.packing_states.specs.StateLaws.{within-none, within-next, peak-within, refused-within}
 use Rattle.packing_states.specs.Uses.{root-used}
 use Rattle.packing.specs.declared.Slots.{Slots}
-use Rattle.packing.specs.declared.Step.{Step}
-use Rattle.packing.specs.declared.Step.the-variants.{Next, NonHermitianAxis, ExpansionLimit}
+use Rattle.packing.specs.declared.PackStep.{PackStep}
+use Rattle.packing.specs.declared.PackStep.the-variants.{Next, NonHermitianAxis, ExpansionLimit}
 use Rattle.packing.specs.Phases.{PhasePre, phaseIn}
 use Rattle.packing_states.specs.SomeProgram.{SomeProgram}
 use Rattle.packing.specs.Holding.{Done, Holding, holding-done, Turned, RootAt, RootsAt}
@@ -135,7 +135,7 @@ module _ {z : Shape} {placed : Slots} {n : ℕ} {os rs ws₀ xs₀ : List ℕ} w
         (g .numbers-long, omega arith, omega (arith, a .at (s .program) (s .it) .some r l .reference, s .it .program .references, g .sized .row))
 
     -- and has been
-    module _ {step : Step} {phase : ℕ} {ws′ xs′ : List ℕ} (e : phase ≡ phaseIn (z .operations) os rs r) (k : RestKept z ws xs ws′ xs′)
+    module _ {step : PackStep} {phase : ℕ} {ws′ xs′ : List ℕ} (e : phase ≡ phaseIn (z .operations) os rs r) (k : RestKept z ws xs ws′ xs′)
         (t : (p : Program) → RootAt p z st n r phase ws xs → Turned p z (suc n) n (suc r) (within p n (suc r)) step ws′ xs′) where
       next-holding : (p : Program) → RootsAt p z placed n os rs ws₀ xs₀ → (st′ : Slots) → step ≡ Next st′
           → Holding p z (suc n) n (suc r) (within p n (suc r)) st′ ws′ xs′

@@ -15,8 +15,8 @@ use Rattle.theory.specs.Cases.{on-if, if-true, if-false}
 use Rattle.layout.specs.declared.Shape.{Shape}
 use Rattle.layout.specs.Rows.{nodeSlot, freeRow}
 use Rattle.packing.specs.declared.Slots.{Slots}
-use Rattle.packing.specs.declared.Step.{Step}
-use Rattle.packing.specs.declared.Step.the-variants.{Next, NonHermitianAxis, ExpansionLimit}
+use Rattle.packing.specs.declared.PackStep.{PackStep}
+use Rattle.packing.specs.declared.PackStep.the-variants.{Next, NonHermitianAxis, ExpansionLimit}
 use Rattle.packing.specs.Holding.{SlotsHold}
 use Rattle.packing.specs.Values.{slotSum, freeTaken, newTaken, taken}
 use Rattle.packing.specs.Keeping.{Takes, takes-free, takes-new}
@@ -32,7 +32,7 @@ abbrev New : Shape → Slots → Slots → Type 0
 New z st st′ = (st .free ≡ 0) × ((slotSum z st ≤ z .limit) × (newTaken z st ≡ st′))
 
 -- what the answer means; without a slot none is free, and a new one exceeds the limit
-abbrev TakenAs : Shape → List ℕ → Slots → Step → Type 0
+abbrev TakenAs : Shape → List ℕ → Slots → PackStep → Type 0
 TakenAs z xs st (Next st′) = Freed z xs st st′ ⊎ New z st st′
 TakenAs z xs st NonHermitianAxis = ⊥
 TakenAs z xs st ExpansionLimit = (st .free ≡ 0) × (z .limit < slotSum z st)

@@ -30,7 +30,7 @@ use Rattle.records.specs.declared.NodeRecord.{NodeRecord}
 use Rattle.records.specs.Records.{said-identity, said-letter, said-product}
 use Rattle.packing.specs.declared.Slots.{Slots}
 use Rattle.packing.specs.declared.ValueHeld.{ValueHeld}
-use Rattle.packing.specs.declared.Step.the-variants.{Next, ExpansionLimit}
+use Rattle.packing.specs.declared.PackStep.the-variants.{Next, ExpansionLimit}
 use Rattle.packing.specs.Values.{slotOf, phaseOf, HeldPre, heldAt, heldValue, EvaluatePre, valueOfRecord, Evaluated, usesOf}
 use Rattle.packing.specs.Values.{ReleasePre, Released, ChildrenPre, ChildrenReleased, taken, KeepPre, Kept}
 

@@ -18,8 +18,8 @@ use Rattle.records.specs.declared.NodeRecord.{NodeRecord}
 use Rattle.records.specs.Records.{nodeSaid}
 use Rattle.packing.specs.declared.Slots.{Slots}
 use Rattle.packing.specs.declared.ValueHeld.{ValueHeld}
-use Rattle.packing.specs.declared.Step.{Step}
-use Rattle.packing.specs.declared.Step.the-variants.{Next, ExpansionLimit}
+use Rattle.packing.specs.declared.PackStep.{PackStep}
+use Rattle.packing.specs.declared.PackStep.the-variants.{Next, ExpansionLimit}
 
 -- ---- what is held of a node
 
@@ -135,7 +135,7 @@ abbrev pub newTaken : Shape → Slots → Slots
 newTaken z st = record { axes = st .axes; peak = max (st .peak) (slotSum z st); slots = st .slots + 1; free = 0; taken = st .slots }
 
 -- "a slot is freed after its last use and reused, last freed first"; for a new one the sum is tested
-unfoldable pub taken : Shape → List ℕ → Slots → Step
+unfoldable pub taken : Shape → List ℕ → Slots → PackStep
 taken z xs st =
     if ltb 0 (st .free) then Next (freeTaken z xs st)
     else if ltb (z .limit) (slotSum z st) then ExpansionLimit

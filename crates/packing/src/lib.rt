@@ -39,7 +39,7 @@ struct ValueHeld {
 }
 
 // How a step ends: the slots then, or a refusal.
-enum Step {
+enum PackStep {
     Next(Slots),
     NonHermitianAxis,
     ExpansionLimit,
@@ -53,7 +53,7 @@ fn place_node(
     st: Slots,
     n: usize,
     x: NodeRecord,
-) -> Step
+) -> PackStep
     requires { ⌜ SomeProgram (λ (p : Program). PlaceAt p shape st n x (now words) (now numbers)) ⌝ }
     ensures { λ r. ⌜ RestKept shape (now (words .entry)) (now (numbers .entry)) (now (words .exit)) (now (numbers .exit))
         × ((p : Program) → PlaceAt p shape st n x (now (words .entry)) (now (numbers .entry))
@@ -70,12 +70,12 @@ fn place_node(
     };
     let step = values::take_slot(&numbers[..], shape, freed);
     match step {
-        Step::Next(after) => {
+        PackStep::Next(after) => {
             values::keep(words, numbers, shape, n, after.taken, phase);
-            Step::Next(after)
+            PackStep::Next(after)
         }
-        Step::NonHermitianAxis => Step::NonHermitianAxis,
-        Step::ExpansionLimit => Step::ExpansionLimit,
+        PackStep::NonHermitianAxis => PackStep::NonHermitianAxis,
+        PackStep::ExpansionLimit => PackStep::ExpansionLimit,
     }
 }
 
@@ -99,7 +99,7 @@ fn pack_root(
     n: usize,
     root: usize,
     phase: u32,
-) -> Step
+) -> PackStep
     requires { ⌜ SomeProgram (λ (p : Program). RootAt p shape st n root phase (now words) (now numbers)) ⌝ }
     ensures { λ r. ⌜ RestKept shape (now (words .entry)) (now (numbers .entry)) (now (words .exit)) (now (numbers .exit))
         × ((p : Program) → RootAt p shape st n root phase (now (words .entry)) (now (numbers .entry))
@@ -108,18 +108,18 @@ fn pack_root(
     let v = values::held(&numbers[..], shape, n);
     let total = (v.phase + phase % 4) % 4;
     if total % 2 == 1 {
-        return Step::NonHermitianAxis;
+        return PackStep::NonHermitianAxis;
     }
     let counted = st.slots * (2 * shape.l);
     let sizes = axes::sizes_of(shape, st.axes);
     let i = interning::intern(words, numbers, sizes, counted, st.peak, v.at);
     let Interned::Axis(a) = i else {
-        return Step::ExpansionLimit;
+        return PackStep::ExpansionLimit;
     };
     store::write(numbers, shape.u, ROOT_AXIS, root, a.id as u32);
     store::write(numbers, shape.u, ROOT_SIGN, root, total);
     let free = values::release(numbers, shape.u, st.free, n);
-    Step::Next(Slots {
+    PackStep::Next(Slots {
         axes: a.axes,
         peak: a.peak,
         slots: st.slots,
@@ -137,7 +137,7 @@ fn pack_roots(
     shape: Shape,
     placed: Slots,
     n: usize,
-) -> Step
+) -> PackStep
     requires { ⌜ SomeProgram (λ (p : Program). RootsAt p shape placed n (now operations) (now rows) (now words) (now numbers)) ⌝ }
     ensures { λ r. ⌜ RestKept shape (now (words .entry)) (now (numbers .entry)) (now (words .exit)) (now (numbers .exit))
         × ((p : Program)
@@ -151,13 +151,13 @@ fn pack_roots(
         let phase = reference_phase(operations, rows, shape.operations, root);
         let step = pack_root(words, numbers, shape, st, n, root, phase);
         match step {
-            Step::Next(s) => st = s,
-            Step::NonHermitianAxis => return Step::NonHermitianAxis,
-            Step::ExpansionLimit => return Step::ExpansionLimit,
+            PackStep::Next(s) => st = s,
+            PackStep::NonHermitianAxis => return PackStep::NonHermitianAxis,
+            PackStep::ExpansionLimit => return PackStep::ExpansionLimit,
         }
         next = store::read(&numbers[..], shape.u, NEXT_ROOT, root) as usize;
     }
-    Step::Next(st)
+    PackStep::Next(st)
 }
 
 // Node n's turn.
@@ -170,7 +170,7 @@ fn pack_node(
     shape: Shape,
     st: Slots,
     n: usize,
-) -> Step
+) -> PackStep
     requires { ⌜ NodeAt shape st n (now nodes) (now operations) (now rows) (now words) (now numbers) ⌝ }
     ensures { λ r. ⌜ RestKept shape (now (words .entry)) (now (numbers .entry)) (now (words .exit)) (now (numbers .exit))
         × Turned (programIn shape (now (nodes .entry)) (now (operations .entry)) (now (rows .entry))) shape (suc n) (suc n) 0
@@ -178,14 +178,14 @@ fn pack_node(
         r (now (words .exit)) (now (numbers .exit)) ⌝ }
 {
     if store::read(&numbers[..], shape.u, USES, n) == 0 {
-        return Step::Next(st);
+        return PackStep::Next(st);
     }
     let x = records::node_at(nodes, n);
     let step = place_node(words, numbers, shape, st, n, x);
     match step {
-        Step::Next(placed) => pack_roots(operations, rows, words, numbers, shape, placed, n),
-        Step::NonHermitianAxis => Step::NonHermitianAxis,
-        Step::ExpansionLimit => Step::ExpansionLimit,
+        PackStep::Next(placed) => pack_roots(operations, rows, words, numbers, shape, placed, n),
+        PackStep::NonHermitianAxis => PackStep::NonHermitianAxis,
+        PackStep::ExpansionLimit => PackStep::ExpansionLimit,
     }
 }
 
@@ -214,9 +214,9 @@ pub fn pack(
     for n in 0..shape.nodes {
         let step = pack_node(nodes, operations, rows, words, numbers, shape, st, n);
         match step {
-            Step::Next(s) => st = s,
-            Step::NonHermitianAxis => return Packed::NonHermitianAxis,
-            Step::ExpansionLimit => return Packed::ExpansionLimit,
+            PackStep::Next(s) => st = s,
+            PackStep::NonHermitianAxis => return Packed::NonHermitianAxis,
+            PackStep::ExpansionLimit => return Packed::ExpansionLimit,
         }
     }
     Packed::Axes {

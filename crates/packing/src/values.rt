@@ -2,8 +2,8 @@
 ghost use mathlib.Core.Path.{_≡_};
 ghost use Rattle.packing.specs.Values.{HeldPre, heldAt, EvaluatePre, Evaluated, ReleasePre, Released, ChildrenPre, ChildrenReleased};
 ghost use Rattle.packing.specs.Values.{TakePre, taken, KeepPre, Kept};
+use super::PackStep;
 use super::Slots;
-use super::Step;
 use super::ValueHeld;
 use angle::Phase;
 use layout::FREE;
@@ -83,14 +83,14 @@ pub fn release_children(numbers: &mut [u32], u: usize, free: usize, x: NodeRecor
 }
 
 // The slot freed last, or a new one within the limit.
-pub fn take_slot(numbers: &[u32], shape: Shape, st: Slots) -> Step
+pub fn take_slot(numbers: &[u32], shape: Shape, st: Slots) -> PackStep
     requires { ⌜ TakePre shape (now numbers) st ⌝ }
     ensures { λ r. ⌜ r ≡ taken shape (now (numbers .entry)) st ⌝ }
 {
     if 0 < st.free {
         let free = st.free - 1;
         let taken = store::read(numbers, shape.u, FREE, free) as usize;
-        return Step::Next(Slots {
+        return PackStep::Next(Slots {
             axes: st.axes,
             peak: st.peak,
             slots: st.slots,
@@ -101,9 +101,9 @@ pub fn take_slot(numbers: &[u32], shape: Shape, st: Slots) -> Step
     let n = 2 * shape.l;
     let sum = st.slots * n + n + st.axes * n;
     if shape.limit < sum {
-        return Step::ExpansionLimit;
+        return PackStep::ExpansionLimit;
     }
-    Step::Next(Slots {
+    PackStep::Next(Slots {
         axes: st.axes,
         peak: layout::peak_with(st.peak, sum),
         slots: st.slots + 1,

@@ -3,14 +3,12 @@ use mathlib.Core.Path.{_≡_, refl, sym, ap, _∙_}
 use mathlib.Core.Bool.{Bool, true, false}
 use Prim.Native.Nat.{ℕ}
 use native.Mathlib.Nat.{lt-of-lt-of-le}
-use native.Mathlib.Omega.{arith}
 use lib.Dec.{ltb}
 use borrow.Author.Tests.{ltb-true, ltb-false}
 use Rattle.model.specs.declared.Answer.the-variants.{Accepted}
-use Rattle.model.specs.Interface.{numberOf}
 use Rattle.model.specs.Program.{Program}
 use Rattle.model.specs.Rules.{Rules}
-use Rattle.model.specs.Run.{nonHermitian, finishedRun, run, answerOf}
+use Rattle.model.specs.Run.{nonHermitian, run, answerOf}
 use Rattle.model.specs.Packing.{packed}
 use Rattle.theory.specs.Cases.{if-true, if-false}
 use Rattle.theory.specs.Limit.{within-answer, beyond-answer}
@@ -33,15 +31,3 @@ run-refused r rounds p limit n = go (ltb limit (packed p .store .peak)) refl (pa
         ∙ within-answer limit (record { peak = packed p .store .peak; ending = nonHermitian }) (ltb-false limit (packed p .store .peak) e)
         ∙ sym (ap packingAnswer (if-false _ _ e ∙ if-true _ _ f))
     go false e false f = absurd (n (ap packingAnswer (if-false _ _ e ∙ if-false _ _ f)))
-
--- and where packing answers 0, the run goes on to its passes
-pub run-goes-on : (r : Rules) (rounds : ℕ) (p : Program) (limit : ℕ) → packingAnswer (packedAnswer limit (packed p)) ≡ Accepted
-    → run r rounds p ≡ finishedRun r rounds p
-unfolding packedAnswer run
-run-goes-on r rounds p limit h = go (ltb limit (packed p .store .peak)) refl (packed p .refused) refl
-  where
-    go : (a : Bool) → ltb limit (packed p .store .peak) ≡ a → (b : Bool) → packed p .refused ≡ b → run r rounds p ≡ finishedRun r rounds p
-    go a e false f = if-false _ _ f
-    go true e true f = let z : _≡_ {A = ℕ} 10 0 = ap numberOf (sym (ap packingAnswer (if-true _ _ e)) ∙ h) in absurd (omega arith)
-    go false e true f =
-        let z : _≡_ {A = ℕ} 9 0 = ap numberOf (sym (ap packingAnswer (if-false _ _ e ∙ if-true _ _ f)) ∙ h) in absurd (omega arith)

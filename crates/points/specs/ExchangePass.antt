@@ -1,7 +1,7 @@
 -- An exchange, from a point of a run to the next. Assumes nothing.
 use mathlib.Core.Path.{_≡_, refl, sym, ap, _∙_, subst}
 use mathlib.Core.List.{List}
-use Prim.Native.Nat.{ℕ, _+_, _≤_}
+use Prim.Native.Nat.{ℕ, _+_}
 use native.Mathlib.Omega.{arith}
 use Rattle.model.specs.declared.Options.{Options}
 use Rattle.model.specs.declared.Counters.{Counters}
@@ -18,7 +18,7 @@ use Rattle.axes.specs.declared.Sizes.{Sizes}
 use Rattle.axes.specs.Held.{sizesOf, held-rows, held-as}
 use Rattle.work.specs.Work.{FrameIn, frame-other}
 use Rattle.run_wellformed.specs.WorkWell.{exchange-work}
-use Rattle.exchange.specs.declared.Rules as exchange
+use Rattle.exchange.specs.declared.ExchangeRules.{ExchangeRules}
 use Rattle.exchange.specs.declared.Progress.{Progress}
 use Rattle.exchange.specs.Segments.{ExchangePre, Exchanged}
 use Rattle.exchange.specs.Pass.{exchange-is}
@@ -29,7 +29,7 @@ use Rattle.lent_passes.specs.Raised.{moreSwaps}
 use Rattle.points.specs.Points.{RunAt, SomeRun, OptionsIn, items-few}
 use Rattle.points.specs.Counts.{countersAt, withCounts}
 
-abbrev exchangeRules : Options → exchange.Rules
+abbrev exchangeRules : Options → ExchangeRules
 exchangeRules o = record { window = o .window; candidates = o .candidates; eager = o .«eager_swaps» }
 
 -- what an exchange leaves as it was
@@ -61,23 +61,23 @@ module _ {z : Shape} (o : Options) {st : State} {s : Sizes} (same : s ≡ sizesO
     swapped-at f i p w r =
         let x = passed .0 in
         rw (f, passed .1, lent) (
-          let g = rulesOf o in
-          let b = subst (λ (n : Sizes). Exchanged n (exchangeRules o) ws xs (st .out) d ys) same x in
-          let e = exchange-is (sizesOf z (st .axes)) g ws w (r .work .axes .are) (r .work .items) b in
-          record {
-            granted = granted-same (r .granted) refl (x .only .long);
-            work = record {
-              axes = held-as (held-rows (r .work .axes) (b .only) refl) (ap (λ (t : Store). t .axes) (e .2));
-              peak-is = ap (λ (t : Store). t .peak) (sym (e .2)) ∙ r .work .peak-is;
-              within = r .work .within;
-              items = e .0;
-              fits = omega (arith, x .fewer, r .work .fits);
-              frame = subst (λ (fs : List SignedAxis). FrameIn z p fs ys) (sym (same-rows (z .l) g w))
-                  (frame-other (b .only) refl (r .work .frame));
-            };
-            well = exchange-work g (r .well);
-            merges = r .merges ∙ sym (same-merges (z .l) g w);
-            swaps = ap (λ (n : ℕ). n + d .swaps) (r .swaps) ∙ e .1;
-            absorbed = r .absorbed ∙ sym (same-absorbed (z .l) g w);
-            few = omega (arith, x .few, r .few, items-few r);
-          })
+        let g = rulesOf o in
+        let b = subst (λ (n : Sizes). Exchanged n (exchangeRules o) ws xs (st .out) d ys) same x in
+        let e = exchange-is (sizesOf z (st .axes)) g ws w (r .work .axes .are) (r .work .items) b in
+        record {
+          granted = granted-same (r .granted) refl (x .only .long);
+          work = record {
+            axes = held-as (held-rows (r .work .axes) (b .only) refl) (ap (λ (t : Store). t .axes) (e .2));
+            peak-is = ap (λ (t : Store). t .peak) (sym (e .2)) ∙ r .work .peak-is;
+            within = r .work .within;
+            items = e .0;
+            fits = omega (arith, x .fewer, r .work .fits);
+            frame = subst (λ (fs : List SignedAxis). FrameIn z p fs ys) (sym (same-rows (z .l) g w))
+                (frame-other (b .only) refl (r .work .frame));
+          };
+          well = exchange-work g (r .well);
+          merges = r .merges ∙ sym (same-merges (z .l) g w);
+          swaps = ap (λ (n : ℕ). n + d .swaps) (r .swaps) ∙ e .1;
+          absorbed = r .absorbed ∙ sym (same-absorbed (z .l) g w);
+          few = omega (arith, x .few, r .few, items-few r);
+        })

@@ -1,7 +1,7 @@
 -- Layering, from a point of a run to the next. Assumes nothing.
 use mathlib.Core.Path.{_≡_, refl, sym, ap, _∙_, subst}
 use mathlib.Core.List.{List}
-use Prim.Native.Nat.{ℕ, _+_, _≤_}
+use Prim.Native.Nat.{ℕ, _+_}
 use native.Mathlib.Omega.{arith}
 use Rattle.model.specs.Lists.{anyOf, member}
 use Rattle.model.specs.declared.Counters.{Counters}
@@ -44,21 +44,21 @@ module _ {z : Shape} {st : State} {s : Sizes} (same : s ≡ sizesOf z (st .axes)
     layered-at f i p w r =
         let x = passed .0 in
         rw (f, passed .1, lent) (
-          let b = subst (λ (n : Sizes). LayeredAs n ws xs (st .out) d ys) same x in
-          let e = layered-pass b w (r .work .axes) (sym (r .work .items)) in
-          record {
-            granted = granted-same (r .granted) refl (x .only .long);
-            work = record {
-              axes = held-as (held-rows (r .work .axes) (b .only) refl) (ap (λ (v : Work). v .store .axes) (sym e));
-              peak-is = ap (λ (v : Work). v .store .peak) e ∙ r .work .peak-is;
-              within = r .work .within;
-              items = ap (λ (v : Work). v .items) (sym e);
-              fits = omega (arith, x .size, r .work .fits);
-              frame = subst (λ (v : Work). FrameIn z p (v .rows) ys) (sym e) (frame-other (b .only) refl (r .work .frame));
-            };
-            well = layering-work anyRules (r .well);
-            merges = ap (λ (n : ℕ). n + d .merged) (r .merges) ∙ ap (λ (v : Work). v .merges) (sym e);
-            swaps = r .swaps ∙ ap (λ (v : Work). v .swaps) (sym e);
-            absorbed = r .absorbed ∙ ap (λ (v : Work). v .absorbed) (sym e);
-            few = omega (arith, x .size, r .few, items-few r);
-          })
+        let b = subst (λ (n : Sizes). LayeredAs n ws xs (st .out) d ys) same x in
+        let e = layered-pass b w (r .work .axes) (sym (r .work .items)) in
+        record {
+          granted = granted-same (r .granted) refl (x .only .long);
+          work = record {
+            axes = held-as (held-rows (r .work .axes) (b .only) refl) (ap (λ (v : Work). v .store .axes) (sym e));
+            peak-is = ap (λ (v : Work). v .store .peak) e ∙ r .work .peak-is;
+            within = r .work .within;
+            items = ap (λ (v : Work). v .items) (sym e);
+            fits = omega (arith, x .size, r .work .fits);
+            frame = subst (λ (v : Work). FrameIn z p (v .rows) ys) (sym e) (frame-other (b .only) refl (r .work .frame));
+          };
+          well = layering-work anyRules (r .well);
+          merges = ap (λ (n : ℕ). n + d .merged) (r .merges) ∙ ap (λ (v : Work). v .merges) (sym e);
+          swaps = r .swaps ∙ ap (λ (v : Work). v .swaps) (sym e);
+          absorbed = r .absorbed ∙ ap (λ (v : Work). v .absorbed) (sym e);
+          few = omega (arith, x .size, r .few, items-few r);
+        })

@@ -271,8 +271,7 @@ module _ {o o′ : Options} {j j′ : Job} {s s′ : Lent} {c c′ : Counters} {
       → (m′ ≡ m) × (n′ ≡ n)
   equal-rounds-equal-numbers x y alike =
       let end : endWork o′ j′ ≡ endWork o j
-      = rw (alike-rules (alike .others), alike .rounds, alike-program j j′ (alike .others .job)) refl in
-      (
+      = rw (alike-rules (alike .others), alike .rounds, alike-program j j′ (alike .others .job)) refl in (
         sym (operations-are y) ∙ accepted-operations o′ j′ s′ (answer-is y) ∙ ap (λ (w : Work). length (w .items)) end
             ∙ sym (sym (operations-are x) ∙ accepted-operations o j s (answer-is x)),
         sym (axes-are y) ∙ accepted-axes o′ j′ s′ (answer-is y) ∙ ap (λ (w : Work). length (w .store .axes)) end

@@ -1,5 +1,5 @@
 -- A call of Rewriting, from what its parts leave. Assumes nothing.
-use mathlib.Core.Path.{_≡_, refl}
+use mathlib.Core.Path.{_≡_}
 use Rattle.model.specs.declared.Counters.{Counters}
 use Rattle.model.specs.declared.Options.{Options}
 use Rattle.model.specs.Program.{Job}

@@ -1,23 +1,18 @@
 -- Every accepted call of Rewriting, and every accepted listing, keeps the effect. Assumes nothing.
 use mathlib.Core.Path.{_≡_, sym, _∙_, ap, ap₂}
-use mathlib.Core.Bool.{Bool, false}
+use mathlib.Core.Bool.{Bool}
 use mathlib.Core.List.{List}
 use mathlib.Core.Option.{some}
 use Prim.Native.Nat.{ℕ, _-_}
 use lib.ListN.{length}
 use Rattle.groups.specs.Abelian.{pow2}
 use Rattle.pauli.specs.Word.{width}
-use Rattle.model.specs.declared.Options.{Options}
 use Rattle.model.specs.declared.Answer.the-variants.{Accepted}
-use Rattle.model.specs.Program.{Job, Program, programOf}
+use Rattle.model.specs.Program.{Program, programOf}
 use Rattle.model.specs.Rules.{rulesOf}
 use Rattle.model.specs.Packing.{packed}
-use Rattle.model.specs.Run.{endOf}
-use Rattle.model.specs.Results.{operationResults, rowResults}
-use Rattle.model.specs.Checking.{Lent, checking}
-use Rattle.model.specs.Rewriting.{rewriting}
+use Rattle.model.specs.Results.{operationResults}
 use Rattle.model.specs.Listing.{Read}
-use Rattle.theory.specs.Checked.{checked-fine}
 use Rattle.theory.specs.ListingCalls.{optionsOf, listingAnswer, listed-fine, listed-hermitian}
 use Rattle.effect.specs.Effect.{effectFrom}
 use Rattle.effect.specs.Packed as PackedWords
@@ -25,33 +20,10 @@ use Rattle.stream_effect.specs.PackedAxes.{packedWord}
 use Rattle.result_effect.specs.Definitions.{operationsRead, rowsRead}
 use Rattle.result_effect.specs.Records.{end-ops}
 use Rattle.result_effect.specs.Rows.{end-rows}
-use Rattle.result_effect.specs.Calls.{leftAxes, leftOperations, leftRows, call-fine, call-hermitian, left-axes, left-operations, left-rows}
 use Rattle.result_effect.specs.Listing.{listedEnd, listedFirst, listedRest, listed-count, listedAxes, listed-ops}
 use Rattle.result_effect.specs.Listing.{listed-frame}
 use Rattle.run_effect.specs.Same.{picked}
 use Rattle.run_effect.specs.RunEffect.{Effects, sourceEffect, resultEffect, run-keeps-effect}
-
--- whatever Checking passes, if no root is non-Hermitian
-pub checked-keeps-effect : (o : Options) (j : Job) (s : Lent) → checking o j s ≡ Accepted → packed (programOf j) .refused ≡ false
-    → (outcomes : ℕ → Bool) (ns : List ℕ)
-    → pow2 (Effects (programOf j))
-    (length (programOf j .operations) - length (operationResults (programOf j) (endOf (rulesOf o) (o .rounds) (programOf j))))
-    (resultEffect (programOf j) (endOf (rulesOf o) (o .rounds) (programOf j) .store .axes)
-    (operationResults (programOf j) (endOf (rulesOf o) (o .rounds) (programOf j)))
-    (rowResults (programOf j) (endOf (rulesOf o) (o .rounds) (programOf j)))
-    outcomes ns) ≡ sourceEffect (programOf j) outcomes ns
-checked-keeps-effect o j s c hermitian outcomes ns =
-    run-keeps-effect (programOf j) (checked-fine o j s c) hermitian (rulesOf o) (o .rounds) outcomes ns
-
--- an accepted call: what it leaves in the lent slices has the effect of the program that was handed in
-module _ (o : Options) (j : Job) (s : Lent) (yes′ : rewriting o j s .answer ≡ Accepted) where
-  pub call-keeps-effect : (outcomes : ℕ → Bool) (ns : List ℕ)
-      → pow2 (Effects (programOf j)) (length (programOf j .operations) - length (leftOperations o j s yes′))
-      (resultEffect (programOf j) (leftAxes o j s yes′) (leftOperations o j s yes′) (leftRows o j s yes′) outcomes ns)
-      ≡ sourceEffect (programOf j) outcomes ns
-  call-keeps-effect outcomes ns =
-      rw (left-axes o j s yes′, left-operations o j s yes′, left-rows o j s yes′)
-      (run-keeps-effect (programOf j) (call-fine o j s yes′) (call-hermitian o j s yes′) (rulesOf o) (o .rounds) outcomes ns)
 
 -- an accepted listing: what it prints has the effect of the program that it read
 module _ (t : Read) (yes′ : listingAnswer (some t) ≡ Accepted) where

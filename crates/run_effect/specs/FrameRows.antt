@@ -27,7 +27,7 @@ use Rattle.effect.specs.Phase.{Quarter, q0, quarter, quarter-count, add4-zero, 
 use Rattle.effect.specs.Clifford.{Cliff, carryRow}
 use Rattle.effect.specs.Packed.{Packed, packed-ext}
 use Rattle.effect.specs.Packed as PackedWords
-use Rattle.effect.specs.Bridge.{valueOf, Holds, holds-image}
+use Rattle.effect.specs.Bridge.{valueOf, ImagesOf, holds-image}
 use Rattle.packing_effect.specs.Source.{plainRef, sourceRow, packedRow}
 use Rattle.kept_rows.specs.Mentions.{node-word}
 use Rattle.kept_rows.specs.KeptRows.{row-unmoved}
@@ -112,7 +112,7 @@ module _ (p : Program) (fine : Fine p) (hermitian : packed p .refused ≡ false)
 
   -- F, whose images a stream of the run holds, does not move it
   pub root-less-row : {v : Work} → Reached l r (startOf p) v → (merging : Bool) (F : Cliff (PackedWords.packed l))
-      → Holds l (stream l r merging (begin (v .store)) (v .items) .held) F → (f : PauliRef) → In f (p .rows) → isRoot p f ≡ false
+      → ImagesOf l (stream l r merging (begin (v .store)) (v .items) .held) F → (f : PauliRef) → In f (p .rows) → isRoot p f ≡ false
       → carryRow (PackedWords.packed l) F (sourceRow (packedWord l) p f) ≡ sourceRow (packedWord l) p f
   unfolding carryRow
   root-less-row {v} h merging F holds f i no-root =

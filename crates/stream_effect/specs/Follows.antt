@@ -24,7 +24,7 @@ use Rattle.effect.specs.Equal.{≈-sym, ≈-trans, ≈-after}
 use Rattle.effect.specs.Clifford.{Cliff, nothing, absorbed, carry, Sim, sim-start, sim-replace, sim-move}
 use Rattle.effect.specs.Packed.{Packed, packed}
 use Rattle.effect.specs.Bridge as Bridge
-use Rattle.effect.specs.Bridge.{valueOf, Even, even-angle, Holds, holds-start, holds-absorb, holds-image}
+use Rattle.effect.specs.Bridge.{valueOf, Even, even-angle, ImagesOf, holds-start, holds-absorb, holds-image}
 use Rattle.items_effect.specs.Ops.{itemOp, itemOps}
 use Rattle.packing_effect.specs.Source.{signOf, opAbout, axisWord, barrierOp}
 use Rattle.stream_effect.specs.PackedAxes.{packedWord, packedWord-is, packedWord-own}
@@ -82,7 +82,7 @@ module _ (l : ℕ) (operations : List Operation) where
   -- X was read and Y put out; the images that p holds are those of F; frame rows are kept if nothing was absorbed, which asks for the rest
   pub record Follows (X Y : List (Op W)) (p : Pass) : Type 0 where
     pub F : Cliff (packed l)
-    pub holds : Holds l (p .held) F
+    pub holds : ImagesOf l (p .held) F
     pub unmoved : p .absorbed ≡ 0 → (P : W) → F .im P ≡ (q0, P)
     pub sim : Sim (packed l) X Y F
 
@@ -130,7 +130,7 @@ module _ (l : ℕ) (operations : List Operation) where
 
   -- ---- an item comes
 
-  module _ (p : Pass) (F : Cliff (packed l)) (holds : Holds l (p .held) F) (stored : StoredWords l (p .store .axes)) (a : ℕ)
+  module _ (p : Pass) (F : Cliff (packed l)) (holds : ImagesOf l (p .held) F) (stored : StoredWords l (p .store .axes)) (a : ℕ)
       (inside : a < length (p .store .axes)) (put : wordOf (p .store .axes) (imageId l p a) ≡ axisImage l p a .word) where
     abbrev axes : List (List ℕ)
     axes = p .store .axes

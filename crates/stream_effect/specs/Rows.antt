@@ -19,7 +19,7 @@ use Rattle.words_wellformed.specs.PassWords.{WellRow, WellPass, rows-more, axis
 use Rattle.effect.specs.Phase.{Quarter, q0, quarter, count, add4-zero, _⊞₄_}
 use Rattle.effect.specs.Clifford.{Cliff, carryRow}
 use Rattle.effect.specs.Packed.{Packed, packed}
-use Rattle.effect.specs.Bridge.{Holds}
+use Rattle.effect.specs.Bridge.{ImagesOf}
 use Rattle.packing_effect.specs.Source.{packedRow}
 use Rattle.stream_effect.specs.PackedAxes.{packedWord}
 use Rattle.stream_effect.specs.Carry.{quarter-carried}
@@ -52,7 +52,7 @@ module _ (l : ℕ) (operations : List Operation) where
   abbrev rowAfter : Pass → SignedAxis → SignedAxis
   rowAfter q f = record { axis = imageId l q (f .axis); sign = (axisImage l q (f .axis) .turns + f .sign) % 4 }
 
-  carried-row : (p : Pass) (F : Cliff (packed l)) → Holds l (p .held) F → Well p → (f : SignedAxis) → f .axis < length (p .store .axes)
+  carried-row : (p : Pass) (F : Cliff (packed l)) → ImagesOf l (p .held) F → Well p → (f : SignedAxis) → f .axis < length (p .store .axes)
       → packedRow (packedWord l) (carryAxis l p (f .axis) .store .axes) (rowAfter (carryAxis l p (f .axis)) f)
       ≡ carryRow (packed l) F (packedRow (packedWord l) (p .store .axes) f)
   unfolding carryRow
@@ -70,7 +70,7 @@ module _ (l : ℕ) (operations : List Operation) where
       same : wordAt l operations (q .store .axes) a ≡ wordAt l operations (p .store .axes) a
       same = ap (packedWord l) (g .keeps a b)
 
-      held : Holds l (q .held) F
+      held : ImagesOf l (q .held) F
       held = unfold carryAxis in holds
 
       put : wordOf (q .store .axes) (imageId l q a) ≡ axisImage l q a .word
@@ -106,7 +106,7 @@ module _ (l : ℕ) (operations : List Operation) where
     images rows = map (carryRow (packed l) F) rows
 
     -- the row that comes, behind those that are done
-    row-step : (p : Pass) → Holds l (p .held) F → Well p → (done : List SignedAxis) (f : SignedAxis) (rest : List SignedAxis)
+    row-step : (p : Pass) → ImagesOf l (p .held) F → Well p → (done : List SignedAxis) (f : SignedAxis) (rest : List SignedAxis)
         → WellRows (p .store .axes) done → WellRows (p .store .axes) (f ∷ rest)
         → rowsOf (carryAxis l p (f .axis) .store .axes) (done ++ (rowAfter (carryAxis l p (f .axis)) f ∷ []))
         ++ images (rowsOf (carryAxis l p (f .axis) .store .axes) rest)
@@ -132,7 +132,7 @@ module _ (l : ℕ) (operations : List Operation) where
             map-append (packedRow (packedWord l) ys) done (row ∷ [])
             ∙ ap₂ (λ (x : List (Quarter × W)) (y : Quarter × W). x ++ (y ∷ [])) (rowsOf-grows xs ys g done d) (carried-row p F holds w f (h .0 .0))
 
-    carryRowsFrom-images : (p : Pass) (done rest : List SignedAxis) → Holds l (p .held) F → Well p → WellRows (p .store .axes) done
+    carryRowsFrom-images : (p : Pass) (done rest : List SignedAxis) → ImagesOf l (p .held) F → Well p → WellRows (p .store .axes) done
         → WellRows (p .store .axes) rest
         → rowsOf (carryRowsFrom l p done rest .pass .store .axes) (carryRowsFrom l p done rest .rows)
         ≡ rowsOf (p .store .axes) done ++ images (rowsOf (p .store .axes) rest)
@@ -144,7 +144,7 @@ module _ (l : ℕ) (operations : List Operation) where
         (rows-more (Unit {0}) _ _ rest (carryAxis-grows l operations p (f .axis) .longer) (h .1))
         ∙ row-step p holds w done f rest d h
       where
-        held : (p : Pass) (f : SignedAxis) → Holds l (p .held) F → Holds l (carryAxis l p (f .axis) .held) F
+        held : (p : Pass) (f : SignedAxis) → ImagesOf l (p .held) F → ImagesOf l (carryAxis l p (f .axis) .held) F
         held p f holds = unfold carryAxis in holds
 
         more : (p : Pass) (done : List SignedAxis) (f : SignedAxis) → Well p → WellRows (p .store .axes) done
@@ -165,7 +165,7 @@ module _ (l : ℕ) (operations : List Operation) where
         (ap (λ (b : Quarter × W). (a .0 ⊞₄ b .0, b .1)) (still (a .1)) ∙ (λ i. (add4-zero (a .0) i, a .1))) (still-rows still rows)
 
     -- carried or kept
-    pub carryRows-images : (p : Pass) (rows : List SignedAxis) → Holds l (p .held) F → (p .absorbed ≡ 0 → (P : W) → F .im P ≡ (q0, P))
+    pub carryRows-images : (p : Pass) (rows : List SignedAxis) → ImagesOf l (p .held) F → (p .absorbed ≡ 0 → (P : W) → F .im P ≡ (q0, P))
         → Well p → WellRows (p .store .axes) rows
         → rowsOf (carryRows l p rows .pass .store .axes) (carryRows l p rows .rows) ≡ images (rowsOf (p .store .axes) rows)
     unfolding carryRows

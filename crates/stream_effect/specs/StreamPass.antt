@@ -20,7 +20,7 @@ use Rattle.effect.specs.Effect as Effect
 use Rattle.effect.specs.Equal.{≈-sym}
 use Rattle.effect.specs.Clifford.{Cliff, Sim, sim-replace, carryRow}
 use Rattle.effect.specs.Packed.{Packed, packed}
-use Rattle.effect.specs.Bridge.{Holds}
+use Rattle.effect.specs.Bridge.{ImagesOf}
 use Rattle.stream_effect.specs.Slide.{dropZeros-effect}
 use Rattle.stream_effect.specs.Follows.{wordAt, barrierAt, opsOf, opsOf-grows, Streamed}
 use Rattle.stream_effect.specs.Steps.{put-inside}
@@ -61,7 +61,7 @@ module _ (l : ℕ) (operations : List Operation) (r : Rules) (merging : Bool) (w
   absorbedBy = follows .F
 
   -- it is the one whose images the pass holds
-  pub absorbedBy-holds : Holds l (passEnd .held) absorbedBy
+  pub absorbedBy-holds : ImagesOf l (passEnd .held) absorbedBy
   unfolding absorbedBy
   absorbedBy-holds = follows .holds
 

@@ -118,7 +118,12 @@ pub extern "C" fn werdutxa_rewrite(
         result_operations,
         result_rows,
     );
-    count(rewritten.counters, rewritten.operations, rewritten.axes, counted);
+    count(
+        rewritten.counters,
+        rewritten.operations,
+        rewritten.axes,
+        counted,
+    );
     let answer = rewritten.answer;
     model::number_of(answer)
 }

@@ -49,9 +49,9 @@ use Rattle.model.proofs.Counters as T
 use Rattle.axes.specs.declared.Sizes.{Sizes}
 use Rattle.axes.proofs.Sizes as S
 use Rattle.axes.proofs.Sizes.Laws as S′
-use Rattle.exchange.specs.declared.Rules.{Rules}
-use Rattle.exchange.proofs.Rules as L
-use Rattle.exchange.proofs.Rules.Laws as L′
+use Rattle.exchange.specs.declared.ExchangeRules.{ExchangeRules}
+use Rattle.exchange.proofs.ExchangeRules as L
+use Rattle.exchange.proofs.ExchangeRules.Laws as L′
 use Rattle.exchange.specs.declared.Progress.{Progress}
 use Rattle.exchange.proofs.Progress as R
 use Rattle.exchange.proofs.Progress.Laws as R′
@@ -108,7 +108,7 @@ module _ {M : Type 1} (𝓤 : URA M) (H : Heap 𝓤) (A : Atoms 𝓤) (mem : Mem
 
 module _ {M : Type 1} (𝓤 : URA M) (H : Heap 𝓤) (A : Atoms 𝓤) (W : Given 𝓤 H A) (mem : Memory → SProp 𝓤) (run : Routine → Fun 𝓤)
     (κs₃ : Lfts 3) (qs₃ : Shares 3) (bounds : AllOutlive 3 (f.signature .outlives) κs₃) (xw xx : RefT (List ℕ))
-    (z : Sizes) (iz : Is SB z (LL.val S.the-type S′.the-laws z ∷ [])) (l : Rules) (il : Is LB l (LL.val L.the-type L′.the-laws l ∷ []))
+    (z : Sizes) (iz : Is SB z (LL.val S.the-type S′.the-laws z ∷ [])) (l : ExchangeRules) (il : Is LB l (LL.val L.the-type L′.the-laws l ∷ []))
     (k : ℕ) (fk : k < 2 ^ 64) (xs : RefT Counters)
     (fit : ExchangePre z l (now xw) (now xx) k) (room : now xs .swaps + k < 2 ^ 64) where
   abbrev κw : Lft
