@@ -58,7 +58,9 @@ impl Refusal {
             Self::BadReference => "An operation or row names a node or phase that does not exist, or a row is out of turn.",
             Self::BadOperation => "An operation's kind is unknown, its angle above 7, or its outcome or target too large.",
             Self::BadOutcome => "An outcome is measured twice, or a condition is not measured earlier.",
-            Self::NonHermitianAxis => "An operation or row is i or -i times a Pauli string: it is not Hermitian.",
+            Self::NonHermitianAxis => {
+                "An operation, or a row that is a root, is i or -i times a Pauli string: it is not Hermitian."
+            }
             Self::ExpansionLimit => "The run needs more words than the word limit.",
             Self::BadText => "The text is no listing.",
         }

@@ -37,7 +37,7 @@ fn run(
     let a = counts.nodes * 5;
     let b = counts.operations * 6;
     let c = 2 * counts.qubits * 4;
-    let r = rewriting::by_value(
+    let r = rewriting::by_value::rewriting(
         counts,
         model::defaults(limit),
         &nodes[..a],

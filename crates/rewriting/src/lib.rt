@@ -1,9 +1,11 @@
-// The public call of Rewriting, the counters lent; and the same by value, for callers that hold none.
+// The public call of Rewriting, the counters lent; and the same by value.
 ghost use mathlib.Core.Path.{_≡_};
 ghost use Rattle.checking.specs.Call.{jobOf, lentOf};
 ghost use Rattle.model.specs.Rewriting.{Called};
-ghost use Rattle.optimize.specs.Call.{CalledBy};
 ghost use Rattle.rewriting.specs.Call.{answeredBy};
+
+pub mod by_value;
+
 use model::Answer;
 use model::Counters;
 use model::Counts;
@@ -59,41 +61,4 @@ pub fn rewriting(
         result_rows,
     );
     conclude(stats, r)
-}
-
-// Rewriting, lent counters of its own, which come back with the answer.
-pub fn by_value(
-    counts: Counts,
-    options: Options,
-    nodes: &[u32],
-    operations: &[u32],
-    rows: &[u32],
-    words: &mut [u64],
-    numbers: &mut [u32],
-    result_operations: &mut [u32],
-    result_rows: &mut [u32],
-) -> Rewritten
-    ensures { λ r. ⌜ CalledBy options (jobOf counts (now (nodes .entry)) (now (operations .entry)) (now (rows .entry)))
-        (lentOf (now (words .entry)) (now (numbers .entry)) (now («result_operations» .entry)) (now («result_rows» .entry))) r
-        (lentOf (now (words .exit)) (now (numbers .exit)) (now («result_operations» .exit)) (now («result_rows» .exit))) ⌝ }
-{
-    let mut stats = model::no_counters();
-    let a = rewriting(
-        counts,
-        options,
-        nodes,
-        operations,
-        rows,
-        words,
-        numbers,
-        result_operations,
-        result_rows,
-        &mut stats,
-    );
-    Rewritten {
-        answer: a.answer,
-        counters: stats,
-        operations: a.operations,
-        axes: a.axes,
-    }
 }

@@ -22,7 +22,7 @@ fn call(
     result_rows: &mut [u32],
 ) {
     lent_memory::fill(w, m, result_operations, result_rows);
-    let r = rewriting::by_value(
+    let r = rewriting::by_value::rewriting(
         c,
         o,
         nodes,

@@ -96,7 +96,7 @@ pub extern "C" fn werdutxa_rewrite(
         r (now (counted .exit))
         (lentOf (now (words .exit)) (now (numbers .exit)) (now («result_operations» .exit)) (now («result_rows» .exit))) ⌝ }
 {
-    let rewritten = rewriting::by_value(
+    let rewritten = rewriting::by_value::rewriting(
         counts(qubits, node_count, operation_count),
         options(
             lookback,

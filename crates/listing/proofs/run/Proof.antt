@@ -24,33 +24,33 @@ mul-c-2 c = search needs
 defaults-requires : tie.Need-defaults-requires
 defaults-requires c κs = search needs
 
-slice-aggregate-by-value : tie.Need-slice-aggregate-by-value
-slice-aggregate-by-value c =
+slice-aggregate-rewriting : tie.Need-slice-aggregate-rewriting
+slice-aggregate-rewriting c =
     let s = c .before .before .before .before .before .before .before .before .before .before .before .before .before in
     sym (length-take-le (s .args .counts .nodes * 5) (s .args .nodes .now)
     (omega (arith, s .pre .small .nodes, s .pre .read-room .nodes-room)))
 
-slice-aggregate-by-value-2 : tie.Need-slice-aggregate-by-value-2
-slice-aggregate-by-value-2 c =
+slice-aggregate-rewriting-2 : tie.Need-slice-aggregate-rewriting-2
+slice-aggregate-rewriting-2 c =
     let s = c .before .before .before .before .before .before .before .before .before .before .before .before .before .before in
     sym (length-take-le (s .args .counts .operations * 6) (s .args .operations .now)
     (omega (arith, s .pre .small .operations, s .pre .read-room .operations-room)))
 
-slice-aggregate-by-value-3 : tie.Need-slice-aggregate-by-value-3
-slice-aggregate-by-value-3 c =
+slice-aggregate-rewriting-3 : tie.Need-slice-aggregate-rewriting-3
+slice-aggregate-rewriting-3 c =
     let s = c .before .before .before .before .before .before .before .before .before .before .before .before .before .before .before in
     sym (length-take-le (2 * s .args .counts .qubits * 4) (s .args .rows .now)
     (omega (arith, s .pre .small .qubits, s .pre .read-room .rows-room)))
 
-by-value-requires : tie.Need-by-value-requires
-by-value-requires c κs = search needs
+rewriting-requires : tie.Need-rewriting-requires
+rewriting-requires c κs = search needs
 
 reply-requires : tie.Need-reply-requires
 reply-requires c κs =
     let r = c .before .before .before .before .before .before .before .before .before .before .before .before in
     let d = r .before .before .before .before .before .before .before .before in
     let p = d .before .before .before .before .before .before .before .before .before .before .before .before .pre in
-    printing-asks _ (p .small) _ _ _ (called-at (d .defaults .ensures) refl (r .by-value .ensures)) _ (p .room)
+    printing-asks _ (p .small) _ _ _ (called-at (d .defaults .ensures) refl (r .rewriting .ensures)) _ (p .room)
 
 same-length : tie.Need-same-length
 same-length c = search needs
@@ -72,7 +72,7 @@ returns c =
     let r = c .before .before .before .before .before .before .before .before .before .before .before .before .before .before .before in
     let d = r .before .before .before .before .before .before .before .before in
     run-called _ (d .before .before .before .before .before .before .before .before .before .before .before .before .pre .small) _ _ _
-    (called-at (d .defaults .ensures) refl (r .by-value .ensures)) (c .before .before .reply .ensures)
+    (called-at (d .defaults .ensures) refl (r .rewriting .ensures)) (c .before .before .reply .ensures)
 
 pub run-spec : {M : Type 1} → statement M
 run-spec =
@@ -83,10 +83,10 @@ run-spec =
     mul-c
     mul-c-2
     defaults-requires
-    slice-aggregate-by-value
-    slice-aggregate-by-value-2
-    slice-aggregate-by-value-3
-    by-value-requires
+    slice-aggregate-rewriting
+    slice-aggregate-rewriting-2
+    slice-aggregate-rewriting-3
+    rewriting-requires
     reply-requires
     same-length
     same-length-2

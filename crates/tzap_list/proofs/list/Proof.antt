@@ -1,8 +1,8 @@
 -- What is printed lies in the output. Assumes nothing.
-use Rattle.listing_call.specs.Rooms.{called-fits}
 use mathlib.Core.Path.{sym}
 use lib.Seq.{length-take-le}
 use native.Mathlib.Omega.{arith}
+use Rattle.listing_call.specs.Rooms.{called-fits}
 use borrow.Author.Needs.{needs}
 use Rattle.tzap_list.proofs.list.Statement.{statement}
 use Rattle.tzap_list.proofs.list.Tie as tie
@@ -41,7 +41,9 @@ listing-requires : tie.Need-listing-requires
 listing-requires c κs = search needs
 
 array-share-prefix-output : tie.Need-array-share-prefix-output
-array-share-prefix-output c = search needs
+array-share-prefix-output c =
+    let l = c .before .before .before .before .before .listing in
+    omega (arith, called-fits (l .ensures), l .kept .1 .0)
 
 slice-aggregate-write-all : tie.Need-slice-aggregate-write-all
 slice-aggregate-write-all c =

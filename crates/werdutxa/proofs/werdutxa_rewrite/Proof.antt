@@ -10,8 +10,8 @@ counts-requires c κs = search needs
 options-requires : tie.Need-options-requires
 options-requires c κs = search needs
 
-by-value-requires : tie.Need-by-value-requires
-by-value-requires c κs = search needs
+rewriting-requires : tie.Need-rewriting-requires
+rewriting-requires c κs = search needs
 
 count-requires : tie.Need-count-requires
 count-requires c κs = search needs
@@ -36,7 +36,7 @@ returns c =
     let count = c .before in
     let call = count .before .before .before .before .before .before .before .before .before .before in
     let options = call .before .before .before .before .before in
-    exported-call _ _ _ _ (options .before .counts .ensures) (options .options .ensures) (call .by-value .ensures) (c .number-of .ensures)
+    exported-call _ _ _ _ (options .before .counts .ensures) (options .options .ensures) (call .rewriting .ensures) (c .number-of .ensures)
     (count .count .ensures)
 
 pub werdutxa-rewrite-spec : {M : Type 1} → statement M
@@ -45,7 +45,7 @@ werdutxa-rewrite-spec =
     (tie.spec
     counts-requires
     options-requires
-    by-value-requires
+    rewriting-requires
     count-requires
     number-of-requires
     same-length

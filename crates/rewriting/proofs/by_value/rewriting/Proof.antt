@@ -1,4 +1,4 @@
--- `rewriting::by_value` meets its contract: a walk of its MIR, by hand. Counters at 0 lie in a local; they are lent to the public call for a
+-- `rewriting::by_value::rewriting` meets its contract: a walk of its MIR, by hand. Counters at 0 lie in a local; they are lent to the public call for a
 -- lifetime that is made for it, and come back at the run's. The lent slices' `&mut` are given up for good. The program's slices are Copy: what
 -- they own is had twice, for the call and for the exit.
 -- Letters: c counts, o options, n nodes, p operations, r rows, w words, x numbers, d result operations, m result rows, h stats.
@@ -75,10 +75,10 @@ use Rattle.rewriting.proofs.rewriting as lent
 use Rattle.rewriting.proofs.rewriting.Symbol as lent-def
 use Rattle.rewriting.proofs.rewriting.Symbol.{name as #rewriting·rewriting}
 use Rattle.rewriting.proofs.rewriting.Met as lent-thm
-use Rattle.rewriting.proofs.by_value.Key.{name as #rewriting·by-value}
-use Rattle.rewriting.proofs.by_value as f
-use Rattle.rewriting.proofs.by_value.Statement as stated
-use Rattle.rewriting.proofs.by_value.Code as code
+use Rattle.rewriting.proofs.by_value.rewriting.Key.{name as #rewriting·by-value·rewriting}
+use Rattle.rewriting.proofs.by_value.rewriting as f
+use Rattle.rewriting.proofs.by_value.rewriting.Statement as stated
+use Rattle.rewriting.proofs.by_value.rewriting.Code as code
 
 -- pairs, nested to the right
 infixr 30 _&_
@@ -467,10 +467,10 @@ module _ {M : Type 1} (𝓤 : URA M) (H : Heap 𝓤) (A : Atoms 𝓤) (W : Given
         by ! (exits a (told-a a u ia) (last-s zs) ig (last-w zs) (last-x zs) (last-d zs) (last-m zs) e ew ex ed em))))))))))))))))))))))))))))))))))))))
 
 module _ {M : Type 1} (𝓤 : URA M) (H : Heap 𝓤) (A : Atoms 𝓤) (W : Given 𝓤 H A) (mem : Memory → SProp 𝓤) (run : Routine → Fun 𝓤) where
-  by-value-walks : (C : Calls 𝓤 H) (Λ : Loops 𝓤 H) → FmC 𝓤 H (W .laws) C → Triple 𝓤 (C #model·no-counters) (Zero 𝓤 H A mem run)
+  rewriting-walks : (C : Calls 𝓤 H) (Λ : Loops 𝓤 H) → FmC 𝓤 H (W .laws) C → Triple 𝓤 (C #model·no-counters) (Zero 𝓤 H A mem run)
       → Triple 𝓤 (C #rewriting·rewriting) (Call 𝓤 H A mem run)
       → Walks 𝓤 H A f.ended stayed (WpFn 𝓤 H C Λ code.function) (f.clauses 𝓤 H A mem run)
-  by-value-walks C Λ fm known-zero known-call =
+  rewriting-walks C Λ fm known-zero known-call =
       walked 𝓤 H A f.ended stayed (f.clauses 𝓤 H A mem run) (WpFn 𝓤 H C Λ code.function)
       (λ κs. LL.vals K.the-type K′.the-laws & LL.vals O.the-type O′.the-laws & slice-vals & slice-vals & slice-vals & slice-vals &
       slice-vals & slice-vals & slice-vals & tt)
@@ -485,11 +485,11 @@ module _ {M : Type 1} (𝓤 : URA M) (H : Heap 𝓤) (A : Atoms 𝓤) (W : Given
       (are .1 .1 .1 .1 .1 .0 .0 .1) (are .1 .1 .1 .1 .1 .1 .0 .0 .1) (are .1 .1 .1 .1 .1 .1 .1 .0 .0 .1)
       (are .1 .1 .1 .1 .1 .1 .1 .1 .0 .0 .1)))
 
-by-value-meets : {M : Type 1} (𝓤 : URA M) (H : Heap 𝓤) (A : Atoms 𝓤) → Given 𝓤 H A → (mem : Memory → SProp 𝓤) (run : Routine → Fun 𝓤)
+rewriting-meets : {M : Type 1} (𝓤 : URA M) (H : Heap 𝓤) (A : Atoms 𝓤) → Given 𝓤 H A → (mem : Memory → SProp 𝓤) (run : Routine → Fun 𝓤)
     (𝓣 : Tables 𝓤 H) → Triple 𝓤 (𝓣 .C #model·no-counters) (Zero 𝓤 H A mem run)
     → Triple 𝓤 (𝓣 .C #rewriting·rewriting) (Call 𝓤 H A mem run)
     → Meets 𝓤 H A f.signature (WpFn 𝓤 H (𝓣 .C) (𝓣 .Λ) code.function) (f.spec 𝓤 H A mem run)
-by-value-meets 𝓤 H A W mem run 𝓣 known-zero known-call =
+rewriting-meets 𝓤 H A W mem run 𝓣 known-zero known-call =
     walk-meets 𝓤 H A f.ended stayed W
     (goes-none 𝓤 H A W 7 (λ _. CB) yes (λ κs x f. refl) & goes-none 𝓤 H A W 7 (λ _. OB) yes (λ κs x f. refl) &
     goes-none-slice 𝓤 H A W 7 (0 ∷ []) tt (plain (λ _. u32)) yes & goes-none-slice 𝓤 H A W 7 (1 ∷ []) tt (plain (λ _. u32)) yes &
@@ -497,14 +497,14 @@ by-value-meets 𝓤 H A W mem run 𝓣 known-zero known-call =
     goes-gave-slice 𝓤 H A W 7 4 tt (plain (λ _. u32)) & goes-gave-slice 𝓤 H A W 7 5 tt (plain (λ _. u32)) &
     goes-gave-slice 𝓤 H A W 7 6 tt (plain (λ _. u32)) & tt)
     (f.clauses 𝓤 H A mem run) (WpFn 𝓤 H (𝓣 .C) (𝓣 .Λ) code.function) (WpFn-mono 𝓤 H (W .laws) 𝓣 code.function)
-    (by-value-walks 𝓤 H A W mem run (𝓣 .C) (𝓣 .Λ) (fmOf 𝓤 H (W .laws) 𝓣) known-zero known-call)
+    (rewriting-walks 𝓤 H A W mem run (𝓣 .C) (𝓣 .Λ) (fmOf 𝓤 H (W .laws) 𝓣) known-zero known-call)
 
-pub by-value-spec : {M : Type 1} → stated.statement M
+pub rewriting-spec : {M : Type 1} → stated.statement M
 unfolding code.routine tablesOf
-by-value-spec 𝓤 H 𝓜 𝓖 𝓡 =
+rewriting-spec 𝓤 H 𝓜 𝓖 𝓡 =
     entered 𝓤 H (tripleOf 𝓤 H (𝓖 .A) f.signature (f.spec 𝓤 H (𝓖 .A) (𝓜 .mem) (𝓡 .run)))
-    (tables 𝓤 H 𝓜 𝓡 code.env .C) (tables 𝓤 H 𝓜 𝓡 code.env .Λ) #rewriting·by-value code.function (code.unfolded 𝓤 H 𝓜 𝓡)
-    (by-value-meets 𝓤 H (𝓖 .A) (givenOf 𝓤 H 𝓜 𝓖) (𝓜 .mem) (𝓡 .run) (tablesOf 𝓤 H 𝓜 (tables 𝓤 H 𝓜 𝓡 code.env))
+    (tables 𝓤 H 𝓜 𝓡 code.env .C) (tables 𝓤 H 𝓜 𝓡 code.env .Λ) #rewriting·by-value·rewriting code.function (code.unfolded 𝓤 H 𝓜 𝓡)
+    (rewriting-meets 𝓤 H (𝓖 .A) (givenOf 𝓤 H 𝓜 𝓖) (𝓜 .mem) (𝓡 .run) (tablesOf 𝓤 H 𝓜 (tables 𝓤 H 𝓜 𝓡 code.env))
     (cited 𝓤 H (Zero 𝓤 H (𝓖 .A) (𝓜 .mem) (𝓡 .run)) 𝓜 𝓡 code.env #model·no-counters none-def.routine code.calls-model·no-counters
     (none-thm.met 𝓤 H 𝓜 𝓖 𝓡))
     (cited 𝓤 H (Call 𝓤 H (𝓖 .A) (𝓜 .mem) (𝓡 .run)) 𝓜 𝓡 code.env #rewriting·rewriting lent-def.routine code.calls-rewriting·rewriting
