@@ -1,6 +1,6 @@
 -- The three demands about Rewriting, as theorems about its calls. `Called o j s a c m n t` (model, Rewriting): with options o, job j and slices
 -- s lent the code answered a, counted c, m operations and n axes, and left the slices t. It is what `rewriting::rewriting` ensures, for all
--- arguments, and what the library's call ensures says it too (werdutxa, Promised). Stores of two calls may differ in length and content.
+-- arguments; what the library's call ensures gives it too (library_promises). Stores of two calls may differ in length and content.
 -- Under each promise stand two wrong programs that it rules out. Assumes nothing.
 use mathlib.Core.Path.{_≡_, refl, sym, ap, ap₂, _∙_, subst}
 use mathlib.Core.Logic.{_⊎_, inl, inr, _↔_, ⊎-elim}
@@ -40,7 +40,8 @@ use Rattle.run_wellformed.specs.Lengths.{SameLengths, same-lengths}
 use Rattle.result_effect.specs.Calls.{call-fine, call-hermitian}
 use Rattle.run_effect.specs.RunEffect.{Effects, sourceEffect, resultEffect, run-keeps-effect}
 use Rattle.promises.specs.Slices.{Agree, agree-then, agree-zeros}
-use Rattle.promises.specs.Calls.{Replied, byChecking, byLimit, byRoot, done, passed-checking, called-of, number-low, number-checking, number-stopped, nine-exactly}
+use Rattle.promises.specs.Calls.{Replied, byChecking, byLimit, byRoot, done, called-of, passed-checking, nine-exactly}
+use Rattle.promises.specs.Calls.{number-low, number-checking, number-stopped}
 use Rattle.promises.specs.Strategies.{endWork, merge-end, litinski-end, no-rounds-end}
 use Rattle.promises.specs.Left.{operationsIn, rowsIn, wordsIn, operations-left, effect-left}
 use Rattle.promises.specs.Alike.{AlikeButRoundsAndLimit, AlikeButLimit, alike-rules, but-limit, not-two}

@@ -105,6 +105,9 @@ stayed =
 abbrev Finals : Type 0
 Finals = Unit {0} × (List ℕ × (Unit {0} × (Unit {0} × (Unit {0} × (Counters × Unit {0})))))
 
+abbrev last-s : Finals → Counters
+last-s zs = zs .1 .1 .1 .1 .1 .0
+
 module _ {M : Type 1} (𝓤 : URA M) (H : Heap 𝓤) (A : Atoms 𝓤) (mem : Memory → SProp 𝓤) (run : Routine → Fun 𝓤) where
   -- the contract that the proof cites
   abbrev Pass : Contract 𝓤
@@ -205,7 +208,7 @@ module _ {M : Type 1} (𝓤 : URA M) (H : Heap 𝓤) (A : Atoms 𝓤) (W : Given
 
   -- what the pass says
   abbrev Said : Progress → Finals → Type 0
-  Said r zs = Exchanged z l (now xw) (now xx) k r (zs .1 .0) × (zs .1 .1 .1 .1 .1 .0 ≡ moreSwaps h (r .swaps))
+  Said r zs = Exchanged z l (now xw) (now xx) k r (zs .1 .0) × (last-s zs ≡ moreSwaps h (r .swaps))
 
   -- ---- the exit: r is what the pass answered, and g the counters that it left
 
@@ -273,7 +276,8 @@ module _ {M : Type 1} (𝓤 : URA M) (H : Heap 𝓤) (A : Atoms 𝓤) (W : Given
         await ! tt $ pick ! (λ r. split ! $ move ! (1 ∷ []) $
         use1 W (some (λ (zs : Finals). ‵ (lasts lent.ended (κs₃ α l7 γ) (args′ α l7 γ) zs) ⊛ raw (fact 𝓤 (Said r zs)))) (id⊢ 𝓤 _) $
         pick ! (λ zs. split ! $ move ! (1 ∷ []) $ heard ! (Said r zs) (λ e. fsplit ! $ drop ! $ fsplit ! $ fsplit ! $ move ! (1 ∷ []) $
-        feqL ! (λ ex. move ! (1 ∷ []) $ fsplit ! $ drop ! $ fsplit ! $ drop ! $ fsplit ! $ drop ! $ fsplit ! $ move ! (1 ∷ []) $ drop ! $ move ! (2 ∷ []) $ split ! $
+        feqL ! (λ ex. move ! (1 ∷ []) $ fsplit ! $ drop ! $ fsplit ! $ drop ! $ fsplit ! $ drop ! $ fsplit ! $ move ! (1 ∷ []) $ drop ! $
+        move ! (2 ∷ []) $ split ! $
         move ! (1 ∷ []) $ peeks ! RB (Is RB) (shows 𝓤 H A RB) r (u ∷ []) (λ is.
         -- [r's; the tokens; last: s, x; what w owns; what is lent; _12; …]
         land ! (from ! (stop !)) (init ! 14 refl (LL.lawful R.the-type R′.the-laws 𝓤 H A W .typed r _ is .0)) $
@@ -281,23 +285,24 @@ module _ {M : Type 1} (𝓤 : URA M) (H : Heap 𝓤) (A : Atoms 𝓤) (W : Given
         split ! $ move ! (1 ∷ []) $ split ! $ move ! (1 ∷ []) $ split ! $
         -- the counters come back
         lft-end ! tt $ move ! (0 ∷ 7 ∷ 4 ∷ []) $
-        use3 W (later (given (Is B (zs .1 .1 .1 .1 .1 .0) (T′.lowered (zs .1 .1 .1 .1 .1 .0) ∷ []))
-        (‵ (fat fullShare local l7 0 (T′.lowered (zs .1 .1 .1 .1 .1 .0))))))
-        (local-back 𝓤 H A W (α ∷ []) γ (zs .1 .1 .1 .1 .1 .0) l7) $ await ! tt $ learn ! (λ ig.
+        use3 W (later (given (Is B (last-s zs) (T′.lowered (last-s zs) ∷ []))
+        (‵ (fat fullShare local l7 0 (T′.lowered (last-s zs))))))
+        (local-back 𝓤 H A W (α ∷ []) γ (last-s zs) l7) $ await ! tt $ learn ! (λ ig.
         -- [_7; true; the tokens of x and w; last: x; what w owns; _12; …]
         assigns ! (of-opd ! (load ! (from ! (stop !)) (look ! 0 refl))) (from ! (stop !))
-        (init ! 6 refl (LL.lawful T.the-type T′.the-laws 𝓤 H A W .typed (zs .1 .1 .1 .1 .1 .0) _ ig .0)) $
+        (init ! 6 refl (LL.lawful T.the-type T′.the-laws 𝓤 H A W .typed (last-s zs) _ ig .0)) $
         assigns ! (agg ! (and-then ! (load ! (from ! (stop !)) (look ! 14 refl)) (and-then ! (load ! (from ! (stop !)) (look ! 6 refl))
         (no-more !)))) (from ! (stop !))
-        (init ! 29 refl (LL.lawful Q.the-type Q′.the-laws 𝓤 H A W .typed (handed r (told r u is) (zs .1 .1 .1 .1 .1 .0) ig) _
-        (iq r (told r u is) (zs .1 .1 .1 .1 .1 .0) ig) .0)) $
+        (init ! 29 refl (LL.lawful Q.the-type Q′.the-laws 𝓤 H A W .typed (handed r (told r u is) (last-s zs) ig) _
+        (iq r (told r u is) (last-s zs) ig) .0)) $
         returns ! (look ! 29 refl) $ forget ! 0 refl $ forget ! 6 refl $ forget ! 8 refl $ forget ! 10 refl $ forget ! 12 refl $
         forget ! 14 refl $ forget ! 17 refl $ forget ! 19 refl $ forget ! 21 refl $ forget ! 23 refl $ forget ! 25 refl $ forget ! 27 refl $ forget ! 29 refl $
-        move ! (29 ∷ 30 ∷ []) $ free1 ! $ move ! (27 ∷ 28 ∷ []) $ free1 ! $ move ! (25 ∷ 26 ∷ []) $ free1 ! $ move ! (23 ∷ 24 ∷ []) $ free1 ! $ move ! (21 ∷ 22 ∷ []) $
+        move ! (29 ∷ 30 ∷ []) $ free1 ! $ move ! (27 ∷ 28 ∷ []) $ free1 ! $ move ! (25 ∷ 26 ∷ []) $ free1 ! $ move ! (23 ∷ 24 ∷ []) $
+        free1 ! $ move ! (21 ∷ 22 ∷ []) $
         free1 ! $ move ! (19 ∷ 20 ∷ []) $ free1 ! $ move ! (17 ∷ 18 ∷ []) $ free1 ! $ move ! (0 ∷ 16 ∷ []) $ free1 ! $
         move ! (13 ∷ 14 ∷ []) $ free1 ! $ move ! (11 ∷ 12 ∷ []) $ free1 ! $ move ! (9 ∷ 10 ∷ []) $ free1 ! $ move ! (7 ∷ 8 ∷ []) $
         free1 ! $ move ! (5 ∷ 6 ∷ []) $ free1 ! $ free0 ! $ keep ! (2 ∷ 1 ∷ 4 ∷ 3 ∷ []) $
-        by ! (exits r (told r u is) (zs .1 .1 .1 .1 .1 .0) ig (zs .1 .0) e ex)))))))))))))))))))))))
+        by ! (exits r (told r u is) (last-s zs) ig (zs .1 .0) e ex)))))))))))))))))))))))
 
 module _ {M : Type 1} (𝓤 : URA M) (H : Heap 𝓤) (A : Atoms 𝓤) (W : Given 𝓤 H A) (mem : Memory → SProp 𝓤) (run : Routine → Fun 𝓤) where
   exchange-walks : (C : Calls 𝓤 H) (Λ : Loops 𝓤 H) → FmC 𝓤 H (W .laws) C
@@ -309,7 +314,8 @@ module _ {M : Type 1} (𝓤 : URA M) (H : Heap 𝓤) (A : Atoms 𝓤) (W : Given
       (λ κs. shr-slice-tells (named 0) (κs .0) u64 & mut-slice-tells (named 1) (κs .1 .0) u32 & LL.tells S.the-type S′.the-laws &
       LL.tells L.the-type L′.the-laws & uint-tells w64 & LL.tells T.the-type T′.the-laws & tt)
       (λ κs qs bounds a _ are. needs 𝓤 _ _ (λ ok. walk 𝓤 H A W mem run κs qs bounds (a .0) (a .1 .0) (a .1 .1 .0) (are .1 .1 .0)
-      (a .1 .1 .1 .0) (are .1 .1 .1 .0) (a .1 .1 .1 .1 .0) (are .1 .1 .1 .1 .0 .1) (a .1 .1 .1 .1 .1 .0) (are .1 .1 .1 .1 .1 .0) (ok .0) (ok .1) C Λ fm known (are .0) (are .1 .0 .0 .1)))
+      (a .1 .1 .1 .0) (are .1 .1 .1 .0) (a .1 .1 .1 .1 .0) (are .1 .1 .1 .1 .0 .1) (a .1 .1 .1 .1 .1 .0) (are .1 .1 .1 .1 .1 .0)
+      (ok .0) (ok .1) C Λ fm known (are .0) (are .1 .0 .0 .1)))
 
 exchange-meets : {M : Type 1} (𝓤 : URA M) (H : Heap 𝓤) (A : Atoms 𝓤) → Given 𝓤 H A → (mem : Memory → SProp 𝓤) (run : Routine → Fun 𝓤)
     (𝓣 : Tables 𝓤 H) → Triple 𝓤 (𝓣 .C #lent-passes·exchange-pass) (Pass 𝓤 H A mem run)

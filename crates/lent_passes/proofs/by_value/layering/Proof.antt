@@ -99,6 +99,9 @@ stayed =
 abbrev Finals : Type 0
 Finals = Unit {0} × (List ℕ × (Unit {0} × (Unit {0} × (Counters × Unit {0}))))
 
+abbrev last-s : Finals → Counters
+last-s zs = zs .1 .1 .1 .1 .0
+
 module _ {M : Type 1} (𝓤 : URA M) (H : Heap 𝓤) (A : Atoms 𝓤) (mem : Memory → SProp 𝓤) (run : Routine → Fun 𝓤) where
   -- the contract that the proof cites
   abbrev Pass : Contract 𝓤
@@ -196,7 +199,7 @@ module _ {M : Type 1} (𝓤 : URA M) (H : Heap 𝓤) (A : Atoms 𝓤) (W : Given
 
   -- what the pass says
   abbrev Said : Layering → Finals → Type 0
-  Said r zs = LayeredAs z (now xw) (now xx) k r (zs .1 .0) × (zs .1 .1 .1 .1 .0 ≡ moreMerges h (r .merged))
+  Said r zs = LayeredAs z (now xw) (now xx) k r (zs .1 .0) × (last-s zs ≡ moreMerges h (r .merged))
 
   -- ---- the exit: r is what the pass answered, and l the counters that it left
 
@@ -269,23 +272,23 @@ module _ {M : Type 1} (𝓤 : URA M) (H : Heap 𝓤) (A : Atoms 𝓤) (W : Given
         split ! $ move ! (1 ∷ []) $ split ! $ move ! (1 ∷ []) $ split ! $
         -- the counters come back
         lft-end ! tt $ move ! (0 ∷ 7 ∷ 4 ∷ []) $
-        use3 W (later (given (Is B (zs .1 .1 .1 .1 .0) (T′.lowered (zs .1 .1 .1 .1 .0) ∷ []))
-        (‵ (fat fullShare local l6 0 (T′.lowered (zs .1 .1 .1 .1 .0))))))
-        (local-back 𝓤 H A W (α ∷ []) γ (zs .1 .1 .1 .1 .0) l6) $ await ! tt $ learn ! (λ il.
+        use3 W (later (given (Is B (last-s zs) (T′.lowered (last-s zs) ∷ []))
+        (‵ (fat fullShare local l6 0 (T′.lowered (last-s zs))))))
+        (local-back 𝓤 H A W (α ∷ []) γ (last-s zs) l6) $ await ! tt $ learn ! (λ il.
         -- [_6; true; the tokens of x and w; last: x; what w owns; _11; …]
         assigns ! (of-opd ! (load ! (from ! (stop !)) (look ! 0 refl))) (from ! (stop !))
-        (init ! 6 refl (LL.lawful T.the-type T′.the-laws 𝓤 H A W .typed (zs .1 .1 .1 .1 .0) _ il .0)) $
+        (init ! 6 refl (LL.lawful T.the-type T′.the-laws 𝓤 H A W .typed (last-s zs) _ il .0)) $
         assigns ! (agg ! (and-then ! (load ! (from ! (stop !)) (look ! 14 refl)) (and-then ! (load ! (from ! (stop !)) (look ! 6 refl))
         (no-more !)))) (from ! (stop !))
-        (init ! 27 refl (LL.lawful Q.the-type Q′.the-laws 𝓤 H A W .typed (handed r (told r u is) (zs .1 .1 .1 .1 .0) il) _
-        (iq r (told r u is) (zs .1 .1 .1 .1 .0) il) .0)) $
+        (init ! 27 refl (LL.lawful Q.the-type Q′.the-laws 𝓤 H A W .typed (handed r (told r u is) (last-s zs) il) _
+        (iq r (told r u is) (last-s zs) il) .0)) $
         returns ! (look ! 27 refl) $ forget ! 0 refl $ forget ! 6 refl $ forget ! 8 refl $ forget ! 10 refl $ forget ! 12 refl $
         forget ! 14 refl $ forget ! 17 refl $ forget ! 19 refl $ forget ! 21 refl $ forget ! 23 refl $ forget ! 25 refl $ forget ! 27 refl $
         move ! (27 ∷ 28 ∷ []) $ free1 ! $ move ! (25 ∷ 26 ∷ []) $ free1 ! $ move ! (23 ∷ 24 ∷ []) $ free1 ! $ move ! (21 ∷ 22 ∷ []) $
         free1 ! $ move ! (19 ∷ 20 ∷ []) $ free1 ! $ move ! (17 ∷ 18 ∷ []) $ free1 ! $ move ! (0 ∷ 16 ∷ []) $ free1 ! $
         move ! (13 ∷ 14 ∷ []) $ free1 ! $ move ! (11 ∷ 12 ∷ []) $ free1 ! $ move ! (9 ∷ 10 ∷ []) $ free1 ! $ move ! (7 ∷ 8 ∷ []) $
         free1 ! $ move ! (5 ∷ 6 ∷ []) $ free1 ! $ free0 ! $ keep ! (2 ∷ 1 ∷ 4 ∷ 3 ∷ []) $
-        by ! (exits r (told r u is) (zs .1 .1 .1 .1 .0) il (zs .1 .0) e ex))))))))))))))))))))))
+        by ! (exits r (told r u is) (last-s zs) il (zs .1 .0) e ex))))))))))))))))))))))
 
 module _ {M : Type 1} (𝓤 : URA M) (H : Heap 𝓤) (A : Atoms 𝓤) (W : Given 𝓤 H A) (mem : Memory → SProp 𝓤) (run : Routine → Fun 𝓤) where
   layering-walks : (C : Calls 𝓤 H) (Λ : Loops 𝓤 H) → FmC 𝓤 H (W .laws) C
