@@ -206,6 +206,8 @@ pub record AfterCalls : Type 0 where
   pub accepted-operations : rewriting options listed slices .lent .operations ≡ measured- 2 0 65535 ++ replicate 13 0
   pub accepted-rows : rewriting options listed slices .lent .rows ≡ given- 0 0 2 ++ (given+ 0 1 0 ++ (0 ∷ []))
   pub accepted-counters : allCounters (rewriting options listed slices .counters) ≡ 2 ∷ 0 ∷ 1 ∷ 0 ∷ 1 ∷ 2 ∷ 0 ∷ 0 ∷ 0 ∷ 2 ∷ 0 ∷ 12 ∷ []
+  -- "operations, axes": as its listing has them
+  pub accepted-operations-and-axes : (rewriting options listed slices .operations ≡ 1) × (rewriting options listed slices .axes ≡ 3)
   -- 10: the work stores are zero, the results as they were, the counters 0
   pub ten : rewriting (defaultsAt 11) listed slices ≡ record {
     answer = ExpansionLimit;
@@ -234,6 +236,7 @@ after-calls = record {
   accepted-operations = refl;
   accepted-rows = refl;
   accepted-counters = refl;
+  accepted-operations-and-axes = (refl, refl);
   ten = refl;
   nine = refl;
   eight = refl;
