@@ -1,4 +1,4 @@
--- 01, Exchange: the swaps of a segment keep its effect, and leave stored axes and angles below 8. Assumes nothing.
+-- 01, Exchange: the swaps of a segment keep its effect. Assumes nothing.
 use mathlib.Core.Path.{_≡_, sym, _∙_, ap, ap₂}
 use mathlib.Core.Bool.{Bool, true}
 use mathlib.Core.Option.{Option, none, some, orElse, Option·map, Option·getD}
@@ -278,8 +278,3 @@ module _ (H : Setting) (l : ℕ) (axes : List (List ℕ)) (A : AxisWords H l axe
         → Rotations._≋_ H (A .word) (swaps l axes window candidates eager rots .rots) rots
     unfolding swaps
     swaps-effect rots h = swapped rots h .0
-
-    -- and leave stored axes and angles below 8
-    pub swaps-sound : (rots : List Rot) → Every (Sound axes) rots → Every (Sound axes) (swaps l axes window candidates eager rots .rots)
-    unfolding swaps
-    swaps-sound rots h = every-append S (last rots .done) (last rots .rest) (swapped rots h .1) (swapped rots h .2)

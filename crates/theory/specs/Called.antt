@@ -24,11 +24,6 @@ module _ {o : Options} {j : Job} {s : Lent} {a : Answer} {c : Counters} {m n : �
   pub lent-is : rewriting o j s .lent ≡ t
   lent-is = sym (ap (λ (x : Reply). x .lent) (call .replied))
 
--- the reply itself is a call's
-pub reply-called : {o : Options} {j : Job} {s : Lent} (x : Reply) → x ≡ rewriting o j s
-    → Called o j s (x .answer) (x .counters) (x .operations) (x .axes) (x .lent)
-reply-called x e = record { replied = e }
-
 -- equal options and an equal job make the same call
 pub called-at : {o o′ : Options} {j j′ : Job} {s : Lent} {a : Answer} {c : Counters} {m n : ℕ} {t : Lent} → o ≡ o′ → j ≡ j′
     → Called o j s a c m n t → Called o′ j′ s a c m n t
