@@ -92,6 +92,7 @@ struct werdutxa_options {
     size_t rounds;          /* the most rounds, 0 leaves the rotations as they are; at most 255 */
     bool clifford_to_frame; /* whether even rotations are absorbed into the frame */
     bool eager_swaps;       /* whether an exchange is taken also where only rotations are saved */
+    bool second_exchange_first; /* where both exchanges of a triple improve: second with third, not first with second */
     bool lazy_cliffords;    /* whether even rotations wait until they must be absorbed */
     bool litinski;          /* Litinski's layers, in place of merging */
     bool measure_depth;     /* whether T-depths are counted */
@@ -99,7 +100,7 @@ struct werdutxa_options {
 };
 
 /* The defaults of the Rust; its limit is outside of the domain, so here it is the largest. */
-#define WERDUTXA_DEFAULTS {1048576, 0, 16, 8, true, true, false, false, false, 1048576}
+#define WERDUTXA_DEFAULTS {1048576, 0, 16, 8, true, true, false, false, false, false, 1048576}
 
 /* What a call is lent. After 0 it holds results and then zeros, after 9 and 10 words and numbers are zero, after 1 to 8 and 11 all is as it was. */
 struct werdutxa_memory {
@@ -152,7 +153,7 @@ static inline size_t werdutxa_numbers(size_t qubits, size_t node_count, size_t o
 uint32_t werdutxa_check(
     size_t qubits, size_t node_count, size_t operation_count,
     size_t lookback, size_t window, size_t candidates, size_t rounds,
-    bool clifford_to_frame, bool eager_swaps, bool lazy_cliffords, bool litinski, bool measure_depth, size_t limit,
+    bool clifford_to_frame, bool eager_swaps, bool second_exchange_first, bool lazy_cliffords, bool litinski, bool measure_depth, size_t limit,
     const uint32_t *nodes, size_t nodes_length,
     const uint32_t *operations, size_t operations_length,
     const uint32_t *rows, size_t rows_length,
@@ -165,7 +166,7 @@ uint32_t werdutxa_check(
 uint32_t werdutxa_rewrite(
     size_t qubits, size_t node_count, size_t operation_count,
     size_t lookback, size_t window, size_t candidates, size_t rounds,
-    bool clifford_to_frame, bool eager_swaps, bool lazy_cliffords, bool litinski, bool measure_depth, size_t limit,
+    bool clifford_to_frame, bool eager_swaps, bool second_exchange_first, bool lazy_cliffords, bool litinski, bool measure_depth, size_t limit,
     const uint32_t *nodes, size_t nodes_length,
     const uint32_t *operations, size_t operations_length,
     const uint32_t *rows, size_t rows_length,
@@ -192,7 +193,7 @@ static inline uint32_t werdutxa_check_program(
     const struct werdutxa_program *p, const struct werdutxa_options *o, const struct werdutxa_memory *m) {
     return werdutxa_check(
         p->qubits, p->node_count, p->operation_count, o->lookback, o->window, o->candidates, o->rounds,
-        o->clifford_to_frame, o->eager_swaps, o->lazy_cliffords, o->litinski, o->measure_depth, o->limit,
+        o->clifford_to_frame, o->eager_swaps, o->second_exchange_first, o->lazy_cliffords, o->litinski, o->measure_depth, o->limit,
         p->nodes, p->nodes_length, p->operations, p->operations_length, p->rows, p->rows_length,
         m->words, m->words_length, m->numbers, m->numbers_length,
         m->result_operations, m->result_operations_length, m->result_rows, m->result_rows_length);
@@ -203,7 +204,7 @@ static inline uint32_t werdutxa_rewrite_program(
     struct werdutxa_counted *counted) {
     return werdutxa_rewrite(
         p->qubits, p->node_count, p->operation_count, o->lookback, o->window, o->candidates, o->rounds,
-        o->clifford_to_frame, o->eager_swaps, o->lazy_cliffords, o->litinski, o->measure_depth, o->limit,
+        o->clifford_to_frame, o->eager_swaps, o->second_exchange_first, o->lazy_cliffords, o->litinski, o->measure_depth, o->limit,
         p->nodes, p->nodes_length, p->operations, p->operations_length, p->rows, p->rows_length,
         m->words, m->words_length, m->numbers, m->numbers_length,
         m->result_operations, m->result_operations_length, m->result_rows, m->result_rows_length, counted);

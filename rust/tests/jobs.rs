@@ -40,6 +40,7 @@ fn job(numbers: &mut dyn Iterator<Item = i64>) -> Job {
         rounds,
         clifford_to_frame,
         eager_swaps,
+        second_exchange_first: false,
         lazy_cliffords,
         strategy,
         measure_depth,

@@ -33,5 +33,5 @@ module _ (H : Setting) (l : ℕ) (r : Rules) (w : Work) (A : AxisWords H l (w .s
       let axes = w .store .axes in
       by-if (λ (x : Work). Effect._≈_ H (itemOps (A .word) barrierOp (x .items)) (itemOps (A .word) barrierOp (w .items))) _ _ _
       (≈-refl H (itemOps (A .word) barrierOp (w .items)))
-      (rewriteSegments-effect H (A .word) barrierOp (Sound axes) (swaps l axes (r .window) (r .candidates) (r .eager))
-      (swaps-effect H l axes A (r .window) (r .candidates) (r .eager)) (w .items) sound)
+      (rewriteSegments-effect H (A .word) barrierOp (Sound axes) (swaps l axes (r .exchange))
+      (swaps-effect H l axes A (r .exchange)) (w .items) sound)

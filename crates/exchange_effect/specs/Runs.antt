@@ -1,6 +1,6 @@
 -- 01, Exchange: runs of rotations that commute with one another, and the cuts of three runs. Assumes nothing.
 use mathlib.Core.Path.{_≡_, refl, _∙_}
-use mathlib.Core.Bool.{Bool, true, not}
+use mathlib.Core.Bool.{true, not}
 use mathlib.Core.List.{List, [], _∷_, _++_, append-assoc}
 use Prim.Native.Nat.{ℕ, suc}
 use lib.Dec.{ltb}
@@ -104,9 +104,9 @@ module _ (H : Setting) (l : ℕ) (axes : List (List ℕ)) (A : AxisWords H l axe
           → RunOf (taken ++ (r ∷ rest)) (runEndFrom l axes window (taken ++ (r ∷ [])) rest)
       longer g = (g .0, g .1, g .2 ∙ append-assoc taken (r ∷ []) rest)
 
-  pub runEnd-run : (window candidates : ℕ) (eager : Bool) (rots : List Rot) → AllSound rots → RunOf rots (runEnd l axes window rots)
+  pub runEnd-run : (window : ℕ) (rots : List Rot) → AllSound rots → RunOf rots (runEnd l axes window rots)
   unfolding runEnd signedTurns
-  runEnd-run window candidates eager rots h = runEndFrom-run window [] rots (tt, tt) h
+  runEnd-run window rots h = runEndFrom-run window [] rots (tt, tt) h
 
 -- ---- "starts rising, ends falling"
 

@@ -1,16 +1,18 @@
 -- 01, Exchange: the swaps of a segment keep its effect. Assumes nothing.
 use mathlib.Core.Path.{_≡_, sym, _∙_, ap, ap₂}
 use mathlib.Core.Bool.{Bool, true}
-use mathlib.Core.Option.{Option, none, some, orElse, Option·map, Option·getD}
+use mathlib.Core.Option.{Option, none, some, Option·map, Option·getD}
 use mathlib.Core.List.{List, [], _∷_, _++_, append-assoc}
 use Prim.Native.Nat.{ℕ, zero, suc, _+_, _%_, _<_}
 use native.Mathlib.Omega.{arith}
 use lib.ListN.{length}
+use Rattle.model.specs.declared.ExchangeRules.{ExchangeRules}
 use Rattle.model.specs.Lists.{if_then_else_}
 use Rattle.model.specs.Items.{Rot, isNonzero, dropZeroRots}
-use Rattle.model.specs.Exchange.{generatorsCommute, mergeBack, mergeLocally, improves, Triple, triples, shareAxis, Swap, swapOf, tryExchange}
-use Rattle.model.specs.Exchange.{tryExchanges, tryTriple, RunEnd, Swapping, nextStart, runEnd, swapStep, swapsFrom, swaps}
+use Rattle.model.specs.Exchange.{generatorsCommute, mergeBack, mergeLocally, improves, Triple, triples, Swap, swapOf, tryExchange, firstWithSecond}
+use Rattle.model.specs.Exchange.{secondWithThird, tryTriple, RunEnd, Swapping, nextStart, runEnd, swapStep, swapsFrom, swaps}
 use Rattle.theory.specs.Cases.{by-if, on-if}
+use Rattle.theory.specs.TieOrder.{tryTriple-either}
 use Rattle.theory.specs.Every.{Every, every-append, every-keep, every-reverse, every-left, every-right}
 use Rattle.effect.specs.Words.{Setting}
 use Rattle.items_effect.specs.Rotations.{≋-refl, ≋-sym, ≋-trans, ≋-before, ≋-after, ≋-along, ≋-eq, dropZeroRots-effect}
@@ -109,47 +111,35 @@ module _ (H : Setting) (l : ℕ) (axes : List (List ℕ)) (A : AxisWords H l axe
     p .4,
   )
 
-  orElse-kept : (whole : List Rot) (x y : Option Swap) → Kept whole x → Kept whole y → Kept whole (orElse x y)
-  unfolding orElse
-  orElse-kept whole none y hx hy = hy
-  orElse-kept whole (some x) y hx hy = hx
-
-  module _ (eager : Bool) where
+  module _ (rules : ExchangeRules) where
     tryExchange-kept : (t : Triple) (g h trial : List Rot) → Parts t → Every S trial → (generatorsCommute l axes g h ≡ true → trial ≋ inner t)
-        → Kept (outer t) (tryExchange l axes eager t g h trial)
+        → Kept (outer t) (tryExchange l axes rules t g h trial)
     unfolding tryExchange
     tryExchange-kept t g h trial p k same =
         on-if (Kept (outer t)) _ _ _
-        (λ e. made-kept t trial p (same e) (improves l axes eager trial (inner t)) (improves-effect eager trial (inner t) k)) (λ e. tt)
+        (λ e. made-kept t trial p (same e) (improves l axes (rules .eager) trial (inner t)) (improves-effect (rules .eager) trial (inner t) k))
+        (λ e. tt)
 
-    tryExchanges-kept : (t : Triple) → Parts t → Kept (outer t) (tryExchanges l axes eager t)
-    unfolding tryExchanges
-    tryExchanges-kept t p =
-        orElse-kept (outer t) (tryExchange l axes eager t a b (b ++ (a ++ c))) (tryExchange l axes eager t b c (a ++ (c ++ b)))
-        (tryExchange-kept t a b (b ++ (a ++ c)) p (every-append S b (a ++ c) (p .2 .0) (every-append S a c (p .1 .0) (p .3 .0))) first)
-        (tryExchange-kept t b c (a ++ (c ++ b)) p (every-append S a (c ++ b) (p .1 .0) (every-append S c b (p .3 .0) (p .2 .0))) second)
-      where
-        a : List Rot
-        a = t .first
+    firstWithSecond-kept : (t : Triple) → Parts t → Kept (outer t) (firstWithSecond l axes rules t)
+    unfolding firstWithSecond
+    firstWithSecond-kept t p =
+        let a = t .first in
+        let b = t .second in
+        let c = t .third in
+        tryExchange-kept t a b (b ++ (a ++ c)) p (every-append S b (a ++ c) (p .2 .0) (every-append S a c (p .1 .0) (p .3 .0)))
+        (λ e. ≋-along H (A .word) (sym (append-assoc b a c)) (sym (append-assoc a b c))
+        (≋-after H (A .word) (b ++ a) (a ++ b) c
+        (≋-sym H (A .word) (a ++ b) (b ++ a) (certificate H l axes A a b (p .1 .0) (p .2 .0) (p .1 .1) (p .2 .1) e))))
 
-        b : List Rot
-        b = t .second
-
-        c : List Rot
-        c = t .third
-
-        -- "first with second"
-        first : generatorsCommute l axes a b ≡ true → (b ++ (a ++ c)) ≋ (a ++ (b ++ c))
-        first e =
-            ≋-along H (A .word) (sym (append-assoc b a c)) (sym (append-assoc a b c))
-            (≋-after H (A .word) (b ++ a) (a ++ b) c
-            (≋-sym H (A .word) (a ++ b) (b ++ a) (certificate H l axes A a b (p .1 .0) (p .2 .0) (p .1 .1) (p .2 .1) e)))
-
-        -- "second with third"
-        second : generatorsCommute l axes b c ≡ true → (a ++ (c ++ b)) ≋ (a ++ (b ++ c))
-        second e =
-            ≋-before H (A .word) a (c ++ b) (b ++ c)
-            (≋-sym H (A .word) (b ++ c) (c ++ b) (certificate H l axes A b c (p .2 .0) (p .3 .0) (p .2 .1) (p .3 .1) e))
+    secondWithThird-kept : (t : Triple) → Parts t → Kept (outer t) (secondWithThird l axes rules t)
+    unfolding secondWithThird
+    secondWithThird-kept t p =
+        let a = t .first in
+        let b = t .second in
+        let c = t .third in
+        tryExchange-kept t b c (a ++ (c ++ b)) p (every-append S a (c ++ b) (p .1 .0) (every-append S c b (p .3 .0) (p .2 .0)))
+        (λ e. ≋-before H (A .word) a (c ++ b) (b ++ c)
+        (≋-sym H (A .word) (b ++ c) (c ++ b) (certificate H l axes A b c (p .2 .0) (p .3 .0) (p .2 .1) (p .3 .1) e)))
 
     module _ (a b c : List Rot) (ra : Run a) (rb : Run b) (rc : Run c) where
       parts-of : (t : Triple) → TripleOf a b c t → Parts t
@@ -168,16 +158,12 @@ module _ (H : Setting) (l : ℕ) (axes : List (List ℕ)) (A : AxisWords H l axe
           let regroup : outer t ≡ (t .skipped ++ t .first) ++ (t .second ++ (t .third ++ t .remainder)) = simp append-assoc in
           regroup ∙ ap₂ (λ (x y : List Rot). x ++ y) (h .0) (ap₂ (λ (x y : List Rot). x ++ y) (h .1) (h .2))
 
-      tryTriple-kept : (ts : List Triple) → Every (TripleOf a b c) ts → Kept (a ++ (b ++ c)) (tryTriple l axes eager ts)
-      unfolding tryTriple
-      tryTriple-kept [] h = tt
-      tryTriple-kept (t ∷ ts) h =
-          orElse-kept (a ++ (b ++ c)) (if shareAxis eager (t .first) (t .third) then tryExchanges l axes eager t else none) (tryTriple l axes eager ts)
-          (by-if (Kept (a ++ (b ++ c))) _ _ _ (rw (outer-of t (h .0)) at (tryExchanges-kept t (parts-of t (h .0)))) tt)
-          (tryTriple-kept ts (h .1))
-
-      pub tryTriple-effect : (candidates : ℕ) → Kept (a ++ (b ++ c)) (tryTriple l axes eager (triples candidates a b c))
-      tryTriple-effect candidates = tryTriple-kept (triples candidates a b c) (triples-of candidates a b c)
+      pub tryTriple-effect : (candidates : ℕ) → Kept (a ++ (b ++ c)) (tryTriple l axes rules (triples candidates a b c))
+      tryTriple-effect candidates =
+          tryTriple-either l axes rules (Kept (a ++ (b ++ c))) (TripleOf a b c) tt
+          (λ t h. rw (outer-of t h) at (firstWithSecond-kept t (parts-of t h)))
+          (λ t h. rw (outer-of t h) at (secondWithThird-kept t (parts-of t h)))
+          (triples candidates a b c) (triples-of candidates a b c)
 
   -- ---- `swaps`
 
@@ -211,16 +197,16 @@ module _ (H : Setting) (l : ℕ) (axes : List (List ℕ)) (A : AxisWords H l axe
       replaced =
           ≋-before H (A .word) (s .done) (swapped ++ third .rest) (m ++ third .rest) (≋-after H (A .word) swapped m (third .rest) (k .0))
 
-  module _ (window candidates : ℕ) (eager : Bool) where
+  module _ (rules : ExchangeRules) where
     abbrev run : List Rot → RunEnd
-    run g = runEnd l axes window g
+    run g = runEnd l axes (rules .window) g
 
     pub swapStep-effect : (s : Swapping) → Every S (s .done) → Every S (s .rest)
-        → Swapped (s .done ++ s .rest) (swapStep l axes window candidates eager s)
+        → Swapped (s .done ++ s .rest) (swapStep l axes rules s)
     unfolding swapStep
     swapStep-effect s h k =
-        nextStart-swapped first third s (a ++ (b ++ c)) (tryTriple l axes eager (triples candidates a b c))
-        (tryTriple-effect eager a b c (r1 .0) (r2 .0) (r3 .0) candidates) h r1 (r3 .1) whole
+        nextStart-swapped first third s (a ++ (b ++ c)) (tryTriple l axes rules (triples (rules .candidates) a b c))
+        (tryTriple-effect rules a b c (r1 .0) (r2 .0) (r3 .0) (rules .candidates)) h r1 (r3 .1) whole
       where
         first : RunEnd
         first = run (s .rest)
@@ -241,13 +227,13 @@ module _ (H : Setting) (l : ℕ) (axes : List (List ℕ)) (A : AxisWords H l axe
         c = third .run
 
         r1 : RunOf H l axes A (s .rest) first
-        r1 = runEnd-run H l axes A window candidates eager (s .rest) k
+        r1 = runEnd-run H l axes A (rules .window) (s .rest) k
 
         r2 : RunOf H l axes A (first .rest) second
-        r2 = runEnd-run H l axes A window candidates eager (first .rest) (r1 .1)
+        r2 = runEnd-run H l axes A (rules .window) (first .rest) (r1 .1)
 
         r3 : RunOf H l axes A (second .rest) third
-        r3 = runEnd-run H l axes A window candidates eager (second .rest) (r2 .1)
+        r3 = runEnd-run H l axes A (rules .window) (second .rest) (r2 .1)
 
         whole : (a ++ (b ++ c)) ++ third .rest ≡ s .rest
         whole =
@@ -255,26 +241,25 @@ module _ (H : Setting) (l : ℕ) (axes : List (List ℕ)) (A : AxisWords H l axe
             regroup ∙ ap (λ (x : List Rot). a ++ (b ++ x)) (r3 .2) ∙ ap (λ (x : List Rot). a ++ x) (r2 .2) ∙ r1 .2
 
     pub swapsFrom-effect : (k : ℕ) (s : Swapping) → Every S (s .done) → Every S (s .rest)
-        → Swapped (s .done ++ s .rest) (swapsFrom l axes window candidates eager k s)
+        → Swapped (s .done ++ s .rest) (swapsFrom l axes rules k s)
     unfolding swapsFrom
     swapsFrom-effect zero s h g = (≋-refl H (A .word) (s .done ++ s .rest), h, g)
     swapsFrom-effect (suc k) s h g =
-        let next = swapStep l axes window candidates eager s in
+        let next = swapStep l axes rules s in
         let one = swapStep-effect s h g in
-        let end = swapsFrom l axes window candidates eager k next in
+        let end = swapsFrom l axes rules k next in
         let more = swapsFrom-effect k next (one .1) (one .2) in
         by-if (Swapped (s .done ++ s .rest)) _ _ _ (≋-refl H (A .word) (s .done ++ s .rest), h, g)
         (≋-trans H (A .word) (end .done ++ end .rest) (next .done ++ next .rest) (s .done ++ s .rest) (more .0) (one .0), more .1, more .2)
 
     -- where the swaps of a segment end
     abbrev last : List Rot → Swapping
-    last rots = swapsFrom l axes window candidates eager (length rots) (record { done = []; found = 0; rest = rots })
+    last rots = swapsFrom l axes rules (length rots) (record { done = []; found = 0; rest = rots })
 
     swapped : (rots : List Rot) → Every S rots → Swapped rots (last rots)
     swapped rots h = swapsFrom-effect (length rots) (record { done = []; found = 0; rest = rots }) tt h
 
     -- the swaps of a segment keep its effect
-    pub swaps-effect : (rots : List Rot) → Every (Sound axes) rots
-        → Rotations._≋_ H (A .word) (swaps l axes window candidates eager rots .rots) rots
+    pub swaps-effect : (rots : List Rot) → Every (Sound axes) rots → Rotations._≋_ H (A .word) (swaps l axes rules rots .rots) rots
     unfolding swaps
     swaps-effect rots h = swapped rots h .0

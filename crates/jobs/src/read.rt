@@ -111,7 +111,7 @@ pub fn pass_over(s: &[u8], from: usize, count: usize) -> usize
     at
 }
 
-// A job's first 17 numbers, and the place behind them.
+// A job's first 18 numbers, and the place behind them.
 pub struct Header {
     pub qubits: u32,
     pub nodes: u32,
@@ -123,6 +123,7 @@ pub struct Header {
     pub rounds: u32,
     pub clifford_to_frame: u32,
     pub eager_swaps: u32,
+    pub second_exchange_first: u32,
     pub lazy_cliffords: u32,
     pub strategy: u32,
     pub measure_depth: u32,
@@ -137,8 +138,8 @@ pub fn read_header(s: &[u8], from: usize) -> Header
     requires { ⌜ from ≤ length (now s) ⌝ }
     ensures { λ r. ⌜ r .next ≤ length (now (s .entry)) ⌝ }
 {
-    let mut v = [0u32; 17];
-    let next = numbers(s, from, 17, &mut v);
+    let mut v = [0u32; 18];
+    let next = numbers(s, from, 18, &mut v);
     Header {
         qubits: v[0],
         nodes: v[1],
@@ -150,13 +151,14 @@ pub fn read_header(s: &[u8], from: usize) -> Header
         rounds: v[7],
         clifford_to_frame: v[8],
         eager_swaps: v[9],
-        lazy_cliffords: v[10],
-        strategy: v[11],
-        measure_depth: v[12],
-        words: v[13],
-        numbers: v[14],
-        result_operations: v[15],
-        result_rows: v[16],
+        second_exchange_first: v[10],
+        lazy_cliffords: v[11],
+        strategy: v[12],
+        measure_depth: v[13],
+        words: v[14],
+        numbers: v[15],
+        result_operations: v[16],
+        result_rows: v[17],
         next,
     }
 }
@@ -184,6 +186,7 @@ pub fn options(h: Header) -> Options {
         rounds: h.rounds as usize,
         clifford_to_frame: h.clifford_to_frame != 0,
         eager_swaps: h.eager_swaps != 0,
+        second_exchange_first: h.second_exchange_first != 0,
         lazy_cliffords: h.lazy_cliffords != 0,
         strategy: strategy(h.strategy),
         measure_depth: h.measure_depth != 0,

@@ -84,8 +84,8 @@ module _ (l : ℕ) (v : List ℕ) (word : IsWord l v) where
     exchangePass-free w h =
         let axes = w .store .axes in
         by-if (FreeWork l v) _ _ _ h
-        (rewriteSegments-in (FreeAxis l v axes) (swaps l axes (r .window) (r .candidates) (r .eager))
-        (swaps-has (FreeAxis l v axes) l axes (r .window) (r .candidates) (r .eager)) (w .items) h)
+        (rewriteSegments-in (FreeAxis l v axes) (swaps l axes (r .exchange))
+        (swaps-has (FreeAxis l v axes) l axes (r .exchange)) (w .items) h)
 
     layeringPass-free : (w : Work) → FreeWork l v w → FreeWork l v (layeringPass l w)
     unfolding layeringPass

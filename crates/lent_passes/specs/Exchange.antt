@@ -6,7 +6,7 @@ use native.Mathlib.Omega.{arith}
 use Rattle.model.specs.declared.Counters.{Counters}
 use Rattle.axes.specs.declared.Sizes.{Sizes}
 use Rattle.lent_passes.specs.Raised.{moreSwaps}
-use Rattle.exchange.specs.declared.ExchangeRules.{ExchangeRules}
+use Rattle.model.specs.declared.ExchangeRules.{ExchangeRules}
 use Rattle.exchange.specs.declared.Progress.{Progress}
 use Rattle.exchange.specs.Segments.{Exchanged}
 

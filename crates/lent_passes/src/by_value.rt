@@ -7,11 +7,11 @@ ghost use Rattle.layering.specs.Contracts.{LayeringPre, LayeredAs};
 ghost use Rattle.lent_passes.specs.Raised.{moreMerges, moreSwaps};
 ghost use Rattle.lent_passes.specs.Counted.{Room, StreamedAs};
 use axes::Sizes;
-use exchange::ExchangeRules;
 use exchange::Progress;
 use layering::Layering;
 use layout::Shape;
 use model::Counters;
+use model::ExchangeRules;
 use steps::Step;
 use stream_states::StreamRules;
 

@@ -10,11 +10,11 @@ ghost use Rattle.lent_passes.specs.Counted.{mergesOf, absorbedOf, raised
 pub mod by_value;
 
 use axes::Sizes;
-use exchange::ExchangeRules;
 use exchange::Progress;
 use layering::Layering;
 use layout::Shape;
 use model::Counters;
+use model::ExchangeRules;
 use steps::Step;
 use stream_states::StreamRules;
 

@@ -99,7 +99,7 @@ module _ (l : ℕ) (r : Rules) (once : r .absorption ≡ atOnce) where
       }
 
   -- "Window 0: none."
-  module _ (none : r .window ≡ 0) where
+  module _ (none : r .exchange .window ≡ 0) where
     rounded : (k b n : ℕ) (going : Bool) (before : RoundBefore) (w : Work) → Counted b n w → Counted b (n + k * b) (roundsFrom l r k going before w)
     unfolding roundsFrom mergeRound exchangePass
     rounded zero b n going before w h =
@@ -109,7 +109,7 @@ module _ (l : ℕ) (r : Rules) (once : r .absorption ≡ atOnce) where
         record { formed = h .formed; merges = omega (arith, h .merges); absorbed = omega (arith, h .absorbed); swaps = h .swaps }
     rounded (suc k) b n true before w h =
         let v = streamPass l r true w in
-        let g = subst (Counted b (n + b)) (sym (if-true v _ (eq-eqb (r .window) 0 none))) (streamed true b n w h) in
+        let g = subst (Counted b (n + b)) (sym (if-true v _ (eq-eqb (r .exchange .window) 0 none))) (streamed true b n w h) in
         let x = rounded k b (n + b) _ _ _ g in
         let e = suc-mul k b in
         record { formed = x .formed; merges = omega (arith, x .merges); absorbed = omega (arith, x .absorbed); swaps = x .swaps }

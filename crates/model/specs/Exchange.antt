@@ -9,6 +9,7 @@ use lib.ListN.{length, take}
 use Rattle.store.specs.Equal.{sameList}
 use Rattle.angle.specs.Angle.{signedAngle}
 use Rattle.pauli.specs.Word.{xorWords, phase}
+use Rattle.model.specs.declared.ExchangeRules.{ExchangeRules}
 use Rattle.model.specs.Lists.{if_then_else_, allOf, anyOf, isEmpty, isOdd}
 use Rattle.model.specs.Words.{wordOf, anticommute}
 use Rattle.model.specs.Items.{Rot, rot, tCountRots, dropZeroRots, Segment}
@@ -137,24 +138,32 @@ pub record Swap : Type 0 where
 abbrev pub swapOf : Triple → List Rot → Swap
 swapOf t new = record { skipped = t .skipped; new = new; remainder = t .remainder }
 
-module _ (l : ℕ) (axes : List (List ℕ)) (eager : Bool) where
+module _ (l : ℕ) (axes : List (List ℕ)) (rules : ExchangeRules) where
   -- groups g and h exchange, which gives the trial
   unfoldable pub tryExchange : Triple → List Rot → List Rot → List Rot → Option Swap
   tryExchange t g h trial =
-      if generatorsCommute l axes g h then Option·map (swapOf t) (improves l axes eager trial (t .first ++ (t .second ++ t .third))) else none
+      if generatorsCommute l axes g h then Option·map (swapOf t) (improves l axes (rules .eager) trial (t .first ++ (t .second ++ t .third))) else none
 
-  -- "first with second before second with third"
+  unfoldable pub firstWithSecond : Triple → Option Swap
+  firstWithSecond t = tryExchange t (t .first) (t .second) (t .second ++ (t .first ++ t .third))
+
+  unfoldable pub secondWithThird : Triple → Option Swap
+  secondWithThird t = tryExchange t (t .second) (t .third) (t .first ++ (t .third ++ t .second))
+
+  -- "first with second before second with third"; 02, M-107: "Where both exchanges improve a triple at one start and end, take second with
+  -- third. A new setting chooses this order of ties"
   unfoldable pub tryExchanges : Triple → Option Swap
   tryExchanges t =
-      let later = tryExchange t (t .second) (t .third) (t .first ++ (t .third ++ t .second)) in
-      orElse (tryExchange t (t .first) (t .second) (t .second ++ (t .first ++ t .third))) later
+      let first = firstWithSecond t in
+      let second = secondWithThird t in
+      if rules .«second_first» then orElse second first else orElse first second
 
   -- the first of the cuts of a triple that gives a swap
   unfoldable pub tryTriple : List Triple → Option Swap
   tryTriple [] = none
   tryTriple (t ∷ rest) =
       let later = tryTriple rest in
-      orElse (if shareAxis eager (t .first) (t .third) then tryExchanges t else none) later
+      orElse (if shareAxis (rules .eager) (t .first) (t .third) then tryExchanges t else none) later
 
 -- ---- `run_end`: the longest run of at most `window` rotations that commute with one another
 
@@ -195,17 +204,17 @@ nextStart first third s (some x) = record {
   rest = x .remainder ++ third .rest;
 }
 
-module _ (l : ℕ) (axes : List (List ℕ)) (window candidates : ℕ) (eager : Bool) where
+module _ (l : ℕ) (axes : List (List ℕ)) (rules : ExchangeRules) where
   unfoldable pub swapStep : Swapping → Swapping
   swapStep s =
-      let first = runEnd l axes window (s .rest) in
-      let second = runEnd l axes window (first .rest) in
-      let third = runEnd l axes window (second .rest) in
-      nextStart first third s (tryTriple l axes eager (triples candidates (first .run) (second .run) (third .run)))
+      let first = runEnd l axes (rules .window) (s .rest) in
+      let second = runEnd l axes (rules .window) (first .rest) in
+      let third = runEnd l axes (rules .window) (second .rest) in
+      nextStart first third s (tryTriple l axes rules (triples (rules .candidates) (first .run) (second .run) (third .run)))
 
   unfoldable pub swapsFrom : ℕ → Swapping → Swapping
   swapsFrom zero s = s
-  swapsFrom (suc fuel) s = let next = swapsFrom fuel (swapStep s) in if noTriple l axes window (s .rest) then s else next
+  swapsFrom (suc fuel) s = let next = swapsFrom fuel (swapStep s) in if noTriple l axes (rules .window) (s .rest) then s else next
 
   -- each start is beyond the one before, so as many starts as rotations are enough
   unfoldable pub swaps : List Rot → Segment

@@ -29,7 +29,7 @@ numberOf BadText = 11
 abbrev pub accepts : Answer → Bool
 accepts a = eqb (numberOf a) 0
 
--- "options are Rust's defaults save the limit"
+-- "options are Rust's defaults save the limit"; 02, M-107: "the old order stays the default"
 abbrev pub defaultsAt : ℕ → Options
 defaultsAt limit = record {
   lookback = 1048576;
@@ -38,6 +38,7 @@ defaultsAt limit = record {
   rounds = 8;
   «clifford_to_frame» = true;
   «eager_swaps» = true;
+  «second_exchange_first» = false;
   «lazy_cliffords» = false;
   strategy = Merge;
   «measure_depth» = false;

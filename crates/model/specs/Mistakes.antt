@@ -1,7 +1,7 @@
 -- 01, "Mistakes to rule out", and further readings that runs have shown to be wrong: a small case for each, by computing. The must-fail
 -- edits of this crate put each mistake into a definition, and its case no longer holds. Assumes nothing.
 use mathlib.Core.Path.{_≡_, refl}
-use mathlib.Core.Bool.{true, false}
+use mathlib.Core.Bool.{Bool, true, false}
 use mathlib.Core.Option.{none}
 use mathlib.Core.List.{List, [], _∷_}
 use Prim.Native.Nat.{ℕ}
@@ -15,7 +15,7 @@ use Rattle.model.specs.Program.{identity, letter, product, rotate, measu
 use Rattle.model.specs.Rules.{Absorption, off, atOnce, lazy, Rules, rulesOf}
 use Rattle.model.specs.Words.{asValue}
 use Rattle.model.specs.Clifford.{absorbImage}
-use Rattle.model.specs.Items.{tCount}
+use Rattle.model.specs.Items.{rot, rotation, tCount}
 use Rattle.model.specs.Run.{endOf, run}
 use Rattle.model.specs.Listing.{numeral}
 use Rattle.model.specs.Everything.{everything}
@@ -37,19 +37,17 @@ abbrev qubits : List Operation → Program
 qubits operations =
     record { qubits = 2; nodes = identity ∷ letter 1 2 ∷ letter 0 2 ∷ product 1 0 2 0 ∷ []; operations = operations; rows = [] }
 
-abbrev rulesFor : Strategy → ℕ → ℕ → ℕ → Absorption → Rules
-rulesFor strategy lookback window candidates absorption = record {
+abbrev rulesFor : Strategy → Bool → ℕ → ℕ → ℕ → Absorption → Rules
+rulesFor strategy secondFirst lookback window candidates absorption = record {
   lookback = lookback;
-  window = window;
-  candidates = candidates;
+  exchange = record { window = window; candidates = candidates; eager = true; «second_first» = secondFirst };
   absorption = absorption;
-  eager = true;
   strategy = strategy;
   depth = false;
 }
 
 abbrev rules : ℕ → ℕ → ℕ → Absorption → Rules
-rules = rulesFor Merge
+rules = rulesFor Merge false
 
 -- no two numbers alike
 abbrev options : Options
@@ -60,6 +58,7 @@ options = record {
   rounds = 4;
   «clifford_to_frame» = true;
   «eager_swaps» = false;
+  «second_exchange_first» = true;
   «lazy_cliffords» = true;
   strategy = Litinski;
   «measure_depth» = true;
@@ -85,9 +84,18 @@ pub record RuledOut : Type 0 where
   pub whole-sums : endOf (rules 1048576 3 2 off) 3 (qubit (turn 1 2 ∷ turn 2 2 ∷ turn 1 2 ∷ turn 1 2 ∷ [])) .swaps ≡ 0
   -- a stop rule that ignores exchanges: IY:7 YI:1 IY:2 YI:2 IY:1 would keep 3
   pub exchange-goes-on : tCount (endOf (rules 0 1 0 off) 8 (qubits (turn 1 7 ∷ turn 2 1 ∷ turn 1 2 ∷ turn 2 2 ∷ turn 1 1 ∷ [])) .items) ≡ 1
+  -- the second exchange tried only where the first fails (02, M-107): of IY:1 YI:1 IY:1 the first two would be exchanged
+  pub second-with-third : endOf (rulesFor Merge true 0 1 16 off) 1 (qubits (turn 1 1 ∷ turn 2 1 ∷ turn 1 1 ∷ [])) .items
+      ≡ rotation (rot 0 2) ∷ rotation (rot 1 1) ∷ []
   -- options taken for one another
   pub options-to-rules : rulesOf options
-      ≡ record { lookback = 1; window = 2; candidates = 3; absorption = lazy; eager = false; strategy = Litinski; depth = true }
+      ≡ record {
+        lookback = 1;
+        exchange = record { window = 2; candidates = 3; eager = false; «second_first» = true };
+        absorption = lazy;
+        strategy = Litinski;
+        depth = true;
+      }
   -- a stop rule with "higher" for "no lower": IY:1 YI:2 YY:2 YY:6 YI:6 IY:1 would keep none
   pub no-lower-stops :
       tCount (endOf (rules 0 0 16 off) 8 (qubits (turn 1 1 ∷ turn 2 2 ∷ turn 3 2 ∷ turn 3 6 ∷ turn 2 6 ∷ turn 1 1 ∷ [])) .items) ≡ 2
@@ -97,7 +105,7 @@ pub record RuledOut : Type 0 where
       ∷ turn 1 7 ∷ turn 2 7 ∷ turn 1 7 ∷ turn 2 7 ∷ turn 1 7 ∷ turn 2 7 ∷ turn 1 1 ∷ [])) ≡ 0
   -- Litinski's later streams merging: Z:1 X:1 X:1 Y:7 Y:7 would merge three times
   pub streams-apart :
-      endOf (rulesFor Litinski 1048576 0 16 lazy) 8 (qubit (turn 2 1 ∷ turn 1 1 ∷ turn 1 1 ∷ turn 3 7 ∷ turn 3 7 ∷ [])) .merges ≡ 2
+      endOf (rulesFor Litinski false 1048576 0 16 lazy) 8 (qubit (turn 2 1 ∷ turn 1 1 ∷ turn 1 1 ∷ turn 3 7 ∷ turn 3 7 ∷ [])) .merges ≡ 2
   -- `:`, the byte after 9, taken for a digit
   pub colon : numeral (58 ∷ []) ≡ none
 
@@ -111,6 +119,7 @@ ruled-out = record {
   children-first = refl;
   whole-sums = refl;
   exchange-goes-on = refl;
+  second-with-third = refl;
   options-to-rules = refl;
   no-lower-stops = refl;
   four-rounds = refl;

@@ -43,8 +43,8 @@ streamPass l r merging w =
 -- an exchange in each segment. "Window 0: none."
 unfoldable pub exchangePass : ℕ → Rules → Work → Work
 exchangePass l r w =
-    let s = rewriteSegments (swaps l (w .store .axes) (r .window) (r .candidates) (r .eager)) (w .items) in
-    if eqb (r .window) 0 then w else
+    let s = rewriteSegments (swaps l (w .store .axes) (r .exchange)) (w .items) in
+    if eqb (r .exchange .window) 0 then w else
     record { store = w .store; items = s .items; rows = w .rows; merges = w .merges; swaps = w .swaps + s .changes; absorbed = w .absorbed }
 
 -- layers in each segment

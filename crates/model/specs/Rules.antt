@@ -3,6 +3,7 @@ use mathlib.Core.Bool.{Bool, true, false}
 use Prim.Native.Nat.{ℕ}
 use Rattle.model.specs.declared.Strategy.{Strategy}
 use Rattle.model.specs.declared.Options.{Options}
+use Rattle.model.specs.declared.ExchangeRules.{ExchangeRules}
 use Rattle.model.specs.Lists.{if_then_else_}
 
 -- what becomes of even rotations in a stream: "Absorption off: even angles stay", absorbed at their turn, "Lazy: even rotations wait"
@@ -21,23 +22,27 @@ isAtOnce lazy = false
 
 pub record Rules : Type 0 where
   pub lookback : ℕ
-  pub window : ℕ
-  pub candidates : ℕ
+  pub exchange : ExchangeRules
   pub absorption : Absorption
-  pub eager : Bool
   pub strategy : Strategy
   pub depth : Bool
 
 unfoldable pub absorptionOf : Options → Absorption
 absorptionOf o = if o .«clifford_to_frame» then if o .«lazy_cliffords» then lazy else atOnce else off
 
+abbrev pub exchangeRulesOf : Options → ExchangeRules
+exchangeRulesOf o = record {
+  window = o .window;
+  candidates = o .candidates;
+  eager = o .«eager_swaps»;
+  «second_first» = o .«second_exchange_first»;
+}
+
 unfoldable pub rulesOf : Options → Rules
 rulesOf o = record {
   lookback = o .lookback;
-  window = o .window;
-  candidates = o .candidates;
+  exchange = exchangeRulesOf o;
   absorption = absorptionOf o;
-  eager = o .«eager_swaps»;
   strategy = o .strategy;
   depth = o .«measure_depth»;
 }

@@ -16,10 +16,19 @@ pub struct Options {
     pub rounds: usize,
     pub clifford_to_frame: bool,
     pub eager_swaps: bool,
+    pub second_exchange_first: bool,
     pub lazy_cliffords: bool,
     pub strategy: Strategy,
     pub measure_depth: bool,
     pub max_packed_words: usize,
+}
+
+// What an exchange goes by.
+pub struct ExchangeRules {
+    pub window: usize,
+    pub candidates: usize,
+    pub eager: bool,
+    pub second_first: bool,
 }
 
 // Rust's defaults, at a word limit.
@@ -33,6 +42,7 @@ pub fn defaults(limit: usize) -> Options
         rounds: 8,
         clifford_to_frame: true,
         eager_swaps: true,
+        second_exchange_first: false,
         lazy_cliffords: false,
         strategy: Strategy::Merge,
         measure_depth: false,

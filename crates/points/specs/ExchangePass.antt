@@ -8,7 +8,7 @@ use Rattle.model.specs.declared.Counters.{Counters}
 use Rattle.model.specs.Lists.{anyOf, member}
 use Rattle.model.specs.Program.{Program}
 use Rattle.model.specs.Packing.{SignedAxis}
-use Rattle.model.specs.Rules.{Rules, rulesOf}
+use Rattle.model.specs.Rules.{Rules, exchangeRulesOf, rulesOf}
 use Rattle.model.specs.Words.{Store}
 use Rattle.model.specs.Rounds.{Work, exchangePass}
 use Rattle.theory.specs.Cases.{by-if}
@@ -18,7 +18,6 @@ use Rattle.axes.specs.declared.Sizes.{Sizes}
 use Rattle.axes.specs.Held.{sizesOf, held-rows, held-as}
 use Rattle.work.specs.Work.{FrameIn, frame-other}
 use Rattle.run_wellformed.specs.WorkWell.{exchange-work}
-use Rattle.exchange.specs.declared.ExchangeRules.{ExchangeRules}
 use Rattle.exchange.specs.declared.Progress.{Progress}
 use Rattle.exchange.specs.Segments.{ExchangePre, Exchanged}
 use Rattle.exchange.specs.Pass.{exchange-is}
@@ -28,9 +27,6 @@ use Rattle.steps.specs.State.{withOut}
 use Rattle.lent_passes.specs.Raised.{moreSwaps}
 use Rattle.points.specs.Points.{RunAt, SomeRun, OptionsIn, items-few}
 use Rattle.points.specs.Counts.{countersAt, withCounts}
-
-abbrev exchangeRules : Options → ExchangeRules
-exchangeRules o = record { window = o .window; candidates = o .candidates; eager = o .«eager_swaps» }
 
 -- what an exchange leaves as it was
 same-rows : (l : ℕ) (g : Rules) (w : Work) → exchangePass l g w .rows ≡ w .rows
@@ -46,15 +42,15 @@ unfolding exchangePass
 same-absorbed l g w = by-if (λ (v : Work). v .absorbed ≡ w .absorbed) _ _ _ refl refl
 
 module _ {z : Shape} (o : Options) {st : State} {s : Sizes} (same : s ≡ sizesOf z (st .axes)) {ws xs : List ℕ} where
-  pub swap-pre : {i : ℕ} → SomeRun z i st ws xs → OptionsIn o → ExchangePre s (exchangeRules o) ws xs (st .out)
+  pub swap-pre : {i : ℕ} → SomeRun z i st ws xs → OptionsIn o → ExchangePre s (exchangeRulesOf o) ws xs (st .out)
   swap-pre a k =
       let r = a .at in
-      subst (λ (n : Sizes). ExchangePre n (exchangeRules o) ws xs (st .out)) (sym same)
-      (exchange-pre (r .granted) (r .work) (r .well) (exchangeRules o) (k .candidates))
+      subst (λ (n : Sizes). ExchangePre n (exchangeRulesOf o) ws xs (st .out)) (sym same)
+      (exchange-pre (r .granted) (r .work) (r .well) (exchangeRulesOf o) (k .candidates))
 
   -- g are the counters that the pass was lent, h those that it left
   module _ {g h : Counters} (lent : g ≡ countersAt st) {d : Progress} {ys : List ℕ}
-      (passed : Exchanged s (exchangeRules o) ws xs (st .out) d ys × (h ≡ moreSwaps g (d .swaps))) where
+      (passed : Exchanged s (exchangeRulesOf o) ws xs (st .out) d ys × (h ≡ moreSwaps g (d .swaps))) where
     pub swapped-at : {next : State} → next ≡ withCounts h st → (i : ℕ) (p : Program) (w : Work) → RunAt z i st ws xs p w
         → RunAt z (i + 1) (withOut (d .out) next) ws ys p (exchangePass (z .l) (rulesOf o) w)
     unfolding rulesOf member anyOf
@@ -62,7 +58,7 @@ module _ {z : Shape} (o : Options) {st : State} {s : Sizes} (same : s ≡ sizesO
         let x = passed .0 in
         rw (f, passed .1, lent) (
         let g = rulesOf o in
-        let b = subst (λ (n : Sizes). Exchanged n (exchangeRules o) ws xs (st .out) d ys) same x in
+        let b = subst (λ (n : Sizes). Exchanged n (exchangeRulesOf o) ws xs (st .out) d ys) same x in
         let e = exchange-is (sizesOf z (st .axes)) g ws w (r .work .axes .are) (r .work .items) b in
         record {
           granted = granted-same (r .granted) refl (x .only .long);

@@ -368,3 +368,8 @@ module _ {o o′ : Options} {j j′ : Job} {s s′ : Lent} {a′ : Answer} {c c�
   pub one-less-is-refused : limitOf o′ + 1 ≡ c .«packed_words» → a′ ≡ ExpansionLimit
   one-less-is-refused e =
       limit-where y (passed-again (omega (arith, within-domain))) .1 (omega (arith, e, words-again))
+
+-- ==== Request M-107. "Second exchange first"
+
+-- "Users of either order still never see the T-count rise as rounds are added, each order compared with itself": `more-rounds-never-worse`, of
+-- calls whose orders agree (`AlikeButRoundsAndLimit`, `secondFirst`), whichever it is; so with every other promise here

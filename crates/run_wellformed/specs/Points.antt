@@ -215,12 +215,12 @@ module _ (l n : ℕ) (r : Rules) where
   pub exchangePass-formed : (w : Work) → WellFormed l n w → WellFormed l n (exchangePass l r w)
   unfolding exchangePass
   exchangePass-formed w h =
-      let f = swaps l (w .store .axes) (r .window) (r .candidates) (r .eager) in
-      let kept = swaps-by _ Turns turns-merging l (w .store .axes) (r .window) (r .candidates) (r .eager) in
+      let f = swaps l (w .store .axes) (r .exchange) in
+      let kept = swaps-by _ Turns turns-merging l (w .store .axes) (r .exchange) in
       by-if (WellFormed l n) _ _ _ h
       (record {
         turns = rewriteSegments-every Turns TurnsItem (λ r k. k) (λ r k. k) f kept (w .items) (h .turns);
-        short = le-trans (rewriteSegments-length f (swaps-length l (w .store .axes) (r .window) (r .candidates) (r .eager)) (w .items)) (h .short);
+        short = le-trans (rewriteSegments-length f (swaps-length l (w .store .axes) (r .exchange)) (w .items)) (h .short);
         fits = h .fits;
       })
 

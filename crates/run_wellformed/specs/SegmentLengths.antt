@@ -1,21 +1,23 @@
 -- Exchange and layering make no segment longer; a trial is no longer than what it replaces. Assumes nothing.
 use mathlib.Core.Path.{_≡_, refl, sym}
 use mathlib.Core.Bool.{Bool, true, false}
-use mathlib.Core.Option.{Option, none, some, orElse, Option·map, Option·getD}
+use mathlib.Core.Option.{Option, none, some, Option·map, Option·getD}
 use mathlib.Core.List.{List, [], _∷_, _++_, map, flatten}
 use Prim.Native.Nat.{ℕ, zero, suc, _+_, _≤_}
 use native.Mathlib.Nat.{le-refl, le-trans}
 use native.Mathlib.Omega.{arith}
 use lib.ListN.{length, length-append, length-map, length-reverse}
+use Rattle.model.specs.declared.ExchangeRules.{ExchangeRules}
 use Rattle.model.specs.Lists.{if_then_else_, keep, sumOf}
 use Rattle.model.specs.Items.{Rot, Item, rotation, barrier, isNonzero, dropZeroRots, Segment, endSegment, rewriteFrom, rewriteSegments}
-use Rattle.model.specs.Exchange.{mergeBack, mergeLocally, improves, Start, starts, End, ends, Triple, withEnds, withStarts, triples, shareAxis, Swap}
-use Rattle.model.specs.Exchange.{swapOf}
-use Rattle.model.specs.Exchange.{tryExchange, tryExchanges, tryTriple, RunEnd, runEndFrom, Swapping, nextStart, runEnd, swapStep, swapsFrom, swaps}
+use Rattle.model.specs.Exchange.{mergeBack, mergeLocally, improves, Start, starts, End, ends, Triple, withEnds, withStarts, triples, Swap, swapOf}
+use Rattle.model.specs.Exchange.{tryExchange, firstWithSecond, secondWithThird, tryTriple, RunEnd, runEndFrom, Swapping, nextStart, runEnd, swapStep}
+use Rattle.model.specs.Exchange.{swapsFrom, swaps}
 use Rattle.model.specs.Layering.{mergeInto, Layers, Shift, joinLayer, joinLayers, moveRotation, moveRotations, sweepFrom, sweep, dropZeroLayers}
 use Rattle.model.specs.Layering.{sweepsFrom}
 use Rattle.model.specs.Layering.{height, layerSegment}
 use Rattle.theory.specs.Cases.{by-if}
+use Rattle.theory.specs.TieOrder.{tryTriple-either}
 use Rattle.theory.specs.Every.{Every, every-append, every-one, every-take}
 use Rattle.theory.specs.Lists.{sumOf-one, sumOf-keep, keep-count, count-le}
 
@@ -124,11 +126,6 @@ abbrev Leaves : ℕ → Option Swap → Type 0
 Leaves m none = Unit {0}
 Leaves m (some s) = length (s .skipped) + length (s .new) + length (s .remainder) ≤ m
 
-or-else : (m : ℕ) (x y : Option Swap) → Leaves m x → Leaves m y → Leaves m (orElse x y)
-unfolding orElse
-or-else m none y hx hy = hy
-or-else m (some x) y hx hy = hx
-
 -- both orders of the groups
 three-one : (a b c : List Rot) → length (b ++ (a ++ c)) ≡ length a + length b + length c
 three-one a b c = omega (arith, length-append b (a ++ c), length-append a c)
@@ -136,7 +133,7 @@ three-one a b c = omega (arith, length-append b (a ++ c), length-append a c)
 three-two : (a b c : List Rot) → length (a ++ (c ++ b)) ≡ length a + length b + length c
 three-two a b c = omega (arith, length-append a (c ++ b), length-append c b)
 
-module _ (l : ℕ) (axes : List (List ℕ)) (eager : Bool) where
+module _ (l : ℕ) (axes : List (List ℕ)) (rules : ExchangeRules) where
   -- a trial is no longer than what it replaces
   made-length : (m : ℕ) (t : Triple) (trial : List Rot) (o : Option (List Rot)) → Covers m t
       → length trial ≡ length (t .first) + length (t .second) + length (t .third)
@@ -145,26 +142,19 @@ module _ (l : ℕ) (axes : List (List ℕ)) (eager : Bool) where
   made-length m t trial (some new) c e h = omega arith
 
   tryExchange-length : (m : ℕ) (t : Triple) (g h trial : List Rot) → Covers m t → length trial ≡ length (t .first) + length (t .second) + length (t .third)
-      → Leaves m (tryExchange l axes eager t g h trial)
+      → Leaves m (tryExchange l axes rules t g h trial)
   unfolding tryExchange
   tryExchange-length m t g h trial c e =
       let old = t .first ++ (t .second ++ t .third) in
-      by-if (Leaves m) _ _ _ (made-length m t trial (improves l axes eager trial old) c e (improves-length l axes eager trial old)) tt
+      by-if (Leaves m) _ _ _
+      (made-length m t trial (improves l axes (rules .eager) trial old) c e (improves-length l axes (rules .eager) trial old)) tt
 
-  tryExchanges-length : (m : ℕ) (t : Triple) → Covers m t → Leaves m (tryExchanges l axes eager t)
-  unfolding tryExchanges
-  tryExchanges-length m t c =
-      let one = tryExchange l axes eager t (t .first) (t .second) (t .second ++ (t .first ++ t .third)) in
-      let two = tryExchange l axes eager t (t .second) (t .third) (t .first ++ (t .third ++ t .second)) in
-      or-else m one two (tryExchange-length m t _ _ _ c (three-one (t .first) (t .second) (t .third)))
-      (tryExchange-length m t _ _ _ c (three-two (t .first) (t .second) (t .third)))
-
-  tryTriple-length : (m : ℕ) (ts : List Triple) → Every (Covers m) ts → Leaves m (tryTriple l axes eager ts)
-  unfolding tryTriple
-  tryTriple-length m [] h = tt
-  tryTriple-length m (t ∷ ts) h =
-      or-else m (if shareAxis eager (t .first) (t .third) then tryExchanges l axes eager t else none) (tryTriple l axes eager ts)
-      (by-if (Leaves m) _ _ _ (tryExchanges-length m t (h .0)) tt) (tryTriple-length m ts (h .1))
+  tryTriple-length : (m : ℕ) (ts : List Triple) → Every (Covers m) ts → Leaves m (tryTriple l axes rules ts)
+  unfolding firstWithSecond secondWithThird
+  tryTriple-length m =
+      tryTriple-either l axes rules (Leaves m) (Covers m) tt
+      (λ t c. tryExchange-length m t _ _ _ c (three-one (t .first) (t .second) (t .third)))
+      (λ t c. tryExchange-length m t _ _ _ c (three-two (t .first) (t .second) (t .third)))
 
 abbrev RunEndOf : ℕ → RunEnd → Type 0
 RunEndOf m x = length (x .run) + length (x .rest) ≡ m
@@ -189,39 +179,39 @@ nextStart-length first third s m none h e f = omega (arith, length-append (s .do
 nextStart-length first third s m (some x) h e f =
     omega (arith, length-append (s .done) (x .skipped ++ x .new), length-append (x .skipped) (x .new), length-append (x .remainder) (third .rest))
 
-module _ (l : ℕ) (axes : List (List ℕ)) (window candidates : ℕ) (eager : Bool) where
+module _ (l : ℕ) (axes : List (List ℕ)) (rules : ExchangeRules) where
   -- a run and what comes after it
   pub runEnd-length : (rots : List Rot)
-      → length (runEnd l axes window rots .run) + length (runEnd l axes window rots .rest) ≡ length rots
+      → length (runEnd l axes (rules .window) rots .run) + length (runEnd l axes (rules .window) rots .rest) ≡ length rots
   unfolding runEnd
-  runEnd-length rots = omega (arith, runEndFrom-length l axes window [] rots)
+  runEnd-length rots = omega (arith, runEndFrom-length l axes (rules .window) [] rots)
 
   -- a swap, or none
-  pub swapStep-length : (s : Swapping) → swapLength (swapStep l axes window candidates eager s) ≤ swapLength s
+  pub swapStep-length : (s : Swapping) → swapLength (swapStep l axes rules s) ≤ swapLength s
   unfolding swapStep
   swapStep-length s =
-      let run = runEnd l axes window in
+      let run = runEnd l axes (rules .window) in
       let first = run (s .rest) in
       let second = run (first .rest) in
       let third = run (second .rest) in
       let m = length (first .run) + length (second .run) + length (third .run) in
       nextStart-length first third s m _
-      (tryTriple-length l axes eager m _ (triples-length candidates (first .run) (second .run) (third .run)))
+      (tryTriple-length l axes rules m _ (triples-length (rules .candidates) (first .run) (second .run) (third .run)))
       (runEnd-length (s .rest)) (omega (arith, runEnd-length (s .rest), runEnd-length (first .rest), runEnd-length (second .rest)))
 
   -- all swaps of a segment
-  pub swapsFrom-length : (k : ℕ) (s : Swapping) → swapLength (swapsFrom l axes window candidates eager k s) ≤ swapLength s
+  pub swapsFrom-length : (k : ℕ) (s : Swapping) → swapLength (swapsFrom l axes rules k s) ≤ swapLength s
   unfolding swapsFrom
   swapsFrom-length zero s = le-refl _
   swapsFrom-length (suc k) s =
       by-if (λ (x : Swapping). swapLength x ≤ swapLength s) _ _ _ (le-refl _) (le-trans (swapsFrom-length k _) (swapStep-length s))
 
   -- an exchange makes no segment longer
-  pub swaps-length : (rots : List Rot) → length (swaps l axes window candidates eager rots .rots) ≤ length rots
+  pub swaps-length : (rots : List Rot) → length (swaps l axes rules rots .rots) ≤ length rots
   unfolding swaps
   swaps-length rots =
       let s : Swapping = record { done = []; found = 0; rest = rots } in
-      let e = swapsFrom l axes window candidates eager (length rots) s in
+      let e = swapsFrom l axes rules (length rots) s in
       omega (arith, length-append (e .done) (e .rest), swapsFrom-length (length rots) s)
 
 -- ---- layers

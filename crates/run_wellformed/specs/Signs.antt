@@ -30,8 +30,8 @@ pub angles-stay : (l : ℕ) (r : Rules) → AnglesStay l r
 unfolding exchangePass layeringPass
 angles-stay l r = record {
   exchange = λ w h. by-if (λ (v : Work). Every TurnsItem (v .items)) _ _ _ h
-      (rewriteSegments-every Turns TurnsItem (λ t k. k) (λ t k. k) (swaps l (w .store .axes) (r .window) (r .candidates) (r .eager))
-      (swaps-by _ Turns turns-merging l (w .store .axes) (r .window) (r .candidates) (r .eager)) (w .items) h);
+      (rewriteSegments-every Turns TurnsItem (λ t k. k) (λ t k. k) (swaps l (w .store .axes) (r .exchange))
+      (swaps-by _ Turns turns-merging l (w .store .axes) (r .exchange)) (w .items) h);
   layering = λ w h. rewriteSegments-every Turns TurnsItem (λ t k. k) (λ t k. k) (layerSegment l (w .store .axes))
       (layerSegment-by _ Turns turns-merging l (w .store .axes)) (w .items) h;
 }

@@ -31,6 +31,7 @@ sized lookback window candidates rounds = record {
   rounds = rounds;
   «clifford_to_frame» = true;
   «eager_swaps» = true;
+  «second_exchange_first» = false;
   «lazy_cliffords» = false;
   strategy = Merge;
   «measure_depth» = false;

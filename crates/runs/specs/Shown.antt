@@ -1,5 +1,5 @@
 -- How runs are written in this crate: records by what they mean, and all that a run shows. Assumes nothing.
-use mathlib.Core.Bool.{Bool}
+use mathlib.Core.Bool.{Bool, false}
 use mathlib.Core.List.{List, [], _∷_, flatten}
 use Prim.Native.Nat.{ℕ}
 use Prim.Native.String.{String}
@@ -58,16 +58,19 @@ job q nodes operations rows = record {
 abbrev pub program : ℕ → List (List ℕ) → List (List ℕ) → List (List ℕ) → Program
 program q nodes operations rows = programOf (job q nodes operations rows)
 
-abbrev pub rules : ℕ → ℕ → ℕ → Absorption → Bool → Strategy → Bool → Rules
-rules lookback window candidates absorption eager strategy depth = record {
+-- by the order of ties: whether second with third is tried first
+abbrev pub rulesInOrder : Bool → ℕ → ℕ → ℕ → Absorption → Bool → Strategy → Bool → Rules
+rulesInOrder secondFirst lookback window candidates absorption eager strategy depth = record {
   lookback = lookback;
-  window = window;
-  candidates = candidates;
+  exchange = record { window = window; candidates = candidates; eager = eager; «second_first» = secondFirst };
   absorption = absorption;
-  eager = eager;
   strategy = strategy;
   depth = depth;
 }
+
+-- the old order
+abbrev pub rules : ℕ → ℕ → ℕ → Absorption → Bool → Strategy → Bool → Rules
+rules = rulesInOrder false
 
 -- ---- what comes out
 

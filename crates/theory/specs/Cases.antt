@@ -1,7 +1,8 @@
--- Choices, case by case: `by-if` where both cases hold, `on-if` where the test's value is wanted; what came of an option. Assumes nothing.
+-- Choices, case by case: `by-if` and `by-else` where both cases hold, `on-if` where the test's value is wanted; what came of an option.
+-- Assumes nothing.
 use mathlib.Core.Path.{_≡_, refl, sym, ap, _∙_}
 use mathlib.Core.Bool.{Bool, true, false, _&&_, _||_, true≢false, or-true}
-use mathlib.Core.Option.{Option, none, some, bind, Option·map}
+use mathlib.Core.Option.{Option, none, some, orElse, bind, Option·map}
 use Prim.Native.Nat.{ℕ}
 use native.Mathlib.Omega.{arith}
 use Rattle.model.specs.Lists.{if_then_else_}
@@ -51,6 +52,12 @@ and-left false y h = absurd (true≢false (sym h))
 pub and-right : (x y : Bool) → x && y ≡ true → y ≡ true
 and-right true y h = h
 and-right false y h = absurd (true≢false (sym h))
+
+-- whichever of two options it is
+pub by-else : {A : Type 0} (P : Option A → Type 0) (x y : Option A) → P x → P y → P (orElse x y)
+unfolding orElse
+by-else P none y hx hy = hy
+by-else P (some x) y hx hy = hx
 
 -- ---- an option that is there
 

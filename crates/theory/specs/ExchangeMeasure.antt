@@ -1,20 +1,21 @@
 -- An exchange leaves no more than was there, by any measure of angles. Assumes nothing.
 use mathlib.Core.Path.{_≡_, refl, sym, _∙_}
 use mathlib.Core.Bool.{Bool}
-use mathlib.Core.Option.{Option, none, some, orElse, Option·map, Option·getD}
+use mathlib.Core.Option.{Option, none, some, Option·map, Option·getD}
 use mathlib.Core.List.{List, [], _∷_, _++_, map}
 use Prim.Native.Nat.{ℕ, zero, suc, _+_, _%_, _≤_}
 use native.Mathlib.Nat.{le-refl, le-trans}
 use native.Mathlib.Omega.{arith}
 use lib.ListN.{length}
 use Rattle.model.specs.Lists.{if_then_else_, sumOf}
+use Rattle.model.specs.declared.ExchangeRules.{ExchangeRules}
 use Rattle.model.specs.Rules.{Rules}
 use Rattle.model.specs.Items.{Rot, rot, Item, rotation, barrier, isNonzero, dropZeroRots, Segment, endSegment, rewriteFrom, rewriteSegments}
-use Rattle.model.specs.Exchange.{mergeBack, mergeLocally, improves, Start, starts, End, ends, Triple, withEnds, withStarts, triples, shareAxis, Swap}
-use Rattle.model.specs.Exchange.{swapOf}
-use Rattle.model.specs.Exchange.{tryExchange, tryExchanges, tryTriple, RunEnd, runEndFrom, runEnd, Swapping, nextStart, swapStep, swapsFrom, swaps}
+use Rattle.model.specs.Exchange.{mergeBack, mergeLocally, improves, Start, starts, End, ends, Triple, withEnds, withStarts, triples, Swap, swapOf}
+use Rattle.model.specs.Exchange.{tryExchange, firstWithSecond, secondWithThird, tryTriple, RunEnd, runEndFrom, runEnd, Swapping, nextStart, swapStep, swapsFrom, swaps}
 use Rattle.model.specs.Rounds.{Work, exchangePass}
 use Rattle.theory.specs.Cases.{by-if}
+use Rattle.theory.specs.TieOrder.{tryTriple-either}
 use Rattle.theory.specs.Every.{Every, every-append, every-take}
 use Rattle.theory.specs.Measure.{Measure, sizeOf, sizeOfRots, sizeOf-nil, sizeOf-append, sizeOf-rotations, rots-nil, rots-append, rots-one}
 use Rattle.theory.specs.Measure.{rots-cons}
@@ -85,11 +86,6 @@ module _ (m : ℕ → ℕ) (law : Measure m) where
   made-no-more t trial e none h = tt
   made-no-more t trial e (some new) h = omega arith
 
-  orElse-no-more : (n : ℕ) (x y : Option Swap) → AtMost n x → AtMost n y → AtMost n (orElse x y)
-  unfolding orElse
-  orElse-no-more n none y hx hy = hy
-  orElse-no-more n (some x) y hx hy = hx
-
   -- ---- all cuts of a triple have one measure
 
   abbrev StartOf : ℕ → Start → Type 0
@@ -135,30 +131,32 @@ module _ (m : ℕ → ℕ) (law : Measure m) where
       every-take (Counts (sizeOfRots m a + sizeOfRots m b + sizeOfRots m c)) (suc candidates) (withStarts b (starts [] a) (ends [] c))
       (withStarts-same (sizeOfRots m a) (sizeOfRots m c) b (starts [] a) (ends [] c) from to)
 
-  module _ (l : ℕ) (axes : List (List ℕ)) (eager : Bool) where
+  module _ (l : ℕ) (axes : List (List ℕ)) (rules : ExchangeRules) where
     tryExchange-no-more : (t : Triple) (g h trial : List Rot)
         → sizeOfRots m trial ≡ sizeOfRots m (t .first) + sizeOfRots m (t .second) + sizeOfRots m (t .third)
-        → AtMost (tTriple t) (tryExchange l axes eager t g h trial)
+        → AtMost (tTriple t) (tryExchange l axes rules t g h trial)
     unfolding tryExchange
     tryExchange-no-more t g h trial e =
         let old = t .first ++ (t .second ++ t .third) in
-        by-if (AtMost (tTriple t)) _ _ _ (made-no-more t trial e (improves l axes eager trial old) (improves-no-more l axes eager trial old)) tt
+        by-if (AtMost (tTriple t)) _ _ _
+        (made-no-more t trial e (improves l axes (rules .eager) trial old) (improves-no-more l axes (rules .eager) trial old)) tt
 
-    tryExchanges-no-more : (t : Triple) → AtMost (tTriple t) (tryExchanges l axes eager t)
-    unfolding tryExchanges
-    tryExchanges-no-more t =
-        let one = tryExchange l axes eager t (t .first) (t .second) (t .second ++ (t .first ++ t .third)) in
-        let two = tryExchange l axes eager t (t .second) (t .third) (t .first ++ (t .third ++ t .second)) in
-        orElse-no-more (tTriple t) one two
-        (tryExchange-no-more t _ _ _ (omega (arith, rots-append m (t .second) (t .first ++ t .third), rots-append m (t .first) (t .third))))
-        (tryExchange-no-more t _ _ _ (omega (arith, rots-append m (t .first) (t .third ++ t .second), rots-append m (t .third) (t .second))))
+    firstWithSecond-no-more : (n : ℕ) (t : Triple) → Counts n t → AtMost n (firstWithSecond l axes rules t)
+    unfolding firstWithSecond
+    firstWithSecond-no-more n t h =
+        let low : AtMost (tTriple t) (firstWithSecond l axes rules t) = tryExchange-no-more t _ _ _
+        (omega (arith, rots-append m (t .second) (t .first ++ t .third), rots-append m (t .first) (t .third))) in
+        rw h at low
 
-    tryTriple-no-more : (n : ℕ) (ts : List Triple) → Every (Counts n) ts → AtMost n (tryTriple l axes eager ts)
-    unfolding tryTriple
-    tryTriple-no-more n [] h = tt
-    tryTriple-no-more n (t ∷ ts) h =
-        orElse-no-more n (if shareAxis eager (t .first) (t .third) then tryExchanges l axes eager t else none) (tryTriple l axes eager ts)
-        (by-if (AtMost n) _ _ _ (rw (h .0) at (tryExchanges-no-more t)) tt) (tryTriple-no-more n ts (h .1))
+    secondWithThird-no-more : (n : ℕ) (t : Triple) → Counts n t → AtMost n (secondWithThird l axes rules t)
+    unfolding secondWithThird
+    secondWithThird-no-more n t h =
+        let low : AtMost (tTriple t) (secondWithThird l axes rules t) = tryExchange-no-more t _ _ _
+        (omega (arith, rots-append m (t .first) (t .third ++ t .second), rots-append m (t .third) (t .second))) in
+        rw h at low
+
+    tryTriple-no-more : (n : ℕ) (ts : List Triple) → Every (Counts n) ts → AtMost n (tryTriple l axes rules ts)
+    tryTriple-no-more n = tryTriple-either l axes rules (AtMost n) (Counts n) tt (firstWithSecond-no-more n) (secondWithThird-no-more n)
 
   -- ---- swaps
 
@@ -188,33 +186,33 @@ module _ (m : ℕ → ℕ) (law : Measure m) where
   nextStart-no-more first third s n (some x) h e f =
       omega (arith, rots-append m (s .done) (x .skipped ++ x .new), rots-append m (x .skipped) (x .new), rots-append m (x .remainder) (third .rest))
 
-  module _ (l : ℕ) (axes : List (List ℕ)) (window candidates : ℕ) (eager : Bool) where
-    runEnd-same : (rots : List Rot) → sizeOfRunEnd (runEnd l axes window rots) ≡ sizeOfRots m rots
+  module _ (l : ℕ) (axes : List (List ℕ)) (rules : ExchangeRules) where
+    runEnd-same : (rots : List Rot) → sizeOfRunEnd (runEnd l axes (rules .window) rots) ≡ sizeOfRots m rots
     unfolding runEnd
-    runEnd-same rots = omega (arith, runEndFrom-same l axes window [] rots, rots-nil m)
+    runEnd-same rots = omega (arith, runEndFrom-same l axes (rules .window) [] rots, rots-nil m)
 
-    swapStep-no-more : (s : Swapping) → doneAndLeft (swapStep l axes window candidates eager s) ≤ doneAndLeft s
+    swapStep-no-more : (s : Swapping) → doneAndLeft (swapStep l axes rules s) ≤ doneAndLeft s
     unfolding swapStep sizeOfRunEnd
     swapStep-no-more s =
-        let first = runEnd l axes window (s .rest) in
-        let second = runEnd l axes window (first .rest) in
-        let third = runEnd l axes window (second .rest) in
+        let first = runEnd l axes (rules .window) (s .rest) in
+        let second = runEnd l axes (rules .window) (first .rest) in
+        let third = runEnd l axes (rules .window) (second .rest) in
         nextStart-no-more first third s (sizeOfRots m (first .run) + sizeOfRots m (second .run) + sizeOfRots m (third .run)) _
-        (tryTriple-no-more l axes eager _ _ (triples-same candidates (first .run) (second .run) (third .run)))
+        (tryTriple-no-more l axes rules _ _ (triples-same (rules .candidates) (first .run) (second .run) (third .run)))
         (sym (runEnd-same (s .rest))) (omega (arith, runEnd-same (s .rest), runEnd-same (first .rest), runEnd-same (second .rest)))
 
-    swapsFrom-no-more : (k : ℕ) (s : Swapping) → doneAndLeft (swapsFrom l axes window candidates eager k s) ≤ doneAndLeft s
+    swapsFrom-no-more : (k : ℕ) (s : Swapping) → doneAndLeft (swapsFrom l axes rules k s) ≤ doneAndLeft s
     unfolding swapsFrom
     swapsFrom-no-more zero s = le-refl _
     swapsFrom-no-more (suc k) s =
         by-if (λ (x : Swapping). doneAndLeft x ≤ doneAndLeft s) _ _ _ (le-refl _) (le-trans (swapsFrom-no-more k _) (swapStep-no-more s))
 
     -- the swaps of a segment
-    pub swaps-no-more : (rots : List Rot) → sizeOfRots m (swaps l axes window candidates eager rots .rots) ≤ sizeOfRots m rots
+    pub swaps-no-more : (rots : List Rot) → sizeOfRots m (swaps l axes rules rots .rots) ≤ sizeOfRots m rots
     unfolding swaps doneAndLeft
     swaps-no-more rots =
         let s : Swapping = record { done = []; found = 0; rest = rots } in
-        let e = swapsFrom l axes window candidates eager (length rots) s in
+        let e = swapsFrom l axes rules (length rots) s in
         omega (arith, rots-append m (e .done) (e .rest), swapsFrom-no-more (length rots) s, rots-nil m)
 
   -- ---- segments
@@ -248,4 +246,4 @@ module _ (m : ℕ → ℕ) (law : Measure m) where
   unfolding exchangePass
   exchangePass-no-more l r w =
       by-if (λ (x : Work). sizeOf m (x .items) ≤ sizeOf m (w .items)) _ _ _ (le-refl _)
-      (rewriteSegments-no-more _ (swaps-no-more l (w .store .axes) (r .window) (r .candidates) (r .eager)) (w .items))
+      (rewriteSegments-no-more _ (swaps-no-more l (w .store .axes) (r .exchange)) (w .items))

@@ -13,6 +13,7 @@ pub mod Ids
 pub mod StreamState
 pub mod SweepsEnd
 pub mod SwapsEnd
+pub mod TieOrder
 pub mod Segments
 pub mod SegmentAxes
 pub mod Steady

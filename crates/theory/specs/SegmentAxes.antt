@@ -1,7 +1,7 @@
 -- Exchange and layering use only the axes that are there: what holds of every axis of a segment holds of every axis afterwards. Assumes nothing.
-use mathlib.Core.Bool.{Bool}
 use mathlib.Core.List.{List, map}
 use Prim.Native.Nat.{ℕ}
+use Rattle.model.specs.declared.ExchangeRules.{ExchangeRules}
 use Rattle.model.specs.Items.{Rot, Item, dropZeroRots, Segment, rewriteSegments}
 use Rattle.model.specs.Exchange.{swaps}
 use Rattle.model.specs.Layering.{Layers, Shift, joinLayer, joinLayers, moveRotation, moveRotations, sweep, layerSegment}
@@ -27,8 +27,7 @@ module _ (P : ℕ → Type 0) where
   -- ---- exchange
 
   -- the swaps of a segment keep it
-  pub swaps-has : (l : ℕ) (axes : List (List ℕ)) (window candidates : ℕ) (eager : Bool) (rots : List Rot) → AllHave rots
-      → AllHave (swaps l axes window candidates eager rots .rots)
+  pub swaps-has : (l : ℕ) (axes : List (List ℕ)) (rules : ExchangeRules) (rots : List Rot) → AllHave rots → AllHave (swaps l axes rules rots .rots)
   swaps-has = swaps-by Has Has axis-kept
 
   -- ---- layering

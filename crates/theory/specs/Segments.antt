@@ -1,17 +1,20 @@
 -- Exchange and layering leave rotations of the kind that they are given, and barriers as they are. Assumes nothing.
 use mathlib.Core.Path.{_≡_, refl, sym, ap, _∙_}
 use mathlib.Core.Bool.{Bool, true, false}
-use mathlib.Core.Option.{Option, none, some, orElse, Option·map, Option·getD}
+use mathlib.Core.Option.{Option, none, some, Option·map, Option·getD}
 use mathlib.Core.List.{List, [], _∷_, _++_, map, append-assoc, append-nil}
 use Prim.Native.Nat.{ℕ, zero, suc, _+_, _%_}
 use lib.ListN.{length}
+use Rattle.model.specs.declared.ExchangeRules.{ExchangeRules}
 use Rattle.model.specs.Lists.{if_then_else_, keep}
 use Rattle.model.specs.Items.{Rot, rot, Item, rotation, barrier, isNonzero, dropZeroRots, Segment, endSegment, rewriteFrom, rewriteSegments}
-use Rattle.model.specs.Exchange.{mergeBack, mergeLocally, improves, Start, starts, End, ends, Triple, withEnds, withStarts, triples, shareAxis, Swap}
-use Rattle.model.specs.Exchange.{swapOf, tryExchange, tryExchanges, tryTriple, RunEnd, runEndFrom, Swapping, nextStart, runEnd, swapStep, swapsFrom, swaps}
+use Rattle.model.specs.Exchange.{mergeBack, mergeLocally, improves, Start, starts, End, ends, Triple, withEnds, withStarts, triples, Swap, swapOf}
+use Rattle.model.specs.Exchange.{tryExchange, firstWithSecond, secondWithThird, tryTriple, RunEnd, runEndFrom, Swapping, nextStart, runEnd, swapStep}
+use Rattle.model.specs.Exchange.{swapsFrom, swaps}
 use Rattle.model.specs.Layering.{mergeInto, Layers, Shift, joinLayer, joinLayers, moveRotation, moveRotations, sweepFrom, sweep, dropZeroLayers}
 use Rattle.model.specs.Layering.{sweepsFrom, height, layerSegment}
 use Rattle.theory.specs.Cases.{by-if, on-if}
+use Rattle.theory.specs.TieOrder.{tryTriple-either}
 use Rattle.theory.specs.Every.{Every, every-append, every-one, every-take, every-keep, every-reverse, every-flatten, every-map}
 use Rattle.theory.specs.StreamState.{barriersOf, barriersOf-append}
 
@@ -124,36 +127,29 @@ module _ (S R : Rot → Type 0) (kept : KeptByMerging S R) where
   SwapR none = Unit {0}
   SwapR (some s) = AllR (s .skipped) × AllR (s .new) × AllR (s .remainder)
 
-  or-else : (x y : Option Swap) → SwapR x → SwapR y → SwapR (orElse x y)
-  unfolding orElse
-  or-else none y hx hy = hy
-  or-else (some x) y hx hy = hx
-
-  module _ (l : ℕ) (axes : List (List ℕ)) (eager : Bool) where
+  module _ (l : ℕ) (axes : List (List ℕ)) (rules : ExchangeRules) where
     made-by : (t : Triple) (o : Option (List Rot)) → TripleR t → Improved l axes o → SwapR (Option·map (swapOf t) o)
     made-by t none h g = tt
     made-by t (some new) h g = (h .0, g, h .4)
 
-    tryExchange-by : (t : Triple) (g h trial : List Rot) → TripleR t → AllR trial → SwapR (tryExchange l axes eager t g h trial)
+    tryExchange-by : (t : Triple) (g h trial : List Rot) → TripleR t → AllR trial → SwapR (tryExchange l axes rules t g h trial)
     unfolding tryExchange
     tryExchange-by t g h trial k f =
         let old = t .first ++ (t .second ++ t .third) in
-        by-if SwapR _ _ _ (made-by t (improves l axes eager trial old) k (improves-by l axes eager trial old f)) tt
+        by-if SwapR _ _ _ (made-by t (improves l axes (rules .eager) trial old) k (improves-by l axes (rules .eager) trial old f)) tt
 
-    tryExchanges-by : (t : Triple) → TripleR t → SwapR (tryExchanges l axes eager t)
-    unfolding tryExchanges
-    tryExchanges-by t k =
-        or-else (tryExchange l axes eager t (t .first) (t .second) (t .second ++ (t .first ++ t .third)))
-        (tryExchange l axes eager t (t .second) (t .third) (t .first ++ (t .third ++ t .second)))
-        (tryExchange-by t _ _ _ k (every-append R (t .second) (t .first ++ t .third) (k .2) (every-append R (t .first) (t .third) (k .1) (k .3))))
-        (tryExchange-by t _ _ _ k (every-append R (t .first) (t .third ++ t .second) (k .1) (every-append R (t .third) (t .second) (k .3) (k .2))))
+    firstWithSecond-by : (t : Triple) → TripleR t → SwapR (firstWithSecond l axes rules t)
+    unfolding firstWithSecond
+    firstWithSecond-by t k =
+        tryExchange-by t _ _ _ k (every-append R (t .second) (t .first ++ t .third) (k .2) (every-append R (t .first) (t .third) (k .1) (k .3)))
 
-    tryTriple-by : (ts : List Triple) → Every TripleR ts → SwapR (tryTriple l axes eager ts)
-    unfolding tryTriple
-    tryTriple-by [] h = tt
-    tryTriple-by (t ∷ ts) h =
-        or-else (if shareAxis eager (t .first) (t .third) then tryExchanges l axes eager t else none) (tryTriple l axes eager ts)
-        (by-if SwapR _ _ _ (tryExchanges-by t (h .0)) tt) (tryTriple-by ts (h .1))
+    secondWithThird-by : (t : Triple) → TripleR t → SwapR (secondWithThird l axes rules t)
+    unfolding secondWithThird
+    secondWithThird-by t k =
+        tryExchange-by t _ _ _ k (every-append R (t .first) (t .third ++ t .second) (k .1) (every-append R (t .third) (t .second) (k .3) (k .2)))
+
+    tryTriple-by : (ts : List Triple) → Every TripleR ts → SwapR (tryTriple l axes rules ts)
+    tryTriple-by = tryTriple-either l axes rules SwapR TripleR tt firstWithSecond-by secondWithThird-by
 
   abbrev RunEndR : RunEnd → Type 0
   RunEndR x = AllR (x .run) × AllR (x .rest)
@@ -177,40 +173,40 @@ module _ (S R : Rot → Type 0) (kept : KeptByMerging S R) where
     every-append R (x .remainder) (third .rest) (ho .2) (hc .1),
   )
 
-  module _ (l : ℕ) (axes : List (List ℕ)) (window candidates : ℕ) (eager : Bool) where
-    runEnd-by : (rest : List Rot) → AllR rest → RunEndR (runEnd l axes window rest)
+  module _ (l : ℕ) (axes : List (List ℕ)) (rules : ExchangeRules) where
+    runEnd-by : (rest : List Rot) → AllR rest → RunEndR (runEnd l axes (rules .window) rest)
     unfolding runEnd
-    runEnd-by rest h = runEndFrom-by l axes window [] rest tt h
+    runEnd-by rest h = runEndFrom-by l axes (rules .window) [] rest tt h
 
     -- a swap, or none
     swapStep-by : (s : Swapping) → Every R (s .done) × Every R (s .rest)
-        → Every R (swapStep l axes window candidates eager s .done) × Every R (swapStep l axes window candidates eager s .rest)
+        → Every R (swapStep l axes rules s .done) × Every R (swapStep l axes rules s .rest)
     unfolding swapStep
     swapStep-by s h =
-        let run = runEnd l axes window in
+        let run = runEnd l axes (rules .window) in
         let first = run (s .rest) in
         let second = run (first .rest) in
         let third = run (second .rest) in
         let ha = runEnd-by (s .rest) (h .1) in
         let hb = runEnd-by (first .rest) (ha .1) in
         let hc = runEnd-by (second .rest) (hb .1) in
-        let ts = triples candidates (first .run) (second .run) (third .run) in
-        nextStart-by first third s (tryTriple l axes eager ts) ha hc h
-        (tryTriple-by l axes eager ts (triples-by candidates (first .run) (second .run) (third .run) (ha .0) (hb .0) (hc .0)))
+        let ts = triples (rules .candidates) (first .run) (second .run) (third .run) in
+        nextStart-by first third s (tryTriple l axes rules ts) ha hc h
+        (tryTriple-by l axes rules ts (triples-by (rules .candidates) (first .run) (second .run) (third .run) (ha .0) (hb .0) (hc .0)))
 
     -- all swaps of a segment
     swapsFrom-by : (k : ℕ) (s : Swapping) → Every R (s .done) × Every R (s .rest)
-        → Every R (swapsFrom l axes window candidates eager k s .done) × Every R (swapsFrom l axes window candidates eager k s .rest)
+        → Every R (swapsFrom l axes rules k s .done) × Every R (swapsFrom l axes rules k s .rest)
     unfolding swapsFrom
     swapsFrom-by zero s h = h
-    swapsFrom-by (suc k) s h = by-if SwappingR _ _ _ h (swapsFrom-by k (swapStep l axes window candidates eager s) (swapStep-by s h))
+    swapsFrom-by (suc k) s h = by-if SwappingR _ _ _ h (swapsFrom-by k (swapStep l axes rules s) (swapStep-by s h))
 
     -- an exchange leaves rotations of the kind it is given
-    pub swaps-by : (rots : List Rot) → Every R rots → Every R (swaps l axes window candidates eager rots .rots)
+    pub swaps-by : (rots : List Rot) → Every R rots → Every R (swaps l axes rules rots .rots)
     unfolding swaps
     swaps-by rots h =
         let s : Swapping = record { done = []; found = 0; rest = rots } in
-        let e = swapsFrom l axes window candidates eager (length rots) s in
+        let e = swapsFrom l axes rules (length rots) s in
         let k = swapsFrom-by (length rots) s (tt, h) in
         every-append R (e .done) (e .rest) (k .0) (k .1)
 

@@ -35,12 +35,12 @@ streamPass-steady l r b w h = record { range = streamPass-range l r b w h; barri
 pub exchangePass-steady : (l : ℕ) (r : Rules) (w : Work) → InRange w → Steady w (exchangePass l r w)
 unfolding exchangePass
 exchangePass-steady l r w h =
-    let f = swaps l (w .store .axes) (r .window) (r .candidates) (r .eager) in
+    let f = swaps l (w .store .axes) (r .exchange) in
     by-if (Steady w) _ _ _ (steady-refl w h)
     (record {
       range =
           rewriteSegments-in (λ a. a < length (w .store .axes)) f
-          (swaps-has (λ a. a < length (w .store .axes)) l (w .store .axes) (r .window) (r .candidates) (r .eager)) (w .items) h;
+          (swaps-has (λ a. a < length (w .store .axes)) l (w .store .axes) (r .exchange)) (w .items) h;
       barriers = rewriteSegments-barriers f (w .items);
     })
 

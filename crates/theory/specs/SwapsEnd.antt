@@ -1,19 +1,20 @@
 -- The search for swaps in a segment ends: each start is beyond the one before, so the model makes enough steps. Assumes nothing.
 use mathlib.Core.Path.{_≡_, refl, sym, ap, _∙_}
 use mathlib.Core.Bool.{Bool, true, false, _||_, true≢false}
-use mathlib.Core.Option.{Option, none, some, orElse, Option·map}
+use mathlib.Core.Option.{Option, none, some, Option·map}
 use mathlib.Core.List.{List, [], _∷_, _++_}
 use Prim.Native.Nat.{ℕ, zero, suc, _+_, _≤_, _<_}
 use native.Mathlib.Nat.{le-refl}
 use native.Mathlib.Omega.{arith}
 use lib.ListN.{length, length-append}
 use borrow.Author.Tests.{lt-ltb}
+use Rattle.model.specs.declared.ExchangeRules.{ExchangeRules}
 use Rattle.model.specs.Lists.{if_then_else_, allOf, isEmpty}
 use Rattle.model.specs.Items.{Rot}
-use Rattle.model.specs.Exchange.{improves, Start, starts, End, ends, Triple, withEnds, withStarts, triples, shareAxis, Swap, swapOf, tryExchange}
-use Rattle.model.specs.Exchange.{tryExchanges}
-use Rattle.model.specs.Exchange.{tryTriple, RunEnd, runEndFrom, runEnd, noTriple, Swapping, nextStart, swapStep, swapsFrom}
+use Rattle.model.specs.Exchange.{improves, Start, starts, End, ends, Triple, withEnds, withStarts, triples, Swap, swapOf, tryExchange, firstWithSecond}
+use Rattle.model.specs.Exchange.{secondWithThird, tryTriple, RunEnd, runEndFrom, runEnd, noTriple, Swapping, nextStart, swapStep, swapsFrom}
 use Rattle.theory.specs.Cases.{by-if, if-true, if-false}
+use Rattle.theory.specs.TieOrder.{tryTriple-either}
 use Rattle.theory.specs.Every.{Every, every-append, every-take}
 
 abbrev Ends : ℕ → End → Type 0
@@ -52,25 +53,16 @@ made-leaves : (m : ℕ) (t : Triple) (o : Option (List Rot)) → length (t .rema
 made-leaves m t none h = tt
 made-leaves m t (some new) h = h
 
-orElse-leaves : (m : ℕ) (x y : Option Swap) → Leaves m x → Leaves m y → Leaves m (orElse x y)
-unfolding orElse
-orElse-leaves m none y hx hy = hy
-orElse-leaves m (some x) y hx hy = hx
-
-module _ (l : ℕ) (axes : List (List ℕ)) (eager : Bool) where
-  tryExchange-leaves : (m : ℕ) (t : Triple) (g h trial : List Rot) → After m t → Leaves m (tryExchange l axes eager t g h trial)
+module _ (l : ℕ) (axes : List (List ℕ)) (rules : ExchangeRules) where
+  tryExchange-leaves : (m : ℕ) (t : Triple) (g h trial : List Rot) → After m t → Leaves m (tryExchange l axes rules t g h trial)
   unfolding tryExchange
-  tryExchange-leaves m t g h trial a = by-if (Leaves m) _ _ _ (made-leaves m t (improves l axes eager trial (t .first ++ (t .second ++ t .third))) a) tt
+  tryExchange-leaves m t g h trial a =
+      by-if (Leaves m) _ _ _ (made-leaves m t (improves l axes (rules .eager) trial (t .first ++ (t .second ++ t .third))) a) tt
 
-  tryTriple-leaves : (m : ℕ) (ts : List Triple) → Every (After m) ts → Leaves m (tryTriple l axes eager ts)
-  unfolding tryTriple tryExchanges
-  tryTriple-leaves m [] h = tt
-  tryTriple-leaves m (t ∷ ts) h =
-      let one = tryExchange l axes eager t (t .first) (t .second) (t .second ++ (t .first ++ t .third)) in
-      let two = tryExchange l axes eager t (t .second) (t .third) (t .first ++ (t .third ++ t .second)) in
-      orElse-leaves m (if shareAxis eager (t .first) (t .third) then orElse one two else none) (tryTriple l axes eager ts)
-      (by-if (Leaves m) _ _ _ (orElse-leaves m one two (tryExchange-leaves m t _ _ _ (h .0)) (tryExchange-leaves m t _ _ _ (h .0))) tt)
-      (tryTriple-leaves m ts (h .1))
+  tryTriple-leaves : (m : ℕ) (ts : List Triple) → Every (After m) ts → Leaves m (tryTriple l axes rules ts)
+  unfolding firstWithSecond secondWithThird
+  tryTriple-leaves m =
+      tryTriple-either l axes rules (Leaves m) (After m) tt (λ t. tryExchange-leaves m t _ _ _) (λ t. tryExchange-leaves m t _ _ _)
 
 -- a run takes from the front, and takes one at least
 record Took (taken rest : List Rot) (x : RunEnd) : Type 0 where
@@ -91,37 +83,36 @@ module _ (l : ℕ) (axes : List (List ℕ)) (window : ℕ) where
   unfolding runEndFrom allOf
   runEndFrom-first w r rest = if-true _ _ (rw (lt-ltb 0 window w) refl)
 
-module _ (l : ℕ) (axes : List (List ℕ)) (window candidates : ℕ) (eager : Bool) (opens : 0 < window) where
+module _ (l : ℕ) (axes : List (List ℕ)) (rules : ExchangeRules) (opens : 0 < rules .window) where
   abbrev run : List Rot → RunEnd
-  run = runEnd l axes window
+  run = runEnd l axes (rules .window)
 
   run-le : (rest : List Rot) → length (run rest .run) + length (run rest .rest) ≡ length rest
   unfolding runEnd
-  run-le rest = omega (arith, runEndFrom-took l axes window [] rest .both)
+  run-le rest = omega (arith, runEndFrom-took l axes (rules .window) [] rest .both)
 
   run-less : (rest : List Rot) → isEmpty (run rest .rest) ≡ false → length (run rest .rest) < length rest
   unfolding runEnd
   run-less [] h = absurd (true≢false (nothing ∙ h))
     where
-      nothing : true ≡ isEmpty (runEndFrom l axes window [] [] .rest)
+      nothing : true ≡ isEmpty (runEndFrom l axes (rules .window) [] [] .rest)
       nothing = unfold runEndFrom isEmpty in refl
   run-less (r ∷ rest) h =
-      let f = runEndFrom-took l axes window (r ∷ []) rest in
-      let e : length (runEndFrom l axes window [] (r ∷ rest) .rest) ≡ length (runEndFrom l axes window (r ∷ []) rest .rest)
-      = ap (λ (x : RunEnd). length (x .rest)) (runEndFrom-first l axes window opens r rest) in
+      let f = runEndFrom-took l axes (rules .window) (r ∷ []) rest in
+      let e : length (runEndFrom l axes (rules .window) [] (r ∷ rest) .rest) ≡ length (runEndFrom l axes (rules .window) (r ∷ []) rest .rest)
+      = ap (λ (x : RunEnd). length (x .rest)) (runEndFrom-first l axes (rules .window) opens r rest) in
       omega (arith, f .both, f .grew)
 
-  swapStep-less : (s : Swapping) → noTriple l axes window (s .rest) ≡ false
-      → length (swapStep l axes window candidates eager s .rest) < length (s .rest)
+  swapStep-less : (s : Swapping) → noTriple l axes (rules .window) (s .rest) ≡ false → length (swapStep l axes rules s .rest) < length (s .rest)
   unfolding swapStep noTriple
   swapStep-less s h =
       let a = run (s .rest) in
       let b = run (a .rest) in
       let c = run (b .rest) in
       let f : length (a .rest) < length (s .rest) = run-less (s .rest) (or-left _ _ h) in
-      let ts = triples candidates (a .run) (b .run) (c .run) in
-      go a c (tryTriple l axes eager ts) f
-      (tryTriple-leaves l axes eager (length (c .run)) ts (triples-after candidates (a .run) (b .run) (c .run)))
+      let ts = triples (rules .candidates) (a .run) (b .run) (c .run) in
+      go a c (tryTriple l axes rules ts) f
+      (tryTriple-leaves l axes rules (length (c .run)) ts (triples-after (rules .candidates) (a .run) (b .run) (c .run)))
       (omega (arith, run-le (a .rest), run-le (b .rest)))
     where
       or-left : (x y : Bool) → x || y ≡ false → x ≡ false
@@ -134,7 +125,7 @@ module _ (l : ℕ) (axes : List (List ℕ)) (window candidates : ℕ) (eager : B
       go a c (some x) f k e = unfold nextStart in (omega (arith, length-append (x .remainder) (c .rest)))
 
   abbrev stop : Swapping → Bool
-  stop s = noTriple l axes window (s .rest)
+  stop s = noTriple l axes (rules .window) (s .rest)
 
   none-left : (s : Swapping) → length (s .rest) ≤ 0 → stop s ≡ true
   none-left s h = go (stop s) refl
@@ -145,20 +136,18 @@ module _ (l : ℕ) (axes : List (List ℕ)) (window candidates : ℕ) (eager : B
 
   -- as many steps as rotations are enough
   pub swaps-enough : (k k′ : ℕ) (s : Swapping) → length (s .rest) ≤ k → length (s .rest) ≤ k′
-      → swapsFrom l axes window candidates eager k s ≡ swapsFrom l axes window candidates eager k′ s
+      → swapsFrom l axes rules k s ≡ swapsFrom l axes rules k′ s
   unfolding swapsFrom
   swaps-enough zero zero s h h′ = refl
   swaps-enough zero (suc k′) s h h′ = sym (if-true _ _ (none-left s h))
   swaps-enough (suc k) zero s h h′ = if-true _ _ (none-left s h′)
-  swaps-enough (suc k) (suc k′) s h h′ = go (stop s) refl (λ a b. swaps-enough k k′ (swapStep l axes window candidates eager s) a b)
+  swaps-enough (suc k) (suc k′) s h h′ = go (stop s) refl (λ a b. swaps-enough k k′ (swapStep l axes rules s) a b)
     where
       next : Swapping
-      next = swapStep l axes window candidates eager s
+      next = swapStep l axes rules s
 
       go : (t : Bool) → stop s ≡ t
-          → (length (next .rest) ≤ k → length (next .rest) ≤ k′
-          → swapsFrom l axes window candidates eager k next ≡ swapsFrom l axes window candidates eager k′ next)
-          → (if stop s then s else swapsFrom l axes window candidates eager k next) ≡
-          (if stop s then s else swapsFrom l axes window candidates eager k′ next)
+          → (length (next .rest) ≤ k → length (next .rest) ≤ k′ → swapsFrom l axes rules k next ≡ swapsFrom l axes rules k′ next)
+          → (if stop s then s else swapsFrom l axes rules k next) ≡ (if stop s then s else swapsFrom l axes rules k′ next)
       go true e ih = if-true _ _ e ∙ sym (if-true _ _ e)
       go false e ih = if-false _ _ e ∙ ih (omega (arith, swapStep-less s e)) (omega (arith, swapStep-less s e)) ∙ sym (if-false _ _ e)

@@ -28,15 +28,17 @@ unfoldable pub strategyOf : Bool → Strategy
 strategyOf true = Litinski
 strategyOf false = Merge
 
--- the options: lookback, window, candidates, rounds, absorption, exchanges at no loss, lazy, Litinski's strategy, T-depth, word limit
-abbrev pub optionsOf : ℕ → ℕ → ℕ → ℕ → Bool → Bool → Bool → Bool → Bool → ℕ → Options
-optionsOf k w c r f e z s d m = record {
+-- the options: lookback, window, candidates, rounds, absorption, exchanges at no loss, second exchange first, lazy, Litinski's strategy,
+-- T-depth, word limit
+abbrev pub optionsOf : ℕ → ℕ → ℕ → ℕ → Bool → Bool → Bool → Bool → Bool → Bool → ℕ → Options
+optionsOf k w c r f e x z s d m = record {
   lookback = k;
   window = w;
   candidates = c;
   rounds = r;
   «clifford_to_frame» = f;
   «eager_swaps» = e;
+  «second_exchange_first» = x;
   «lazy_cliffords» = z;
   strategy = strategyOf s;
   «measure_depth» = d;

@@ -22,6 +22,7 @@ pub extern "C" fn werdutxa_check(
     rounds: usize,
     clifford_to_frame: bool,
     eager_swaps: bool,
+    second_exchange_first: bool,
     lazy_cliffords: bool,
     litinski: bool,
     measure_depth: bool,
@@ -35,7 +36,8 @@ pub extern "C" fn werdutxa_check(
     result_rows: &[u32],
 ) -> u32
     ensures { λ r. ⌜ r ≡ numberOf (checking
-        (optionsOf lookback window candidates rounds «clifford_to_frame» «eager_swaps» «lazy_cliffords» litinski «measure_depth» limit)
+        (optionsOf lookback window candidates rounds «clifford_to_frame» «eager_swaps» «second_exchange_first» «lazy_cliffords» litinski
+        «measure_depth» limit)
         (jobOf (countsOf qubits «node_count» «operation_count») (now (nodes .entry)) (now (operations .entry)) (now (rows .entry)))
         (lentOf (now (words .entry)) (now (numbers .entry)) (now («result_operations» .entry)) (now («result_rows» .entry)))) ⌝ }
 {
@@ -48,6 +50,7 @@ pub extern "C" fn werdutxa_check(
             rounds,
             clifford_to_frame,
             eager_swaps,
+            second_exchange_first,
             lazy_cliffords,
             litinski,
             measure_depth,
@@ -76,6 +79,7 @@ pub extern "C" fn werdutxa_rewrite(
     rounds: usize,
     clifford_to_frame: bool,
     eager_swaps: bool,
+    second_exchange_first: bool,
     lazy_cliffords: bool,
     litinski: bool,
     measure_depth: bool,
@@ -90,7 +94,8 @@ pub extern "C" fn werdutxa_rewrite(
     counted: &mut [usize; 14],
 ) -> u32
     ensures { λ r. ⌜ ExportedCall
-        (optionsOf lookback window candidates rounds «clifford_to_frame» «eager_swaps» «lazy_cliffords» litinski «measure_depth» limit)
+        (optionsOf lookback window candidates rounds «clifford_to_frame» «eager_swaps» «second_exchange_first» «lazy_cliffords» litinski
+        «measure_depth» limit)
         (jobOf (countsOf qubits «node_count» «operation_count») (now (nodes .entry)) (now (operations .entry)) (now (rows .entry)))
         (lentOf (now (words .entry)) (now (numbers .entry)) (now («result_operations» .entry)) (now («result_rows» .entry)))
         r (now (counted .exit))
@@ -105,6 +110,7 @@ pub extern "C" fn werdutxa_rewrite(
             rounds,
             clifford_to_frame,
             eager_swaps,
+            second_exchange_first,
             lazy_cliffords,
             litinski,
             measure_depth,
@@ -178,13 +184,15 @@ fn options(
     rounds: usize,
     clifford_to_frame: bool,
     eager_swaps: bool,
+    second_exchange_first: bool,
     lazy_cliffords: bool,
     litinski: bool,
     measure_depth: bool,
     limit: usize,
 ) -> Options
     ensures { λ r. ⌜ r
-        ≡ optionsOf lookback window candidates rounds «clifford_to_frame» «eager_swaps» «lazy_cliffords» litinski «measure_depth» limit ⌝ }
+        ≡ optionsOf lookback window candidates rounds «clifford_to_frame» «eager_swaps» «second_exchange_first» «lazy_cliffords» litinski
+        «measure_depth» limit ⌝ }
 {
     Options {
         lookback,
@@ -193,6 +201,7 @@ fn options(
         rounds,
         clifford_to_frame,
         eager_swaps,
+        second_exchange_first,
         lazy_cliffords,
         strategy: strategy(litinski),
         measure_depth,

@@ -154,8 +154,8 @@ module _ (l : ℕ) (r : Rules) (Angles : Type 0) (stay : Angles → AnglesStay l
       placed : Every (InPlace Angles (length (exchangePass l r w .store .axes))) (exchangePass l r w .items)
       placed =
           unfold exchangePass in (by-if (λ (v : Work). Every (InPlace Angles (length (v .store .axes))) (v .items)) _ _ _ before
-          (rewriteSegments-placed Angles _ (swaps l (w .store .axes) (r .window) (r .candidates) (r .eager))
-          (swaps-has _ l (w .store .axes) (r .window) (r .candidates) (r .eager)) (w .items) before))
+          (rewriteSegments-placed Angles _ (swaps l (w .store .axes) (r .exchange))
+          (swaps-has _ l (w .store .axes) (r .exchange)) (w .items) before))
 
   -- nor does layering
   pub layeringPass-well : (w : Work) → WellWork l Angles w → WellWork l Angles (layeringPass l w)

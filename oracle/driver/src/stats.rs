@@ -31,6 +31,10 @@ impl Stats {
             "job: exchanges asked for (window above 0)",
             job.options.window > 0,
         );
+        self.raise(
+            "job: second exchange first",
+            job.options.second_exchange_first,
+        );
         self.raise("job: measures", kind(2));
         self.raise("job: conditional rotation", kind(3));
         self.raise("job: product nodes", job.nodes.iter().any(|n| n[0] == 2));

@@ -14,6 +14,7 @@ pub struct Recipe<'a> {
     /// One job in so many has the wide shape, the others the small one.
     pub wide_every: usize,
     pub wide: &'a Shape,
+    pub small: &'a Shape,
     /// Programs that lend memory lend by the limit: it is kept small.
     pub largest_limit: usize,
 }
@@ -38,7 +39,7 @@ pub fn list(seed: u64, count: usize, recipe: &Recipe, class: fn(&Job) -> (String
             ));
         }
         let wide = list.len() % recipe.wide_every == recipe.wide_every - 1;
-        let shape = if wide { recipe.wide } else { &Shape::SMALL };
+        let shape = if wide { recipe.wide } else { recipe.small };
         let mut job = (recipe.make)(&mut rng, shape);
         job.options.limit = job.options.limit.min(recipe.largest_limit);
         let (class, most) = class(&job);

@@ -474,6 +474,53 @@ const RULES: &[Case] = &[
         begins: "0 10 4 1 1 0 4 9",
     },
     Case {
+        rule: "M-107: the same, second with third before first with second",
+        operations: "YI:5 -IZ:5 XY:5 XY:3 -IZ:3 YI:3 ZZ:5 XX:5 IY:3 YI:3",
+        change: options!(
+            lookback = 0,
+            window = 4,
+            candidates = 0,
+            rounds = 1,
+            eager_swaps = false,
+            second_exchange_first = true
+        ),
+        begins: "0 10 4 1 1 0 4 9",
+    },
+    Case {
+        rule: "M-107: a program of which the old order leaves 3 T ..",
+        operations: "XI:1 IX:1 XI:1 ZI:1 IX:1",
+        change: options!(lookback = 0, window = 1, clifford_to_frame = false),
+        begins: "0 5 3 0 1 0 4 4",
+    },
+    Case {
+        rule: "M-107: .. and the new one 1",
+        operations: "XI:1 IX:1 XI:1 ZI:1 IX:1",
+        change: options!(
+            lookback = 0,
+            window = 1,
+            clifford_to_frame = false,
+            second_exchange_first = true
+        ),
+        begins: "0 5 1 0 2 0 3 4",
+    },
+    Case {
+        rule: "M-107: backwards, a program of which the old order leaves 1 T ..",
+        operations: "IX:1 ZI:1 XI:1 IX:1 XI:1",
+        change: options!(lookback = 0, window = 1, clifford_to_frame = false),
+        begins: "0 5 1 0 2 0 3 4",
+    },
+    Case {
+        rule: "M-107: .. and the new one 3",
+        operations: "IX:1 ZI:1 XI:1 IX:1 XI:1",
+        change: options!(
+            lookback = 0,
+            window = 1,
+            clifford_to_frame = false,
+            second_exchange_first = true
+        ),
+        begins: "0 5 3 0 1 0 4 4",
+    },
+    Case {
         rule: "exchange: window 1 keeps runs of one",
         operations: "IY:1 XI:1 IY:1",
         change: options!(lookback = 0, window = 1, candidates = 0, rounds = 1),

@@ -13,6 +13,7 @@ const RECIPE: Recipe = Recipe {
     make: random::job,
     wide_every: 20,
     wide: &Shape::WIDE,
+    small: &Shape::SMALL,
     largest_limit: 4096,
 };
 

@@ -19,4 +19,5 @@ mod program;
 pub mod random;
 pub mod rewriting;
 pub mod rng;
+pub mod tie_order;
 pub mod timed;

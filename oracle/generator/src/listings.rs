@@ -257,6 +257,7 @@ const RECIPE: Recipe = Recipe {
         wide_percent: 100,
         wide: &[0, 60, 64],
     },
+    small: &Shape::SMALL,
     largest_limit: 256,
 };
 

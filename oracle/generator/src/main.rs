@@ -1,8 +1,10 @@
 //! generator SEED COUNT: random jobs.
 //! generator --limits SEED COUNT: small jobs, each with every limit that refuses it at another sum.
+//! generator --second-first ..: the same two with windows, in the new order of ties (M-107).
 //! generator --fixed SEED COUNT: small jobs, at most a few of each class.
 //! generator --packing SEED COUNT: small jobs, at most a few of each class of packing.
 //! generator --rewriting SEED COUNT: small jobs, at most a few of each class of runs and options.
+//! generator --tie-order SEED COUNT: small jobs whose result hangs on the order of ties, each in both orders.
 //! generator --large SEED QUBITS NODES OPERATIONS: one large job, with Rust's default options.
 //! generator --directed: the directed cases, each with a comment.
 //! generator --accepted, --refused: jobs at Checking's bounds, each with a comment.
@@ -15,7 +17,7 @@ use std::io::Write;
 
 use generator::random::{self, Shape};
 use generator::rng::Rng;
-use generator::{checked, directed, fixed, large, limit, listings, packing, rewriting};
+use generator::{checked, directed, fixed, large, limit, listings, packing, rewriting, tie_order};
 use jobs::Job;
 
 fn main() {
@@ -44,6 +46,11 @@ fn main() {
                 print!("{job}");
             }
         }
+        ["--tie-order", seed, count] => {
+            for job in had(tie_order::list(number(seed), number(count) as usize)) {
+                print!("{job}");
+            }
+        }
         ["--fixed", seed, count] => {
             for job in had(fixed::list(number(seed), number(count) as usize)) {
                 print!("{job}");
@@ -54,19 +61,14 @@ fn main() {
                 [qubits, nodes, operations].map(|n| number(n) as usize);
             print!("{}", large::job(number(seed), qubits, nodes, operations));
         }
-        ["--limits", seed, count] => {
-            for job in random_jobs(seed, count, &Shape::SMALL) {
-                limit::all(&job).iter().for_each(|job| print!("{job}"));
-            }
-        }
-        [seed, count] => {
-            for job in random_jobs(seed, count, &Shape::FULL) {
-                print!("{job}");
-            }
-        }
+        ["--second-first", "--limits", seed, count] => limits(random::second_first, seed, count),
+        ["--limits", seed, count] => limits(random::job, seed, count),
+        ["--second-first", seed, count] => full(random::second_first, seed, count),
+        [seed, count] => full(random::job, seed, count),
         _ => {
+            eprintln!("generator [--second-first] [--limits] SEED COUNT");
             eprintln!(
-                "generator [--limits | --fixed | --packing | --rewriting | --listings] SEED COUNT"
+                "generator --fixed | --packing | --rewriting | --tie-order | --listings SEED COUNT"
             );
             eprintln!("generator --large SEED QUBITS NODES OPERATIONS");
             eprintln!("generator --directed | --accepted | --refused | --answers");
@@ -90,9 +92,30 @@ fn write(listings: Vec<u8>) {
     written.expect("standard output is open");
 }
 
-fn random_jobs(seed: &str, count: &str, shape: &'static Shape) -> impl Iterator<Item = Job> {
+type Make = fn(&mut Rng, &Shape) -> Job;
+
+/// Random jobs of the full shape.
+fn full(make: Make, seed: &str, count: &str) {
+    for job in random_jobs(make, seed, count, &Shape::FULL) {
+        print!("{job}");
+    }
+}
+
+/// Small ones with every limit that refuses.
+fn limits(make: Make, seed: &str, count: &str) {
+    for job in random_jobs(make, seed, count, &Shape::SMALL) {
+        limit::all(&job).iter().for_each(|job| print!("{job}"));
+    }
+}
+
+fn random_jobs(
+    make: Make,
+    seed: &str,
+    count: &str,
+    shape: &'static Shape,
+) -> impl Iterator<Item = Job> {
     let mut rng = Rng::new(number(seed));
-    (0..number(count)).map(move |_| random::job(&mut rng, shape))
+    (0..number(count)).map(move |_| make(&mut rng, shape))
 }
 
 fn number(text: &str) -> u64 {

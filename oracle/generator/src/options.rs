@@ -13,6 +13,15 @@ pub fn random(rng: &mut Rng) -> Options {
     }
 }
 
+/// The second exchange first, and a window.
+pub fn second_first(rng: &mut Rng) -> Options {
+    Options {
+        window: rng.between(1, 6),
+        second_exchange_first: true,
+        ..random(rng)
+    }
+}
+
 /// Little is merged by streams, so that exchanges do the work, in many rounds.
 fn many_rounds(rng: &mut Rng) -> Options {
     Options {
@@ -36,6 +45,7 @@ fn any(rng: &mut Rng) -> Options {
         rounds: rng.pick(&[0, 1, 1, 2, 2, 3, 4, 6, 8, 8]),
         clifford_to_frame: rng.chance(75),
         eager_swaps: rng.chance(60),
+        second_exchange_first: false,
         lazy_cliffords: rng.chance(40),
         litinski: rng.chance(25),
         measure_depth: rng.chance(50),

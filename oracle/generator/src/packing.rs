@@ -20,6 +20,7 @@ const RECIPE: Recipe = Recipe {
     make: random::job,
     wide_every: 10,
     wide: &WIDE,
+    small: &Shape::SMALL,
     largest_limit: 1024,
 };
 

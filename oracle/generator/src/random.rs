@@ -44,6 +44,12 @@ pub fn job(rng: &mut Rng, shape: &Shape) -> Job {
     finished(rng, job)
 }
 
+/// One in the new order of ties, with a window (M-107).
+pub fn second_first(rng: &mut Rng, shape: &Shape) -> Job {
+    let options = options::second_first(rng);
+    job_with(rng, shape, options)
+}
+
 /// The same with these options.
 pub fn job_with(rng: &mut Rng, shape: &Shape, options: Options) -> Job {
     let job = Job {

@@ -15,6 +15,7 @@ const RECIPE: Recipe = Recipe {
     make: job,
     wide_every: 15,
     wide: &packing::WIDE,
+    small: &Shape::SMALL,
     largest_limit: 1024,
 };
 
@@ -36,6 +37,7 @@ fn options(rng: &mut Rng) -> Options {
         rounds: rng.pick(&[0, 1, 2, 8, 8, 255]),
         clifford_to_frame: rng.chance(70),
         eager_swaps: rng.chance(50),
+        second_exchange_first: false,
         lazy_cliffords: rng.chance(50),
         litinski: rng.chance(30),
         measure_depth: rng.chance(50),

@@ -17,6 +17,8 @@ pub struct Options {
     pub rounds: usize,
     pub clifford_to_frame: bool,
     pub eager_swaps: bool,
+    /// M-107: second with third before first with second.
+    pub second_exchange_first: bool,
     pub lazy_cliffords: bool,
     /// Strategy 1; merge is strategy 0.
     pub litinski: bool,
@@ -34,6 +36,7 @@ impl Options {
             rounds: 8,
             clifford_to_frame: true,
             eager_swaps: true,
+            second_exchange_first: false,
             lazy_cliffords: false,
             litinski: false,
             measure_depth: false,
@@ -88,6 +91,7 @@ impl fmt::Display for Job {
             o.rounds,
             flag(o.clifford_to_frame),
             flag(o.eager_swaps),
+            flag(o.second_exchange_first),
             flag(o.lazy_cliffords),
             flag(o.litinski),
             flag(o.measure_depth),

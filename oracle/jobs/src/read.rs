@@ -65,6 +65,7 @@ fn job(numbers: &mut Numbers, qubits: usize) -> Job {
         rounds: numbers.count(),
         clifford_to_frame: numbers.flag(),
         eager_swaps: numbers.flag(),
+        second_exchange_first: numbers.flag(),
         lazy_cliffords: numbers.flag(),
         litinski: numbers.flag(),
         measure_depth: numbers.flag(),

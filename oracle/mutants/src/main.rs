@@ -44,7 +44,9 @@ fn exit(message: &str) -> ! {
 fn survey() -> io::Result<()> {
     let mut text = String::new();
     io::stdin().read_to_string(&mut text)?;
-    let jobs: Vec<Job> = jobs::read_jobs(&text).collect();
+    // The wrong readings are of the order of ties that the original has.
+    let jobs = jobs::read_jobs(&text).filter(|job| !job.options.second_exchange_first);
+    let jobs: Vec<Job> = jobs.collect();
     let mut unseen = 0;
     for (name, run) in WRONG {
         let showing = jobs.iter().enumerate().filter(|(_, job)| shows(*run, job));

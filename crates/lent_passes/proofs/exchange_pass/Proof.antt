@@ -49,9 +49,9 @@ use Rattle.model.proofs.Counters as T
 use Rattle.axes.specs.declared.Sizes.{Sizes}
 use Rattle.axes.proofs.Sizes as S
 use Rattle.axes.proofs.Sizes.Laws as S′
-use Rattle.exchange.specs.declared.ExchangeRules.{ExchangeRules}
-use Rattle.exchange.proofs.ExchangeRules as L
-use Rattle.exchange.proofs.ExchangeRules.Laws as L′
+use Rattle.model.specs.declared.ExchangeRules.{ExchangeRules}
+use Rattle.model.proofs.ExchangeRules as L
+use Rattle.model.proofs.ExchangeRules.Laws as L′
 use Rattle.exchange.specs.declared.Progress.{Progress}
 use Rattle.exchange.proofs.Progress as R
 use Rattle.exchange.proofs.Progress.Laws as R′

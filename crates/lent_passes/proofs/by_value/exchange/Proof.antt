@@ -55,9 +55,9 @@ use Rattle.model.proofs.LentCounters.{local, lends-local, local-back}
 use Rattle.axes.specs.declared.Sizes.{Sizes}
 use Rattle.axes.proofs.Sizes as S
 use Rattle.axes.proofs.Sizes.Laws as S′
-use Rattle.exchange.specs.declared.ExchangeRules.{ExchangeRules}
-use Rattle.exchange.proofs.ExchangeRules as L
-use Rattle.exchange.proofs.ExchangeRules.Laws as L′
+use Rattle.model.specs.declared.ExchangeRules.{ExchangeRules}
+use Rattle.model.proofs.ExchangeRules as L
+use Rattle.model.proofs.ExchangeRules.Laws as L′
 use Rattle.exchange.specs.declared.Progress.{Progress}
 use Rattle.exchange.proofs.Progress as R
 use Rattle.exchange.proofs.Progress.Laws as R′
@@ -242,7 +242,7 @@ module _ {M : Type 1} (𝓤 : URA M) (H : Heap 𝓤) (A : Atoms 𝓤) (W : Given
         → ent 𝓤 Entry (WpFn 𝓤 H C Λ code.function passed Post)
     walk gw gx =
         qed W (raw Entry ∷ []) ∵ enter ! C Λ code.function passed _ $ alloc1 ! (λ l0. alloc1 ! (λ l1. alloc1 ! (λ l2. alloc1 ! (λ l3.
-        alloc1 ! (λ l4. alloc1 ! (λ l5. alloc1 ! (λ l7. alloc1 ! (λ l7. alloc1 ! (λ l8. alloc1 ! (λ l9. alloc1 ! (λ l10. alloc1 ! (λ l11.
+        alloc1 ! (λ l4. alloc1 ! (λ l5. alloc1 ! (λ l6. alloc1 ! (λ l7. alloc1 ! (λ l8. alloc1 ! (λ l9. alloc1 ! (λ l10. alloc1 ! (λ l11.
         alloc1 ! (λ l12. alloc0 ! $ params1 ! $
         pass1 ! (init ! 22 refl (shr-slice-lawful 𝓤 H A W (named 0) κw u64 .typed xw _ gw .0)) $
         pass1 ! (init ! 20 refl (tt, (tt, (record { fits = gx .0 }, tt)))) $
