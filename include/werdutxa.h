@@ -92,14 +92,14 @@ struct werdutxa_options {
     size_t rounds;          /* the most rounds, 0 leaves the rotations as they are; at most 255 */
     bool clifford_to_frame; /* whether even rotations are absorbed into the frame */
     bool eager_swaps;       /* whether an exchange is taken also where only rotations are saved */
-    bool second_exchange_first; /* where both exchanges of a triple improve: second with third, not first with second */
+    bool second_exchange_first; /* where both exchanges of three groups improve: second with third, not first with second */
     bool lazy_cliffords;    /* whether even rotations wait until they must be absorbed */
     bool litinski;          /* Litinski's layers, in place of merging */
     bool measure_depth;     /* whether T-depths are counted */
     size_t limit;           /* the most words that a run may need; at most 1,048,576 */
 };
 
-/* The defaults of the Rust; its limit is outside of the domain, so here it is the largest. */
+/* The defaults of the Rust; its limit is outside of the domain, so here it is the largest; it has no second_exchange_first. */
 #define WERDUTXA_DEFAULTS {1048576, 0, 16, 8, true, true, false, false, false, false, 1048576}
 
 /* What a call is lent. After 0 it holds results and then zeros, after 9 and 10 words and numbers are zero, after 1 to 8 and 11 all is as it was. */

@@ -1,4 +1,4 @@
-/* 01's example twice: as records through Rewriting, and as a listing through Listing. */
+/* 01's example twice: as records through Rewriting, and as a listing through Listing; then a program in both orders of ties. */
 #include <inttypes.h>
 #include <stdio.h>
 #include <string.h>
@@ -77,6 +77,50 @@ static void rewrite(size_t limit) {
         printf("axis %zu: x %" PRIu64 ", z %" PRIu64 "\n", id, words[2 * id], words[2 * id + 1]);
 }
 
+/* the identity, X and Z of qubit 0, X and Z of qubit 1 */
+static const uint32_t tie_nodes[] = {
+    WERDUTXA_IDENTITY, 0, 0, 0, 0,
+    WERDUTXA_LETTER, 0, WERDUTXA_X, 0, 0,
+    WERDUTXA_LETTER, 0, WERDUTXA_Z, 0, 0,
+    WERDUTXA_LETTER, 1, WERDUTXA_X, 0, 0,
+    WERDUTXA_LETTER, 1, WERDUTXA_Z, 0, 0,
+};
+
+/* T rotations about X0, X1, X0, Z0, X1: the first three may be exchanged in two ways, and both improve */
+static const uint32_t tie_operations[] = {
+    WERDUTXA_ROTATE, 1, 0, 1, WERDUTXA_NONE, WERDUTXA_NONE,
+    WERDUTXA_ROTATE, 3, 0, 1, WERDUTXA_NONE, WERDUTXA_NONE,
+    WERDUTXA_ROTATE, 1, 0, 1, WERDUTXA_NONE, WERDUTXA_NONE,
+    WERDUTXA_ROTATE, 2, 0, 1, WERDUTXA_NONE, WERDUTXA_NONE,
+    WERDUTXA_ROTATE, 3, 0, 1, WERDUTXA_NONE, WERDUTXA_NONE,
+};
+
+static const uint32_t tie_rows[] = {0, 0, 1, 0, 0, 1, 2, 0, 1, 0, 3, 0, 1, 1, 4, 0};
+
+static void rewrite_in_order(bool second_exchange_first) {
+    enum { TIE_QUBITS = 2, TIE_NODES = 5, TIE_OPERATIONS = 5, TIE_LIMIT = 16 };
+    static uint64_t tie_words[TIE_LIMIT + 16];
+    static uint32_t tie_numbers[24 * (TIE_NODES + TIE_OPERATIONS + 2 * TIE_QUBITS + TIE_LIMIT / 2 + 1)];
+    static uint32_t left[LENGTH(tie_operations)], left_rows[LENGTH(tie_rows)];
+    const struct werdutxa_program ties = {
+        TIE_QUBITS, TIE_NODES, TIE_OPERATIONS, tie_nodes, LENGTH(tie_nodes),
+        tie_operations, LENGTH(tie_operations), tie_rows, LENGTH(tie_rows),
+    };
+    const struct werdutxa_memory lent = {
+        tie_words, LENGTH(tie_words), tie_numbers, LENGTH(tie_numbers), left, LENGTH(left), left_rows, LENGTH(left_rows),
+    };
+    struct werdutxa_options options = WERDUTXA_DEFAULTS;
+    options.lookback = 0;
+    options.window = 1;
+    options.clifford_to_frame = false;
+    options.second_exchange_first = second_exchange_first;
+    options.limit = TIE_LIMIT;
+    struct werdutxa_counted counted;
+    uint32_t answer = werdutxa_rewrite_program(&ties, &options, &lent, &counted);
+    printf("second exchange first %d: rewriting %" PRIu32 ", T-count %zu before, %zu after, %zu exchanges\n",
+           second_exchange_first, answer, counted.t_before, counted.t_after, counted.swaps);
+}
+
 int main(void) {
     rewrite(LIMIT);
     rewrite(LIMIT - 1);
@@ -84,5 +128,7 @@ int main(void) {
     size_t size;
     uint32_t answer = werdutxa_list_text((const uint8_t *)listing, strlen(listing), output, sizeof output, &memory, &size);
     printf("listing %" PRIu32 "\n%.*s", answer, (int)size, (const char *)output);
+    rewrite_in_order(false);
+    rewrite_in_order(true);
     return 0;
 }

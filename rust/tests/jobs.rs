@@ -1,4 +1,4 @@
-//! The gate's jobs for Rewriting, answered by the original: every counter and every lent slice. No two options can be exchanged unseen.
+//! The gate's jobs for Rewriting, answered by the original or, in M-107's order of ties, by its copy: every counter and every lent slice. No two options can be exchanged unseen.
 
 mod lent;
 
@@ -9,7 +9,7 @@ const JOBS: &str = include_str!("../../crates/rewriting_main/stdin");
 const LEFT: &str = include_str!("../../crates/rewriting_main/stdout");
 
 /// Behind these come jobs that Checking refuses, which are lent in special ways.
-const ANSWERED_BY_THE_ORIGINAL: usize = 301;
+const ANSWERED_BY_THE_ORIGINAL: usize = 342;
 
 struct Job {
     program: Program,
@@ -30,7 +30,8 @@ fn records<const N: usize>(numbers: &mut dyn Iterator<Item = i64>, count: usize)
 fn job(numbers: &mut dyn Iterator<Item = i64>) -> Job {
     let [qubits, nodes, operations] = std::array::from_fn(|_| next(numbers));
     let [limit, lookback, window, candidates, rounds] = std::array::from_fn(|_| next(numbers));
-    let [clifford_to_frame, eager_swaps, lazy_cliffords, litinski, measure_depth] = std::array::from_fn(|_| next(numbers) == 1);
+    let [clifford_to_frame, eager_swaps, second_exchange_first] = std::array::from_fn(|_| next(numbers) == 1);
+    let [lazy_cliffords, litinski, measure_depth] = std::array::from_fn(|_| next(numbers) == 1);
     let slack: [usize; 4] = std::array::from_fn(|_| next(numbers));
     let strategy = if litinski { Strategy::Litinski } else { Strategy::Merge };
     let options = Options {
@@ -40,7 +41,7 @@ fn job(numbers: &mut dyn Iterator<Item = i64>) -> Job {
         rounds,
         clifford_to_frame,
         eager_swaps,
-        second_exchange_first: false,
+        second_exchange_first,
         lazy_cliffords,
         strategy,
         measure_depth,

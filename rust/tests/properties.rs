@@ -279,3 +279,36 @@ fn strings_on_bad_records() {
         assert_eq!(view.is_none(), answer.is_err_and(|refusal| refusal.number() <= 8));
     }
 }
+
+/// In either order of ties more rounds leave no higher T-count; without exchanges the order has no say.
+#[test]
+fn both_orders_of_ties() {
+    let random = &mut Random::new(7);
+    let mut differ = 0;
+    for _ in 0..CASES {
+        let program = rotations(random);
+        let window = random.pick(&[0, 1, 1, 2]);
+        let options = Options { window, lookback: 0, ..options(random, 0) };
+        let left = |rounds, second_exchange_first| {
+            let options = Options { rounds, second_exchange_first, ..options };
+            optimize(&program, &options).unwrap()
+        };
+        let [old, new] = [false, true].map(|second| (0..4).map(|rounds| left(rounds, second)).collect::<Vec<_>>());
+        for runs in [&old, &new] {
+            assert!(runs.windows(2).all(|pair| pair[1].counted.t_after <= pair[0].counted.t_after), "{program:?}");
+        }
+        assert!(old == new || window > 0 && options.strategy == Strategy::Merge, "{program:?}");
+        differ += usize::from(old != new);
+    }
+    assert!(differ > 100, "{differ}");
+}
+
+/// T and S rotations about few axes of two qubits, so that exchanges find partners.
+fn rotations(random: &mut Random) -> Program {
+    let mut program = Program::new(2);
+    for _ in 0..3 + random.below(8) {
+        let axis = random.pick(&["X0", "X1", "Z0"]);
+        program.rotate(axis, random.pick(&[1, 1, 2, -1])).unwrap();
+    }
+    program
+}

@@ -201,3 +201,40 @@ fn rounds_depth_and_absorption() {
     };
     assert_eq!((absorbed(false), absorbed(true)), (0, 1));
 }
+
+/// T rotations, each about an axis.
+fn rotations(axes: &[&str]) -> Program {
+    let mut program = Program::new(2);
+    for axis in axes {
+        program.rotate(axis, 1).unwrap();
+    }
+    program
+}
+
+/// Programs on which the orders of ties end at different T-counts, one each way.
+#[test]
+fn neither_order_of_ties_is_always_better() {
+    let axes = ["X0", "X1", "X0", "Z0", "X1"];
+    let backwards = ["X1", "Z0", "X0", "X1", "X0"];
+    let options = Options { lookback: 0, window: 1, clifford_to_frame: false, ..Options::with_limit(64) };
+    let left = |program: &Program, second_exchange_first| {
+        let counted = run(program, &Options { second_exchange_first, ..options }).unwrap().counted;
+        (counted.t_after, counted.swaps)
+    };
+    for (axes, old, new) in [(axes, (3, 1), (1, 2)), (backwards, (1, 2), (3, 1))] {
+        let program = rotations(&axes);
+        assert_eq!([left(&program, false), left(&program, true)], [old, new]);
+    }
+    assert!(!Options::default().second_exchange_first);
+}
+
+/// Where both exchanges improve, the new order makes the second: the rotations come out the other way round.
+#[test]
+fn second_with_third_where_both_improve() {
+    let program = rotations(&["X0", "X1", "X0"]);
+    let options = Options { lookback: 0, window: 1, rounds: 1, clifford_to_frame: false, ..Options::with_limit(64) };
+    let left = |second_exchange_first| run(&program, &Options { second_exchange_first, ..options }).unwrap().operations;
+    let turned = |axis, angle| Operation::Rotate { axis: pauli(axis), angle };
+    assert_eq!(left(false), [turned("X1", 1), turned("X0", 2)]);
+    assert_eq!(left(true), [turned("X0", 2), turned("X1", 1)]);
+}

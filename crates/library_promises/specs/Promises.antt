@@ -3,21 +3,23 @@
 -- the slices t. By `rewriting-called` (Calls) it is a call that `promises` speaks of, so all that is promised there holds of it, and the wrong
 -- programs named there are ruled out; here stand the mission's sentences. Assumes nothing.
 use mathlib.Core.Path.{_≡_, refl, sym, ap, _∙_}
-use mathlib.Core.Logic.{_⊎_, inl, inr, ⊎-elim}
+use mathlib.Core.Logic.{_⊎_, inl, inr, _↔_, ⊎-elim}
 use mathlib.Core.Bool.{Bool}
 use mathlib.Core.List.{List}
-use Prim.Native.Nat.{ℕ, _-_, _≤_}
+use Prim.Native.Nat.{ℕ, _+_, _-_, _≤_}
 use native.Mathlib.Omega.{arith}
-use lib.ListN.{length}
+use lib.ListN.{length, getD}
 use Rattle.groups.specs.Abelian.{pow2}
 use Rattle.model.specs.declared.Options.{Options}
 use Rattle.model.specs.declared.Answer.{Answer}
-use Rattle.model.specs.declared.Answer.the-variants.{Accepted, NonHermitianAxis}
+use Rattle.model.specs.declared.Answer.the-variants.{Accepted, SliceShort, NonHermitianAxis}
+use Rattle.model.specs.declared.Strategy.the-variants.{Litinski}
 use Rattle.model.specs.Interface.{numberOf, noCounters}
 use Rattle.model.specs.Program.{Job, programOf}
 use Rattle.model.specs.Checking.{Lent}
-use Rattle.model.specs.Rewriting.{rewriting}
-use Rattle.theory.specs.Replies.{limitOf}
+use Rattle.model.specs.Rewriting.{Reply, rewriting}
+use Rattle.theory.specs.Replies.{runOf, limitOf}
+use Rattle.theory.specs.WithoutExchange.{inOrder, reply-in-order}
 use Rattle.run_effect.specs.RunEffect.{Effects, sourceEffect, resultEffect}
 use Rattle.promises.specs.Left.{operationsIn, rowsIn, wordsIn}
 use Rattle.promises.specs.Strategies.{endWork}
@@ -25,7 +27,7 @@ use Rattle.promises.specs.Alike.{AlikeButRoundsAndLimit, AlikeButLimit}
 use Rattle.promises.specs.Promises.{Cleared, AcceptanceLeaves, SameLeft, tCountHanded, tCountLeft}
 use Rattle.promises.specs.Promises as rewriting-promises
 use Rattle.werdutxa.specs.Calls.{countedBy, ExportedCall}
-use Rattle.library_promises.specs.Calls.{rewriting-called, rewriting-called-as}
+use Rattle.library_promises.specs.Calls.{rewriting-called, rewriting-answered, rewriting-called-as}
 
 -- fourteen zeros
 abbrev pub nothingCounted : List ℕ
@@ -76,7 +78,8 @@ module _ {o : Options} {j : Job} {s : Lent} {r : ℕ} {k : List ℕ} {t : Lent} 
 
 module _ {o o′ : Options} {j j′ : Job} {s s′ : Lent} {r r′ : ℕ} {k k′ : List ℕ} {t t′ : Lent} (x : ExportedCall o j s r k t)
     (y : ExportedCall o′ j′ s′ r′ k′ t′) where
-  -- "Of two accepted runs alike but for rounds and word limit, the one with more rounds has no higher T-count"
+  -- "Of two accepted runs alike but for rounds and word limit, the one with more rounds has no higher T-count". 02, M-107: "Users of either
+  -- order still never see the T-count rise as rounds are added, each order compared with itself": the order is among what is alike
   pub more-rounds-never-worse : r ≡ 0 → r′ ≡ 0 → AlikeButRoundsAndLimit o o′ j j′ → o .rounds ≤ o′ .rounds
       → tCountLeft j′ t′ ≤ tCountLeft j t
   more-rounds-never-worse e e′ =
@@ -101,3 +104,58 @@ module _ {o o′ : Options} {j j′ : Job} {s s′ : Lent} {r r′ : ℕ} {k k�
           let p = rewriting-promises.larger-limit-same-answer (rewriting-called-as x a f) (rewriting-called y) alike g h l
           (λ i. n (y .answer ∙ ap numberOf i)) in
           y .answer ∙ ap numberOf (p .0) ∙ sym f
+
+-- ==== Request M-103. "Report the words exactly"
+
+-- the fourteenth number that a call counts
+abbrev pub wordsCounted : List ℕ → ℕ
+wordsCounted k = getD k 13 0
+
+module _ {o : Options} {j : Job} {s : Lent} {r : ℕ} {k : List ℕ} {t : Lent} (call : ExportedCall o j s r k t) where
+  words-are : wordsCounted k ≡ rewriting o j s .counters .«packed_words»
+  unfolding countedBy
+  words-are = ap wordsCounted (call .counts)
+
+  -- "A rewriting should return the largest word sum that was tested"
+  pub words-told : r ≡ 0 → wordsCounted k ≡ runOf o j .peak
+  words-told e = words-are ∙ rewriting-promises.words-told (rewriting-called-as call Accepted e) refl
+
+-- a second call, alike but for the limit, with stores that are long enough for it
+module _ {o o′ : Options} {j j′ : Job} {s s′ : Lent} {r r′ : ℕ} {k k′ : List ℕ} {t t′ : Lent} (x : ExportedCall o j s r k t)
+    (y : ExportedCall o′ j′ s′ r′ k′ t′) (done : r ≡ 0) (alike : AlikeButLimit o o′ j j′) (long : r′ ≡ 3 → ⊥) where
+  not-short : rewriting o′ j′ s′ .answer ≡ SliceShort → ⊥
+  not-short e = long (y .answer ∙ ap numberOf e)
+
+  -- it is accepted exactly if its limit is no smaller than the number that the first call counted
+  pub accepted-by-the-number : limitOf o′ ≤ 1048576 → (r′ ≡ 0) ↔ (wordsCounted k ≤ limitOf o′)
+  accepted-by-the-number h =
+      let exactly = rewriting-promises.accepted-by-the-number (rewriting-called-as x Accepted done) (rewriting-called y) alike not-short h in
+      (λ e. rw (words-are x) (exactly .0 (rewriting-answered y Accepted e)),
+      λ e. y .answer ∙ ap numberOf (exactly .1 (rw (words-are x) at e)))
+
+  -- the number as the limit: accepted, with the same results and counts
+  pub number-is-enough : limitOf o′ ≡ wordsCounted k → (r′ ≡ 0) × (SameLeft t t′ × (k′ ≡ k))
+  number-is-enough e =
+      let enough = rewriting-promises.number-is-enough (rewriting-called-as x Accepted done) (rewriting-called y) alike not-short
+      (e ∙ words-are x) in
+      let done′ = y .answer ∙ ap numberOf (enough .0) in
+      (done′, equal-rounds-equal-results x y done done′ alike)
+
+  -- one less: 10
+  pub one-less-is-refused : limitOf o′ + 1 ≡ wordsCounted k → r′ ≡ 10
+  one-less-is-refused e =
+      y .answer ∙ ap numberOf (rewriting-promises.one-less-is-refused (rewriting-called-as x Accepted done) (rewriting-called y) alike not-short
+      (e ∙ words-are x))
+
+-- ==== Request M-107. "Second exchange first". Every promise above is of any options, so of either order
+
+module _ {o : Options} {j : Job} {s : Lent} {r : ℕ} {k : List ℕ} {t : Lent} where
+  -- "A new setting chooses this order of ties": in Litinski's strategy and at window 0 it has no say
+  pub order-has-no-say : (b : Bool) → (o .strategy ≡ Litinski) ⊎ (o .window ≡ 0) → ExportedCall (inOrder b o) j s r k t → ExportedCall o j s r k t
+  order-has-no-say b none call =
+      let same = reply-in-order b o j s none in
+      record {
+        answer = call .answer ∙ ap (λ (x : Reply). numberOf (x .answer)) same;
+        counts = call .counts ∙ ap (λ (x : Reply). countedBy (x .counters) (x .operations) (x .axes)) same;
+        lent = call .lent ∙ ap (λ (x : Reply). x .lent) same;
+      }

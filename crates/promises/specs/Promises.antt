@@ -36,6 +36,7 @@ use Rattle.theory.specs.TCountCalls.{accepted-hermitian, accepted-counters, acc
 use Rattle.theory.specs.TCountCalls.{no-more-than-source, no-more-with-more-rounds}
 use Rattle.theory.specs.EqualRounds.{equal-rounds}
 use Rattle.theory.specs.Hermitian.{Hermitian, accepted-exactly, limit-exactly}
+use Rattle.theory.specs.WithoutExchange.{inOrder, reply-in-order}
 use Rattle.run_wellformed.specs.Lengths.{SameLengths, same-lengths}
 use Rattle.result_effect.specs.Calls.{call-fine, call-hermitian}
 use Rattle.run_effect.specs.RunEffect.{Effects, sourceEffect, resultEffect, run-keeps-effect}
@@ -236,7 +237,8 @@ module _ {o : Options} {j : Job} {s : Lent} {c : Counters} {m n : ℕ} {t : Lent
       omega arith
 
 module _ {o o′ : Options} {j j′ : Job} {s s′ : Lent} {c c′ : Counters} {m n m′ n′ : ℕ} {t t′ : Lent} where
-  -- "Of two accepted runs alike but for rounds and word limit, the one with more rounds has no higher T-count".
+  -- "Of two accepted runs alike but for rounds and word limit, the one with more rounds has no higher T-count". 02, M-107: "Users of either
+  -- order still never see the T-count rise as rounds are added, each order compared with itself": the order is among what is alike.
   -- Rules out: a last round whose worse result is kept; another strategy where there are many rounds
   pub more-rounds-never-worse : Called o j s Accepted c m n t → Called o′ j′ s′ Accepted c′ m′ n′ t′ → AlikeButRoundsAndLimit o o′ j j′
       → o .rounds ≤ o′ .rounds
@@ -369,7 +371,11 @@ module _ {o o′ : Options} {j j′ : Job} {s s′ : Lent} {a′ : Answer} {c c�
   one-less-is-refused e =
       limit-where y (passed-again (omega (arith, within-domain))) .1 (omega (arith, e, words-again))
 
--- ==== Request M-107. "Second exchange first"
+-- ==== Request M-107. "Second exchange first". Every promise above is of any options, so of either order
 
--- "Users of either order still never see the T-count rise as rounds are added, each order compared with itself": `more-rounds-never-worse`, of
--- calls whose orders agree (`AlikeButRoundsAndLimit`, `secondFirst`), whichever it is; so with every other promise here
+module _ {o : Options} {j : Job} {s : Lent} {a : Answer} {c : Counters} {m n : ℕ} {t : Lent} where
+  -- "A new setting chooses this order of ties": where no exchange is tried, in Litinski's strategy and at window 0, it has no say, and a call
+  -- in either order is one in the other.
+  -- Rules out: the setting taken for that of lazy absorption; layers that are swept the other way round
+  pub order-has-no-say : (b : Bool) → (o .strategy ≡ Litinski) ⊎ (o .window ≡ 0) → Called (inOrder b o) j s a c m n t → Called o j s a c m n t
+  order-has-no-say b none call = record { replied = call .replied ∙ reply-in-order b o j s none }

@@ -14,6 +14,7 @@ pub mod StreamState
 pub mod SweepsEnd
 pub mod SwapsEnd
 pub mod TieOrder
+pub mod WithoutExchange
 pub mod Segments
 pub mod SegmentAxes
 pub mod Steady
