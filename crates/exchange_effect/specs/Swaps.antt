@@ -7,7 +7,6 @@ use Prim.Native.Nat.{ℕ, zero, suc, _+_, _%_, _<_}
 use native.Mathlib.Omega.{arith}
 use lib.ListN.{length}
 use Rattle.model.specs.declared.ExchangeRules.{ExchangeRules}
-use Rattle.model.specs.Lists.{if_then_else_}
 use Rattle.model.specs.Items.{Rot, isNonzero, dropZeroRots}
 use Rattle.model.specs.Exchange.{generatorsCommute, mergeBack, mergeLocally, improves, Triple, triples, Swap, swapOf, tryExchange, firstWithSecond}
 use Rattle.model.specs.Exchange.{secondWithThird, tryTriple, RunEnd, Swapping, nextStart, runEnd, swapStep, swapsFrom, swaps}

@@ -8,7 +8,7 @@ use native.Mathlib.Nat.{le-refl, le-trans}
 use native.Mathlib.Omega.{arith}
 use lib.ListN.{length, length-append, length-map, length-reverse}
 use Rattle.model.specs.declared.ExchangeRules.{ExchangeRules}
-use Rattle.model.specs.Lists.{if_then_else_, keep, sumOf}
+use Rattle.model.specs.Lists.{keep, sumOf}
 use Rattle.model.specs.Items.{Rot, Item, rotation, barrier, isNonzero, dropZeroRots, Segment, endSegment, rewriteFrom, rewriteSegments}
 use Rattle.model.specs.Exchange.{mergeBack, mergeLocally, improves, Start, starts, End, ends, Triple, withEnds, withStarts, triples, Swap, swapOf}
 use Rattle.model.specs.Exchange.{tryExchange, firstWithSecond, secondWithThird, tryTriple, RunEnd, runEndFrom, Swapping, nextStart, runEnd, swapStep}

@@ -7,14 +7,14 @@ use Rattle.pauli.specs.Word.{width}
 use Rattle.model.specs.Program.{Program}
 use Rattle.model.specs.Rules.{Rules}
 use Rattle.model.specs.Packing.{packed}
-use Rattle.model.specs.Items.{Item, rotation, barrier, rewriteSegments}
+use Rattle.model.specs.Items.{Item}
 use Rattle.model.specs.Stream.{begin}
 use Rattle.model.specs.Exchange.{swaps}
 use Rattle.model.specs.Layering.{layerSegment}
 use Rattle.model.specs.Rounds.{Work, exchangePass, layeringPass}
 use Rattle.model.specs.Run.{startOf, endOf}
 use Rattle.theory.specs.Cases.{by-if}
-use Rattle.theory.specs.Every.{Every, every-weaken}
+use Rattle.theory.specs.Every.{Every}
 use Rattle.theory.specs.Segments.{swaps-by, layerSegment-by, rewriteSegments-every}
 use Rattle.theory.specs.Checked.{Fine}
 use Rattle.words_wellformed.specs.PassWords.{WellPass, afterItems}

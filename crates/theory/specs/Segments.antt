@@ -6,7 +6,7 @@ use mathlib.Core.List.{List, [], _∷_, _++_, map, append-assoc, append-nil}
 use Prim.Native.Nat.{ℕ, zero, suc, _+_, _%_}
 use lib.ListN.{length}
 use Rattle.model.specs.declared.ExchangeRules.{ExchangeRules}
-use Rattle.model.specs.Lists.{if_then_else_, keep}
+use Rattle.model.specs.Lists.{keep}
 use Rattle.model.specs.Items.{Rot, rot, Item, rotation, barrier, isNonzero, dropZeroRots, Segment, endSegment, rewriteFrom, rewriteSegments}
 use Rattle.model.specs.Exchange.{mergeBack, mergeLocally, improves, Start, starts, End, ends, Triple, withEnds, withStarts, triples, Swap, swapOf}
 use Rattle.model.specs.Exchange.{tryExchange, firstWithSecond, secondWithThird, tryTriple, RunEnd, runEndFrom, Swapping, nextStart, runEnd, swapStep}
