@@ -487,6 +487,18 @@ const RULES: &[Case] = &[
         begins: "0 10 4 1 1 0 4 9",
     },
     Case {
+        rule: "M-107: inside one start and end only: first with second there before second with third at the next",
+        operations: "XY:3 YZ:3 IX:5 ZI:5 XY:3 -YZ:5 XY:5",
+        change: options!(
+            lookback = 0,
+            window = 3,
+            candidates = 1,
+            rounds = 1,
+            second_exchange_first = true
+        ),
+        begins: "0 7 3 0 1 1 3 9",
+    },
+    Case {
         rule: "M-107: a program of which the old order leaves 3 T ..",
         operations: "XI:1 IX:1 XI:1 ZI:1 IX:1",
         change: options!(lookback = 0, window = 1, clifford_to_frame = false),
