@@ -1,7 +1,7 @@
 -- The three demands about `werdutxa_rewrite` of include/werdutxa.h, which customers link, in the numbers that a caller sees. What it ensures for
 -- all arguments is `ExportedCall o j s r k t`: with options o, job j and slices s lent a call returned r, counted the fourteen numbers k and left
 -- the slices t. By `rewriting-called` (Calls) it is a call that `promises` speaks of, so all that is promised there holds of it, and the wrong
--- programs named there are ruled out; here stand the mission's sentences. Assumes nothing.
+-- programs named there are ruled out; here stand the mission's sentences, and those of requests that promise something. Assumes nothing.
 use mathlib.Core.Path.{_≡_, refl, sym, ap, _∙_}
 use mathlib.Core.Logic.{_⊎_, inl, inr, _↔_, ⊎-elim}
 use mathlib.Core.Bool.{Bool}

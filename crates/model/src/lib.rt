@@ -8,7 +8,7 @@ pub enum Strategy {
     Litinski,
 }
 
-// The options of `OptimizeOptions`.
+// The options of `OptimizeOptions`, and the order of ties, which it does not have.
 pub struct Options {
     pub lookback: usize,
     pub window: usize,
@@ -23,7 +23,7 @@ pub struct Options {
     pub max_packed_words: usize,
 }
 
-// What an exchange goes by.
+// What an exchange goes by, of the options.
 pub struct ExchangeRules {
     pub window: usize,
     pub candidates: usize,

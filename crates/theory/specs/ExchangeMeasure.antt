@@ -12,7 +12,8 @@ use Rattle.model.specs.declared.ExchangeRules.{ExchangeRules}
 use Rattle.model.specs.Rules.{Rules}
 use Rattle.model.specs.Items.{Rot, rot, Item, rotation, barrier, isNonzero, dropZeroRots, Segment, endSegment, rewriteFrom, rewriteSegments}
 use Rattle.model.specs.Exchange.{mergeBack, mergeLocally, improves, Start, starts, End, ends, Triple, withEnds, withStarts, triples, Swap, swapOf}
-use Rattle.model.specs.Exchange.{tryExchange, firstWithSecond, secondWithThird, tryTriple, RunEnd, runEndFrom, runEnd, Swapping, nextStart, swapStep, swapsFrom, swaps}
+use Rattle.model.specs.Exchange.{tryExchange, firstWithSecond, secondWithThird, tryTriple, RunEnd, runEndFrom, runEnd, Swapping, nextStart, swapStep}
+use Rattle.model.specs.Exchange.{swapsFrom, swaps}
 use Rattle.model.specs.Rounds.{Work, exchangePass}
 use Rattle.theory.specs.Cases.{by-if}
 use Rattle.theory.specs.TieOrder.{tryTriple-either}
