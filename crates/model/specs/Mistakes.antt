@@ -65,6 +65,22 @@ options = record {
   «max_packed_words» = 5;
 }
 
+-- no flag but the order of ties
+abbrev newOrder : Options
+newOrder = record {
+  lookback = 0;
+  window = 0;
+  candidates = 0;
+  rounds = 0;
+  «clifford_to_frame» = false;
+  «eager_swaps» = false;
+  «second_exchange_first» = true;
+  «lazy_cliffords» = false;
+  strategy = Merge;
+  «measure_depth» = false;
+  «max_packed_words» = 0;
+}
+
 -- the T-count after a number of rounds, with Rust's other defaults
 abbrev tLeft : ℕ → Program → ℕ
 tLeft rounds p = tCount (endOf (rules 1048576 0 16 atOnce) rounds p .items)
@@ -96,6 +112,8 @@ pub record RuledOut : Type 0 where
         strategy = Litinski;
         depth = true;
       }
+  -- another flag taken for the order of ties
+  pub order-to-rules : rulesOf newOrder .exchange .«second_first» ≡ true
   -- a stop rule with "higher" for "no lower": IY:1 YI:2 YY:2 YY:6 YI:6 IY:1 would keep none
   pub no-lower-stops :
       tCount (endOf (rules 0 0 16 off) 8 (qubits (turn 1 1 ∷ turn 2 2 ∷ turn 3 2 ∷ turn 3 6 ∷ turn 2 6 ∷ turn 1 1 ∷ [])) .items) ≡ 2
@@ -121,6 +139,7 @@ ruled-out = record {
   exchange-goes-on = refl;
   second-with-third = refl;
   options-to-rules = refl;
+  order-to-rules = refl;
   no-lower-stops = refl;
   four-rounds = refl;
   streams-apart = refl;
