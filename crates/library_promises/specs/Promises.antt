@@ -129,9 +129,10 @@ module _ {o o′ : Options} {j j′ : Job} {s s′ : Lent} {r r′ : ℕ} {k k�
   -- it is accepted exactly if its limit is no smaller than the number that the first call counted
   pub accepted-by-the-number : limitOf o′ ≤ 1048576 → (r′ ≡ 0) ↔ (wordsCounted k ≤ limitOf o′)
   accepted-by-the-number h =
-      let exactly = rewriting-promises.accepted-by-the-number (rewriting-called-as x Accepted done) (rewriting-called y) alike not-short h in
-      (λ e. rw (words-are x) (exactly .0 (rewriting-answered y Accepted e)),
-      λ e. y .answer ∙ ap numberOf (exactly .1 (rw (words-are x) at e)))
+      let exactly = rewriting-promises.accepted-by-the-number (rewriting-called-as x Accepted done) (rewriting-called y) alike not-short h in (
+        λ e. rw (words-are x) (exactly .0 (rewriting-answered y Accepted e)),
+        λ e. y .answer ∙ ap numberOf (exactly .1 (rw (words-are x) at e)),
+      )
 
   -- the number as the limit: accepted, with the same results and counts
   pub number-is-enough : limitOf o′ ≡ wordsCounted k → (r′ ≡ 0) × (SameLeft t t′ × (k′ ≡ k))
