@@ -46,7 +46,12 @@ pub fn job(rng: &mut Rng, shape: &Shape) -> Job {
 
 /// One in the new order of ties, with a window (M-107).
 pub fn second_first(rng: &mut Rng, shape: &Shape) -> Job {
-    let options = options::second_first(rng);
+    job_by(rng, shape, options::second_first)
+}
+
+/// The same with options of a kind.
+pub fn job_by(rng: &mut Rng, shape: &Shape, options: fn(&mut Rng) -> Options) -> Job {
+    let options = options(rng);
     job_with(rng, shape, options)
 }
 

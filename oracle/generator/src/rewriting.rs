@@ -24,8 +24,7 @@ pub fn list(seed: u64, count: usize) -> List {
 }
 
 fn job(rng: &mut Rng, shape: &Shape) -> Job {
-    let options = options(rng);
-    random::job_with(rng, shape, options)
+    random::job_by(rng, shape, options)
 }
 
 fn options(rng: &mut Rng) -> Options {

@@ -43,8 +43,7 @@ fn in_order(job: &Job, second_exchange_first: bool) -> Job {
 }
 
 fn job(rng: &mut Rng, shape: &Shape) -> Job {
-    let options = options(rng);
-    random::job_with(rng, shape, options)
+    random::job_by(rng, shape, options)
 }
 
 fn options(rng: &mut Rng) -> Options {

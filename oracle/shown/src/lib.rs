@@ -6,7 +6,7 @@ include!(concat!(env!("OUT_DIR"), "/src/root.rs"));
 /// Run a job, and hand back also what the inserted lines wrote down.
 pub fn run(job: &jobs::Job) -> (jobs::Seen, record::Record) {
     if job.options.second_exchange_first {
-        return turned::shown(job);
+        return second_first::shown(job);
     }
     record::during(|| pbc::PbcCircuit::run_job(job))
 }

@@ -5,7 +5,7 @@ include!(concat!(env!("OUT_DIR"), "/src/root.rs"));
 /// Run a job.
 pub fn run(job: &jobs::Job) -> jobs::Seen {
     if job.options.second_exchange_first {
-        return turned::plain(job);
+        return second_first::plain(job);
     }
     pbc::PbcCircuit::run_job(job)
 }

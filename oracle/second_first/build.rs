@@ -18,11 +18,11 @@ mod shown { pub mod pbc; }
 ";
 
 fn main() {
-    let turned = Edits::replacements(Path::new("second_first.txt"));
+    let second_first = Edits::replacements(Path::new("second_first.txt"));
     let insertions = Edits::insertions(Path::new("../shown/insertions.txt"));
     let layout = Layout::from_env();
     layout.root(ROOT);
     layout.circuit();
-    layout.pbc("plain", &[&turned]);
-    layout.pbc("shown", &[&insertions, &turned]);
+    layout.pbc("plain", &[&second_first]);
+    layout.pbc("shown", &[&insertions, &second_first]);
 }
