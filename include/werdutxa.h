@@ -35,7 +35,8 @@ enum werdutxa_answer {
     WERDUTXA_BAD_OUTCOME = 8,         /* an outcome measured twice, or a condition that is not measured earlier */
     WERDUTXA_NON_HERMITIAN_AXIS = 9,  /* the total phase of an operation, or of a row that is a root, is odd */
     WERDUTXA_EXPANSION_LIMIT = 10,    /* the run needs more words than the limit */
-    WERDUTXA_BAD_TEXT = 11            /* Listing only: the text is no listing */
+    WERDUTXA_BAD_TEXT = 11,           /* Listing only: the text is no listing */
+    WERDUTXA_BAD_PLACE = 16           /* the named place is outside the program or holds a plain rotation */
 };
 
 /* Fields of a node record. Node 0 is the identity. */
@@ -94,15 +95,19 @@ struct werdutxa_options {
     bool eager_swaps;       /* whether an exchange is taken also where only rotations are saved */
     bool second_exchange_first; /* where both exchanges of three groups improve: second with third, not first with second */
     bool lazy_cliffords;    /* whether even rotations wait until they must be absorbed */
+    bool named;             /* whether they wait only behind a named operation; lazy_cliffords is not looked at then */
+    size_t place;           /* if named: which measurement or conditional rotation, by its place among all operations, counted from 0 */
     bool litinski;          /* Litinski's layers, in place of merging */
     bool measure_depth;     /* whether T-depths are counted */
     size_t limit;           /* the most words that a run may need; at most 1,048,576 */
 };
 
-/* The defaults of the Rust; its limit is outside of the domain, so here it is the largest; it has no second_exchange_first. */
-#define WERDUTXA_DEFAULTS {1048576, 0, 16, 8, true, true, false, false, false, false, 1048576}
+/* The defaults of the Rust; its limit is outside of the domain, so here it is the largest; it has no second_exchange_first
+ * and names no place. */
+#define WERDUTXA_DEFAULTS {1048576, 0, 16, 8, true, true, false, false, false, 0, false, false, 1048576}
 
-/* What a call is lent. After 0 it holds results and then zeros, after 9 and 10 words and numbers are zero, after 1 to 8 and 11 all is as it was. */
+/* What a call is lent. After 0 it holds results and then zeros, after 9 and 10 words and numbers are zero, after 1 to 8, 11 and 16 all is as
+ * it was. */
 struct werdutxa_memory {
     uint64_t *words;                 /* axes by id: x-words, then z-words, qubit q in bit q mod 64 of word q div 64 */
     size_t words_length;             /* at least werdutxa_words */
@@ -149,11 +154,12 @@ static inline size_t werdutxa_numbers(size_t qubits, size_t node_count, size_t o
 
 /* ---- the calls, as the library exports them */
 
-/* Checking: 0, or the refusal 1 to 8 that Rewriting would answer. It writes nothing. */
+/* Checking: 0, or the refusal 1 to 8 or 16 that Rewriting would answer. It writes nothing. */
 uint32_t werdutxa_check(
     size_t qubits, size_t node_count, size_t operation_count,
     size_t lookback, size_t window, size_t candidates, size_t rounds,
-    bool clifford_to_frame, bool eager_swaps, bool second_exchange_first, bool lazy_cliffords, bool litinski, bool measure_depth, size_t limit,
+    bool clifford_to_frame, bool eager_swaps, bool second_exchange_first, bool lazy_cliffords, bool named, size_t place,
+    bool litinski, bool measure_depth, size_t limit,
     const uint32_t *nodes, size_t nodes_length,
     const uint32_t *operations, size_t operations_length,
     const uint32_t *rows, size_t rows_length,
@@ -162,11 +168,12 @@ uint32_t werdutxa_check(
     const uint32_t *result_operations, size_t result_operations_length,
     const uint32_t *result_rows, size_t result_rows_length);
 
-/* Rewriting: 0, or a refusal 1 to 10. */
+/* Rewriting: 0, or a refusal 1 to 10 or 16. */
 uint32_t werdutxa_rewrite(
     size_t qubits, size_t node_count, size_t operation_count,
     size_t lookback, size_t window, size_t candidates, size_t rounds,
-    bool clifford_to_frame, bool eager_swaps, bool second_exchange_first, bool lazy_cliffords, bool litinski, bool measure_depth, size_t limit,
+    bool clifford_to_frame, bool eager_swaps, bool second_exchange_first, bool lazy_cliffords, bool named, size_t place,
+    bool litinski, bool measure_depth, size_t limit,
     const uint32_t *nodes, size_t nodes_length,
     const uint32_t *operations, size_t operations_length,
     const uint32_t *rows, size_t rows_length,
@@ -193,7 +200,8 @@ static inline uint32_t werdutxa_check_program(
     const struct werdutxa_program *p, const struct werdutxa_options *o, const struct werdutxa_memory *m) {
     return werdutxa_check(
         p->qubits, p->node_count, p->operation_count, o->lookback, o->window, o->candidates, o->rounds,
-        o->clifford_to_frame, o->eager_swaps, o->second_exchange_first, o->lazy_cliffords, o->litinski, o->measure_depth, o->limit,
+        o->clifford_to_frame, o->eager_swaps, o->second_exchange_first, o->lazy_cliffords, o->named, o->place,
+        o->litinski, o->measure_depth, o->limit,
         p->nodes, p->nodes_length, p->operations, p->operations_length, p->rows, p->rows_length,
         m->words, m->words_length, m->numbers, m->numbers_length,
         m->result_operations, m->result_operations_length, m->result_rows, m->result_rows_length);
@@ -204,7 +212,8 @@ static inline uint32_t werdutxa_rewrite_program(
     struct werdutxa_counted *counted) {
     return werdutxa_rewrite(
         p->qubits, p->node_count, p->operation_count, o->lookback, o->window, o->candidates, o->rounds,
-        o->clifford_to_frame, o->eager_swaps, o->second_exchange_first, o->lazy_cliffords, o->litinski, o->measure_depth, o->limit,
+        o->clifford_to_frame, o->eager_swaps, o->second_exchange_first, o->lazy_cliffords, o->named, o->place,
+        o->litinski, o->measure_depth, o->limit,
         p->nodes, p->nodes_length, p->operations, p->operations_length, p->rows, p->rows_length,
         m->words, m->words_length, m->numbers, m->numbers_length,
         m->result_operations, m->result_operations_length, m->result_rows, m->result_rows_length, counted);

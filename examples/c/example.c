@@ -1,4 +1,5 @@
-/* 01's example twice: as records through Rewriting, and as a listing through Listing; then a program in both orders of ties. */
+/* 01's example twice: as records through Rewriting, and as a listing through Listing; then a program in both orders of ties, and one whose
+ * even rotations are absorbed at once, lazily, and lazily behind a named operation. */
 #include <inttypes.h>
 #include <stdio.h>
 #include <string.h>
@@ -121,6 +122,51 @@ static void rewrite_in_order(bool second_exchange_first) {
            second_exchange_first, answer, counted.t_before, counted.t_after, counted.swaps);
 }
 
+/* the identity, Z, X and Y of qubit 0; the rows are those of 01's example */
+static const uint32_t lazy_nodes[] = {
+    WERDUTXA_IDENTITY, 0, 0, 0, 0,
+    WERDUTXA_LETTER, 0, WERDUTXA_Z, 0, 0,
+    WERDUTXA_LETTER, 0, WERDUTXA_X, 0, 0,
+    WERDUTXA_LETTER, 0, WERDUTXA_Y, 0, 0,
+};
+
+/* rotations about X, Z and Y by 1, 2 and 1 eighths, a measurement of Z, and the same rotations again */
+static const uint32_t lazy_operations[] = {
+    WERDUTXA_ROTATE, 2, 0, 1, WERDUTXA_NONE, WERDUTXA_NONE,
+    WERDUTXA_ROTATE, 1, 0, 2, WERDUTXA_NONE, WERDUTXA_NONE,
+    WERDUTXA_ROTATE, 3, 0, 1, WERDUTXA_NONE, WERDUTXA_NONE,
+    WERDUTXA_MEASURE, 1, 0, 0, 0, WERDUTXA_NONE,
+    WERDUTXA_ROTATE, 2, 0, 1, WERDUTXA_NONE, WERDUTXA_NONE,
+    WERDUTXA_ROTATE, 1, 0, 2, WERDUTXA_NONE, WERDUTXA_NONE,
+    WERDUTXA_ROTATE, 3, 0, 1, WERDUTXA_NONE, WERDUTXA_NONE,
+};
+
+static void rewrite_lazily(const char *name, bool lazy_cliffords, bool named, size_t place) {
+    enum { LAZY_NODES = 4, LAZY_OPERATIONS = 7, LAZY_LIMIT = 64 };
+    static uint64_t lazy_words[LAZY_LIMIT + 16];
+    static uint32_t lazy_numbers[24 * (LAZY_NODES + LAZY_OPERATIONS + 2 * QUBITS + LAZY_LIMIT / 2 + 1)];
+    static uint32_t left[LENGTH(lazy_operations)], left_rows[LENGTH(rows)];
+    const struct werdutxa_program lazy = {
+        QUBITS, LAZY_NODES, LAZY_OPERATIONS, lazy_nodes, LENGTH(lazy_nodes),
+        lazy_operations, LENGTH(lazy_operations), rows, LENGTH(rows),
+    };
+    const struct werdutxa_memory lent = {
+        lazy_words, LENGTH(lazy_words), lazy_numbers, LENGTH(lazy_numbers), left, LENGTH(left), left_rows, LENGTH(left_rows),
+    };
+    struct werdutxa_options options = WERDUTXA_DEFAULTS;
+    options.lookback = 0;
+    options.rounds = 1;
+    options.lazy_cliffords = lazy_cliffords;
+    options.named = named;
+    options.place = place;
+    options.limit = LAZY_LIMIT;
+    struct werdutxa_counted counted;
+    uint32_t checked = werdutxa_check_program(&lazy, &options, &lent);
+    uint32_t answer = werdutxa_rewrite_program(&lazy, &options, &lent, &counted);
+    printf("%s: checking %" PRIu32 ", rewriting %" PRIu32 ", T-count %zu before, %zu after\n",
+           name, checked, answer, counted.t_before, counted.t_after);
+}
+
 int main(void) {
     rewrite(LIMIT);
     rewrite(LIMIT - 1);
@@ -130,5 +176,9 @@ int main(void) {
     printf("listing %" PRIu32 "\n%.*s", answer, (int)size, (const char *)output);
     rewrite_in_order(false);
     rewrite_in_order(true);
+    rewrite_lazily("at once", false, false, 0);
+    rewrite_lazily("lazy", true, false, 0);
+    rewrite_lazily("lazy behind the measurement", false, true, 3);
+    rewrite_lazily("lazy behind a plain rotation", false, true, 2);
     return 0;
 }

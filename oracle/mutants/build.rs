@@ -1,4 +1,5 @@
-//! One more copy of the shown sources for each file of wrong/, with that wrong reading put in.
+//! One more copy of the shown sources for each file of wrong/, with that wrong reading put in; they have M-112's named place, which the
+//! readings `named_..` get wrong.
 
 use std::fs;
 use std::path::{Path, PathBuf};
@@ -17,6 +18,7 @@ mod qasm;
 fn main() {
     sources::rerun_if_changed(Path::new("wrong"));
     let insertions = Edits::insertions(Path::new("../shown/insertions.txt"));
+    let named = Edits::replacements(Path::new("../requests/named.txt"));
     let layout = Layout::from_env();
     layout.circuit();
     let mut root = SHARED.to_string();
@@ -27,7 +29,12 @@ fn main() {
             .expect("a file")
             .to_str()
             .expect("plain letters");
-        layout.pbc(name, &[&insertions, &Edits::replacements(&file)]);
+        let wrong = Edits::replacements(&file);
+        if name.starts_with("named_") {
+            layout.pbc(name, &[&insertions, &named, &wrong]);
+        } else {
+            layout.pbc(name, &[&insertions, &wrong, &named]);
+        }
         root += &format!("#[allow(warnings)]\nmod {name} {{ pub mod pbc; }}\n");
         table += &format!("    (\"{name}\", {name}::pbc::PbcCircuit::run_job),\n");
     }

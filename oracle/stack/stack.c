@@ -111,7 +111,10 @@ static bool job(void) {
     for (int i = 0; i < 17; i++)
         h[i] = next();
     size_t nodes = 5 * h[0], operations = 6 * h[1], rows = 8 * qubits;
-    options = (struct werdutxa_options){h[3], h[4], h[5], h[6], h[7], h[8], h[9], h[10], h[11], h[12], h[2]};
+    bool named = h[10] > 1;
+    options = (struct werdutxa_options){
+        h[3], h[4], h[5], h[6], h[7], h[8], h[9], h[10] == 1, named, named ? h[10] - 2 : 0, h[11], h[12], h[2],
+    };
     program = (struct werdutxa_program){qubits, h[0], h[1], records(nodes), nodes, NULL, operations, NULL, rows};
     program.operations = records(operations);
     program.rows = records(rows);

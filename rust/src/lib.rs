@@ -20,7 +20,7 @@ mod values;
 pub use calls::{check, list_into, rewrite};
 pub use lent::{Counted, LISTING_BYTES, MINUS_ONE, Memory, NONE, Records, Sizes, width};
 pub use listing::{Listing, list};
-pub use options::{LARGEST, Options, Strategy};
+pub use options::{LARGEST, Lazy, Options, Strategy};
 pub use pauli::{Letter, NoPauli, Pauli};
 pub use program::{NodeRecord, OperationRecord, Program, Row, RowRecord};
 pub use refusal::Refusal;

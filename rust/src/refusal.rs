@@ -2,7 +2,7 @@
 
 use std::fmt;
 
-/// Why a call was refused, by the paper's numbers. `docs/REFUSALS.md` says for each what to do.
+/// Why a call was refused, by the papers' numbers. `docs/REFUSALS.md` says for each what to do.
 ///
 /// ```
 /// # use werdutxa::Refusal;
@@ -22,11 +22,12 @@ pub enum Refusal {
     NonHermitianAxis = 9,
     ExpansionLimit = 10,
     BadText = 11,
+    BadPlace = 16,
 }
 
 impl Refusal {
     /// All of them, by number.
-    pub const ALL: [Self; 11] = [
+    pub const ALL: [Self; 12] = [
         Self::CountOutside,
         Self::OptionOutside,
         Self::SliceShort,
@@ -38,9 +39,10 @@ impl Refusal {
         Self::NonHermitianAxis,
         Self::ExpansionLimit,
         Self::BadText,
+        Self::BadPlace,
     ];
 
-    /// The paper's number, 1 to 11.
+    /// The papers' number, 1 to 11 or 16.
     pub fn number(self) -> u32 {
         self as u32
     }
@@ -63,15 +65,17 @@ impl Refusal {
             }
             Self::ExpansionLimit => "The run needs more words than the word limit.",
             Self::BadText => "The text is no listing.",
+            Self::BadPlace => "The named place is outside the program or holds a plain rotation.",
         }
     }
 
     /// What a call's number says.
     pub(crate) fn of_answer(answer: u32) -> Result<(), Self> {
-        match answer {
-            0 => Ok(()),
-            number => Err(Self::ALL[number as usize - 1]),
+        if answer == 0 {
+            return Ok(());
         }
+        let refusal = Self::ALL.into_iter().find(|refusal| refusal.number() == answer);
+        Err(refusal.expect("a call answers by no other number"))
     }
 }
 

@@ -209,24 +209,30 @@ impl View {
     fn axis_name(&self, axis: &Pauli) -> String {
         if self.qubits <= 32 { axis.dense(self.qubits) } else { axis.to_string() }
     }
+
+    /// An operation with its axis at the right of so many columns.
+    pub(crate) fn line(&self, operation: &Operation, wide: usize) -> String {
+        let name = self.axis_name(operation.axis());
+        match operation {
+            Operation::Rotate { angle, .. } => format!("rotate   {name:>wide$}  {}", angle_name(*angle)),
+            Operation::Measure { outcome, target: None, .. } => format!("measure  {name:>wide$}  outcome {outcome}"),
+            Operation::Measure { outcome, target: Some(target), .. } => {
+                format!("measure  {name:>wide$}  outcome {outcome}, target {target}")
+            }
+            Operation::ConditionalRotate { angle, if_one, .. } => {
+                format!("rotate   {name:>wide$}  {} if outcome {if_one} is 1", angle_name(*angle))
+            }
+        }
+    }
 }
 
 impl fmt::Display for View {
     fn fmt(&self, f: &mut fmt::Formatter<'_>) -> fmt::Result {
         // Names are made twice and not kept: together they may be larger than the view.
-        let names = || self.operations.iter().map(|operation| self.axis_name(operation.axis()));
-        let wide = names().map(|name| name.len()).max().unwrap_or(0);
-        for (operation, name) in self.operations.iter().zip(names()) {
-            match operation {
-                Operation::Rotate { angle, .. } => writeln!(f, "  rotate   {name:>wide$}  {}", angle_name(*angle))?,
-                Operation::Measure { outcome, target: None, .. } => writeln!(f, "  measure  {name:>wide$}  outcome {outcome}")?,
-                Operation::Measure { outcome, target: Some(target), .. } => {
-                    writeln!(f, "  measure  {name:>wide$}  outcome {outcome}, target {target}")?;
-                }
-                Operation::ConditionalRotate { angle, if_one, .. } => {
-                    writeln!(f, "  rotate   {name:>wide$}  {} if outcome {if_one} is 1", angle_name(*angle))?;
-                }
-            }
+        let names = self.operations.iter().map(|operation| self.axis_name(operation.axis()));
+        let wide = names.map(|name| name.len()).max().unwrap_or(0);
+        for operation in &self.operations {
+            writeln!(f, "  {}", self.line(operation, wide))?;
         }
         for (place, row) in self.frame.iter().enumerate() {
             let letter = ["x", "z"][place % 2];

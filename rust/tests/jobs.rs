@@ -1,15 +1,15 @@
-//! The gate's jobs for Rewriting, answered by the original or, in M-107's order of ties, by its copy: every counter and every lent slice. No two options can be exchanged unseen.
+//! The gate's jobs for Rewriting, answered by the original or, with a setting of document 02, by its copy: every counter and every lent slice. No two options can be exchanged unseen.
 
 mod lent;
 
 use lent::{Guarded, Lent};
-use werdutxa::{Counted, NONE, Options, Program, Refusal, Sizes, Strategy, rewrite};
+use werdutxa::{Counted, Lazy, NONE, Options, Program, Refusal, Sizes, Strategy, rewrite};
 
 const JOBS: &str = include_str!("../../crates/rewriting_main/stdin");
 const LEFT: &str = include_str!("../../crates/rewriting_main/stdout");
 
 /// Behind these come jobs that Checking refuses, which are lent in special ways.
-const ANSWERED_BY_THE_ORIGINAL: usize = 343;
+const ANSWERED_BY_THE_ORIGINAL: usize = 376;
 
 struct Job {
     program: Program,
@@ -31,7 +31,12 @@ fn job(numbers: &mut dyn Iterator<Item = i64>) -> Job {
     let [qubits, nodes, operations] = std::array::from_fn(|_| next(numbers));
     let [limit, lookback, window, candidates, rounds] = std::array::from_fn(|_| next(numbers));
     let [clifford_to_frame, eager_swaps, second_exchange_first] = std::array::from_fn(|_| next(numbers) == 1);
-    let [lazy_cliffords, litinski, measure_depth] = std::array::from_fn(|_| next(numbers) == 1);
+    let lazy_cliffords = match next(numbers) {
+        0 => Lazy::Off,
+        1 => Lazy::On,
+        named => Lazy::From(named - 2),
+    };
+    let [litinski, measure_depth] = std::array::from_fn(|_| next(numbers) == 1);
     let slack: [usize; 4] = std::array::from_fn(|_| next(numbers));
     let strategy = if litinski { Strategy::Litinski } else { Strategy::Merge };
     let options = Options {

@@ -1,6 +1,6 @@
 //! Programs from Pauli strings, records and listings say the same.
 
-use werdutxa::{Letter, NONE, Operation, Options, Pauli, Program, Refusal, View, list, optimize, show};
+use werdutxa::{Lazy, Letter, NONE, Operation, Options, Pauli, Program, Refusal, View, list, optimize, show};
 
 const EXAMPLE: &str = include_str!("../../oracle/listing/example.in");
 const EXAMPLE_OUT: &str = include_str!("../../oracle/listing/example.out");
@@ -128,6 +128,28 @@ fn refusals_are_shown() {
     assert!(shown.starts_with("before\n") && shown.ends_with("refused by 10: The run needs more words than the word limit.\n"));
     let bad = Program::from_records(1, vec![[9; 5]], vec![], vec![]);
     assert!(show(&bad, &Options::default()).starts_with("refused by 3"));
+}
+
+/// A last line says where a run changed to lazy absorption; a run that absorbs nothing changed nowhere, and neither did a refused one.
+#[test]
+fn changes_are_shown() {
+    let mut program = Program::new(2);
+    program.rotate("XZ", 2).unwrap().measure("ZI", 4, Some(5)).unwrap().conditional_rotate("-IX", -1, 4).unwrap();
+    let options = Options::with_limit(64);
+    let shown = |place, options: &Options| show(&program, &Options { lazy_cliffords: Lazy::From(place), ..*options });
+    let [measured, rotated] = [1, 2].map(|place| shown(place, &options));
+    assert!(measured.ends_with("absorbed 1\nlazy behind operation 1: measure  ZI  outcome 4, target 5\n"), "{measured}");
+    assert!(rotated.ends_with("absorbed 1\nlazy behind operation 2: rotate   -IX  -π/8 if outcome 4 is 1\n"), "{rotated}");
+    for lazy_cliffords in [Lazy::Off, Lazy::On] {
+        assert!(!show(&program, &Options { lazy_cliffords, ..options }).contains("lazy"));
+    }
+    for options in [Options { clifford_to_frame: false, ..options }, Options { rounds: 0, ..options }] {
+        assert_eq!(shown(1, &options), show(&program, &options));
+    }
+    let source = program.view().unwrap();
+    for (place, limit, refusal) in [(1, 3, Refusal::ExpansionLimit), (0, 64, Refusal::BadPlace), (3, 64, Refusal::BadPlace)] {
+        assert_eq!(shown(place, &Options::with_limit(limit)), format!("before\n{source}\n{refusal}\n"));
+    }
 }
 
 /// On no qubits there is one axis, and it is shown.

@@ -7,7 +7,9 @@ use std::collections::HashSet;
 
 use lent::Lent;
 use random::{Random, Raw, values};
-use werdutxa::{NONE, Operation, Options, Pauli, Program, Refusal, Row, Sizes, Strategy, View, check, optimize, show};
+use werdutxa::{
+    Lazy, NONE, Operation, Options, Pauli, Program, Refusal, Rewritten, Row, Sizes, Strategy, View, check, optimize, show,
+};
 
 const CASES: usize = 3_000;
 
@@ -17,6 +19,25 @@ const LIMIT: usize = 1 << 12;
 fn options(random: &mut Random, rounds: usize) -> Options {
     let strategy = random.pick(&[Strategy::Merge, Strategy::Litinski]);
     Options { rounds, strategy, clifford_to_frame: random.below(2) == 0, ..Options::with_limit(LIMIT) }
+}
+
+/// Any lazy setting; a place that is named may hold a plain rotation, or be outside of the program.
+fn lazy(random: &mut Random, operations: &[Operation]) -> Lazy {
+    match random.below(8) {
+        0 => Lazy::Off,
+        1 => Lazy::On,
+        2 => Lazy::From(random.pick(&[operations.len(), 65_535, 1 << 32, usize::MAX])),
+        _ => Lazy::From(random.below(operations.len() + 1)),
+    }
+}
+
+/// What is left of a program, and nothing exactly where a place is named that is not in it or holds a plain rotation.
+fn accepted(program: &Program, options: &Options, operations: &[Operation]) -> Option<Rewritten> {
+    let is_bad = |place| matches!(operations.get(place), None | Some(Operation::Rotate { .. }));
+    let refused = matches!(options.lazy_cliffords, Lazy::From(place) if is_bad(place));
+    let answer = optimize(program, options);
+    assert_eq!(answer.as_ref().err(), refused.then_some(&Refusal::BadPlace), "{program:?} {options:?}");
+    answer.ok()
 }
 
 /// A string that may be a Pauli string.
@@ -107,6 +128,7 @@ fn add_axis(random: &mut Random, nodes: &mut Vec<[u32; 5]>, axis: &Pauli) -> [u3
 #[test]
 fn programs_and_records() {
     let random = &mut Random::new(3);
+    let mut rewritten = 0;
     for _ in 0..CASES {
         let qubits = 1 + random.qubits();
         let mut program = Program::new(qubits);
@@ -116,8 +138,10 @@ fn programs_and_records() {
             add_operation(random, &mut program, &mut raw, &mut wanted);
         }
         add_rows(random, &mut program, &mut raw);
-        say_the_same(&program, &raw.program(), &wanted, &options(random, 8));
+        let options = Options { lazy_cliffords: lazy(random, &wanted), ..options(random, 8) };
+        rewritten += usize::from(say_the_same(&program, &raw.program(), &wanted, &options));
     }
+    assert!((1_000..2_500).contains(&rewritten), "{rewritten}");
 }
 
 /// An operation as a string, as records and as what is shown.
@@ -159,14 +183,17 @@ fn add_rows(random: &mut Random, program: &mut Program, raw: &mut Raw) {
     }
 }
 
-fn say_the_same(program: &Program, records: &Program, wanted: &[Operation], options: &Options) {
+/// Whether both are rewritten; else both are refused for the place.
+fn say_the_same(program: &Program, records: &Program, wanted: &[Operation], options: &Options) -> bool {
     let view = program.view().unwrap();
     assert_eq!(view.operations, wanted);
     assert_eq!(records.view(), Some(view));
-    let (left, right) = (optimize(program, options).unwrap(), optimize(records, options).unwrap());
+    let [left, right] = [program, records].map(|program| accepted(program, options, wanted));
+    let (Some(left), Some(right)) = (left, right) else { return false };
     // Ids and words go by nodes, which differ.
     assert_eq!((left.operations, left.frame), (right.operations, right.frame));
     assert_eq!((left.counted.merges, left.counted.t_after), (right.counted.merges, right.counted.t_after));
+    true
 }
 
 /// What is left of an operation when nothing is rewritten: angles take a sign, and plain rotations that turn nothing drop out.
@@ -195,6 +222,7 @@ fn axis(operation: &Operation) -> &Pauli {
 #[test]
 fn views_and_packing() {
     let random = &mut Random::new(4);
+    let mut came_out = 0;
     for _ in 0..CASES {
         let raw = Raw::good(random);
         let view = raw.program().view().unwrap();
@@ -205,13 +233,16 @@ fn views_and_packing() {
         }
         let rows: Vec<Pauli> = raw.rows.iter().map(|record| plain(record[2], record[3])).collect();
         assert_eq!(view.frame, rows, "{raw:?}");
-        let rewritten = optimize(&raw.program(), &options(random, 0)).unwrap();
+        let options = Options { lazy_cliffords: lazy(random, &view.operations), ..options(random, 0) };
+        let Some(rewritten) = accepted(&raw.program(), &options, &view.operations) else { continue };
+        came_out += 1;
         let roots = view.operations.iter().map(axis).chain(&view.frame);
         let roots: HashSet<Pauli> = roots.map(|axis| axis.clone().turned(4 - axis.phase())).collect();
         assert!(rewritten.axes.iter().all(|axis| roots.contains(axis)), "{raw:?}");
         let source = View { operations: view.operations.iter().filter_map(packed).collect(), ..view };
         assert_eq!(rewritten.view(&source), source, "{raw:?}");
     }
+    assert!((1_000..2_500).contains(&came_out), "{came_out}");
 }
 
 /// A field, or how many there are, is changed.
@@ -244,6 +275,8 @@ fn bad_records() {
         (0..random.below(4)).for_each(|_| spoil(random, &mut raw));
         let program = raw.program();
         let checked = check(&program.records(), &options, &memory);
+        let outside = Options { lazy_cliffords: Lazy::From(raw.operations.len()), ..options };
+        assert_eq!(check(&program.records(), &outside, &memory), checked.and(Err(Refusal::BadPlace)), "{raw:?}");
         let view = program.view();
         assert_eq!(view.is_some(), checked.is_ok(), "{raw:?}");
         let shown = show(&program, &options);
@@ -301,6 +334,47 @@ fn both_orders_of_ties() {
         differ += usize::from(old != new);
     }
     assert!(differ > 100, "{differ}");
+}
+
+/// From the first operation on is lazy, from the last on at once, and without absorption neither; more rounds leave no higher T-count.
+#[test]
+fn named_places() {
+    let random = &mut Random::new(8);
+    let mut differ = [0; 2];
+    for _ in 0..CASES {
+        let (program, places) = segments(random);
+        let options = Options { lookback: random.pick(&[0, 0, 1, 9]), window: random.below(2), ..options(random, 0) };
+        let left = |rounds, lazy_cliffords| optimize(&program, &Options { rounds, lazy_cliffords, ..options }).unwrap();
+        let [off, on] = [Lazy::Off, Lazy::On].map(|lazy| left(3, lazy));
+        assert_eq!(left(3, Lazy::From(places[0])), on, "{program:?} {options:?}");
+        assert_eq!(left(3, Lazy::From(places[places.len() - 1])), off, "{program:?} {options:?}");
+        let between = Lazy::From(places[1]);
+        let runs = [0, 1, 2, 3].map(|rounds| left(rounds, between));
+        assert!(runs.windows(2).all(|pair| pair[1].counted.t_after <= pair[0].counted.t_after), "{program:?} {options:?}");
+        assert!(options.clifford_to_frame || runs[3] == off && off == on, "{program:?} {options:?}");
+        differ[0] += usize::from(off != on);
+        differ[1] += usize::from(runs[3] != off && runs[3] != on);
+    }
+    assert!(differ.iter().all(|&count| count > 100), "{differ:?}");
+}
+
+/// Rotations between measurements and conditional rotations, which are the first and last operation too; and the places of these.
+fn segments(random: &mut Random) -> (Program, Vec<usize>) {
+    let mut program = Program::new(2);
+    program.measure("Z0", 0, None).unwrap();
+    let mut places = vec![0];
+    for outcome in 1..3 + random.below(2) as u16 {
+        for _ in 0..2 + random.below(4) {
+            program.rotate(random.pick(&["X0", "Y0", "Z0", "Z0 X1"]), random.pick(&[1, 2, 2, -1])).unwrap();
+        }
+        places.push(program.records().operation_count);
+        let axis = random.pick(&["X0", "Z1", "Y0 X1"]);
+        match random.below(2) {
+            0 => program.measure(axis, outcome, None).unwrap(),
+            _ => program.conditional_rotate(axis, random.below(8) as i32, 0).unwrap(),
+        };
+    }
+    (program, places)
 }
 
 /// T and S rotations about few axes of two qubits, so that exchanges find partners.

@@ -4,20 +4,29 @@ mod lent;
 
 use lent::{Guarded, Lent};
 use werdutxa::{
-    LISTING_BYTES, NONE, NoPauli, Options, Program, Records, Refusal, Row, Sizes, check, list, list_into, optimize, rewrite,
+    LISTING_BYTES, Lazy, NONE, NoPauli, Options, Program, Records, Refusal, Row, Sizes, Strategy, check, list, list_into,
+    optimize, rewrite,
 };
 
 const IDENTITY: [u32; 5] = [0; 5];
 
-/// Refused by Checking and Rewriting alike; Rewriting leaves what 01 says.
+/// Refused so, and if a place outside of the program is named too: that is tested behind 1 to 8 and before the run.
 fn refused(records: &Records, options: &Options, sizes: Sizes, refusal: Refusal) {
+    answered(records, options, sizes, refusal);
+    let outside = Options { lazy_cliffords: Lazy::From(records.operation_count), ..*options };
+    answered(records, &outside, sizes, if refusal.number() <= 8 { refusal } else { Refusal::BadPlace });
+}
+
+/// By Checking and Rewriting alike; Rewriting leaves what 01 and 02 say.
+fn answered(records: &Records, options: &Options, sizes: Sizes, refusal: Refusal) {
     let mut lent = Lent::new(sizes);
-    let checked = if refusal.number() <= 8 { Err(refusal) } else { Ok(()) };
+    let by_checking = refusal.number() <= 8 || refusal == Refusal::BadPlace;
+    let checked = if by_checking { Err(refusal) } else { Ok(()) };
     assert_eq!(check(records, options, &lent.lend()), checked);
     assert!(lent.sentinels_hold() && lent.results_unchanged() && lent.work_unchanged());
     assert_eq!(rewrite(records, options, &mut lent.lend()), Err(refusal));
     assert!(lent.sentinels_hold() && lent.results_unchanged());
-    assert!(if refusal.number() <= 8 { lent.work_unchanged() } else { lent.work_zero() });
+    assert!(if by_checking { lent.work_unchanged() } else { lent.work_zero() });
 }
 
 fn program_refused(program: &Program, refusal: Refusal) {
@@ -244,6 +253,59 @@ fn runs() {
     }
 }
 
+/// Plain rotation, measurement, conditional rotation, and a place that is named.
+fn place_answers(place: usize, options: &Options, rows: &[[u32; 4]], answer: Result<(), Refusal>) {
+    let operations = vec![[1, 1, 0, 2, NONE, NONE], [2, 1, 0, 0, 7, NONE], [3, 1, 0, 1, 7, NONE]];
+    let program = Program::from_records(1, vec![IDENTITY, [1, 0, 3, 0, 0]], operations, rows.to_vec());
+    let options = Options { lazy_cliffords: Lazy::From(place), ..*options };
+    let (records, sizes) = (program.records(), Sizes::of(&program.records(), &options));
+    match answer {
+        Ok(()) => {
+            let mut lent = Lent::new(sizes);
+            assert_eq!(check(&records, &options, &lent.lend()), Ok(()));
+            assert!(rewrite(&records, &options, &mut lent.lend()).is_ok() && lent.sentinels_hold());
+        }
+        Err(refusal) => answered(&records, &options, sizes, refusal),
+    }
+}
+
+/// A place is good exactly where a measurement or conditional rotation stands, also where it changes nothing.
+#[test]
+fn places() {
+    let bad = Err(Refusal::BadPlace);
+    // one of these is 1 modulo 2^32, and six times another is 6 modulo 2^64
+    let answers = [(0, bad), (1, Ok(())), (2, Ok(())), (3, bad), ((1 << 32) + 1, bad), ((1 << 63) + 1, bad), (usize::MAX, bad)];
+    let options = Options::with_limit(64);
+    let settings = [
+        options,
+        Options { clifford_to_frame: false, ..options },
+        Options { rounds: 0, ..options },
+        Options { strategy: Strategy::Litinski, ..options },
+        Options { strategy: Strategy::Litinski, clifford_to_frame: false, rounds: 0, ..options },
+    ];
+    for options in settings {
+        for (place, answer) in answers {
+            place_answers(place, &options, &[[0, 0, 0, 0], [0, 1, 0, 0]], answer);
+        }
+    }
+    let nothing = Options { lazy_cliffords: Lazy::From(0), ..options };
+    assert_eq!(optimize(&Program::new(0), &nothing), Err(Refusal::BadPlace));
+}
+
+/// A place is tested behind the rows, and before the run.
+#[test]
+fn places_are_tested_last() {
+    let options = Options::with_limit(64);
+    let good = [[0, 0, 0, 0], [0, 1, 0, 0]];
+    for (place, answer) in [(0, Err(Refusal::BadPlace)), (1, Ok(()))] {
+        let rows = [[0, 0, 0, 0], [0, 1, 0, 4]];
+        place_answers(place, &options, &rows, Err(Refusal::BadReference));
+        let odd = [[0, 0, 0, 1], [0, 1, 1, 1]];
+        place_answers(place, &options, &odd, answer.and(Err(Refusal::NonHermitianAxis)));
+        place_answers(place, &Options::with_limit(0), &good, answer.and(Err(Refusal::ExpansionLimit)));
+    }
+}
+
 /// Lines of fields in columns of 8.
 fn listing(lines: &[&[i64]]) -> String {
     let line = |fields: &&[i64]| fields.iter().map(|field| format!("{field:8}")).collect::<String>() + "\n";
@@ -304,8 +366,9 @@ fn short_slices_of_listings() {
 #[test]
 fn the_page_has_every_refusal() {
     let page = include_str!("../../docs/REFUSALS.md");
-    for (refusal, number) in Refusal::ALL.into_iter().zip(1..) {
-        assert_eq!(refusal.number(), number);
+    assert!(Refusal::ALL.map(Refusal::number).into_iter().eq((1..=11).chain([16])));
+    for refusal in Refusal::ALL {
+        let number = refusal.number();
         let row = format!("| {number} | {refusal:?} | {} |", refusal.sentence());
         assert!(page.contains(&row), "docs/REFUSALS.md lacks the row {row}");
         assert!(page.contains(&format!("\n## {number}: ")), "docs/REFUSALS.md lacks a section on {number}");

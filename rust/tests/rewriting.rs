@@ -4,7 +4,7 @@ mod lent;
 
 use lent::Lent;
 use werdutxa::{
-    Counted, FrameRow, Operation, Options, Pauli, Program, Refusal, Rewritten, Row, Sizes, Strategy, optimize, rewrite,
+    Counted, FrameRow, Lazy, Operation, Options, Pauli, Program, Refusal, Rewritten, Row, Sizes, Strategy, optimize, rewrite,
     smallest_limit, width,
 };
 
@@ -237,4 +237,83 @@ fn second_with_third_where_both_improve() {
     let turned = |axis, angle| Operation::Rotate { axis: pauli(axis), angle };
     assert_eq!(left(false), [turned("X1", 1), turned("X0", 2)]);
     assert_eq!(left(true), [turned("X0", 2), turned("X1", 1)]);
+}
+
+/// Rotations that merge where the even one is absorbed at its turn: it turns Y into X.
+fn turned(program: &mut Program) {
+    program.rotate("X", 1).unwrap().rotate("Z", 2).unwrap().rotate("Y", 1).unwrap();
+}
+
+/// Those before a measurement and behind it, and again behind a conditional rotation.
+fn segments() -> Program {
+    let mut program = Program::new(1);
+    turned(&mut program);
+    turned(program.measure("Z", 0, None).unwrap());
+    turned(program.conditional_rotate("Z", 1, 0).unwrap());
+    program
+}
+
+/// One round, by a lazy setting.
+fn run_lazily(program: &Program, lazy_cliffords: Lazy) -> Rewritten {
+    let options = Options { lookback: 0, rounds: 1, lazy_cliffords, ..Options::with_limit(64) };
+    run(program, &options).unwrap()
+}
+
+/// 02's change: even rotations before the measurement are absorbed at their turn, behind it they wait.
+#[test]
+fn lazy_from_a_measurement() {
+    let mut program = Program::new(1);
+    turned(&mut program);
+    turned(program.measure("Z", 0, None).unwrap());
+    let t_after = [Lazy::Off, Lazy::On, Lazy::From(3)].map(|lazy| run_lazily(&program, lazy).counted.t_after);
+    assert_eq!(t_after, [0, 4, 2]);
+    assert_eq!(Options::default().lazy_cliffords, Lazy::Off);
+}
+
+/// A conditional rotation may be named too; its own T, which stays, is counted.
+#[test]
+fn lazy_from_a_conditional_rotation() {
+    let settings = [Lazy::Off, Lazy::On, Lazy::From(3), Lazy::From(7)];
+    let t_after = settings.map(|lazy| run_lazily(&segments(), lazy).counted.t_after);
+    assert_eq!(t_after, [1, 7, 5, 3]);
+}
+
+/// A place may need fewer words than both other settings, with all other options by default.
+#[test]
+fn lazy_from_a_place_with_fewest_words() {
+    let mut program = Program::new(2);
+    program.rotate("IZ", 1).unwrap().rotate("IZ", 2).unwrap().measure("ZI", 0, None).unwrap();
+    program.rotate("ZI", 2).unwrap().rotate("IZ", 2).unwrap().rotate("ZI", 1).unwrap();
+    let left = |lazy_cliffords| {
+        let counted = run(&program, &Options { lazy_cliffords, ..Options::with_limit(22) }).unwrap().counted;
+        (counted.t_after, counted.packed_words)
+    };
+    assert_eq!([Lazy::Off, Lazy::On, Lazy::From(2)].map(left), [(2, 22), (2, 16), (2, 14)]);
+}
+
+/// Behind the last operation nothing waits, and before the first nothing is absorbed.
+#[test]
+fn lazy_from_the_ends() {
+    let mut first = Program::new(1);
+    turned(first.measure("Z", 0, None).unwrap());
+    assert_eq!(run_lazily(&first, Lazy::From(0)), run_lazily(&first, Lazy::On));
+    assert_ne!(run_lazily(&first, Lazy::From(0)), run_lazily(&first, Lazy::Off));
+    let mut last = Program::new(1);
+    turned(&mut last);
+    last.measure("Z", 0, None).unwrap();
+    assert_eq!(run_lazily(&last, Lazy::From(3)), run_lazily(&last, Lazy::Off));
+    assert_ne!(run_lazily(&last, Lazy::From(3)), run_lazily(&last, Lazy::On));
+}
+
+/// Without absorption, and without rounds, no lazy setting has a say.
+#[test]
+fn lazy_without_absorption() {
+    let settings = [Lazy::On, Lazy::From(3), Lazy::From(7)];
+    for strategy in STRATEGIES {
+        for (clifford_to_frame, rounds) in [(false, 8), (true, 0), (false, 0)] {
+            let options = Options { strategy, clifford_to_frame, rounds, lookback: 0, ..Options::with_limit(64) };
+            let left = |lazy_cliffords| run(&segments(), &Options { lazy_cliffords, ..options }).unwrap();
+            assert!(settings.map(left).iter().all(|rewritten| *rewritten == left(Lazy::Off)));
+        }
+    }
 }

@@ -1,4 +1,4 @@
-// Checking: refusals 1 to 8. It takes no lent slice by &mut, so it writes no lent memory.
+// Checking: refusals 1 to 8 and 16. It takes no lent slice by &mut, so it writes no lent memory.
 ghost use mathlib.Core.Path.{_≡_};
 ghost use mathlib.Core.Bool.{false};
 ghost use mathlib.Core.List.{List, []};
@@ -6,13 +6,15 @@ ghost use Prim.Native.Nat.{ℕ, _+_, _*_, _<_, _≤_};
 ghost use lib.ListN.{length};
 ghost use Rattle.model.specs.Checking.{badCount, badOption, programShort, lentShort};
 ghost use Rattle.model.specs.Checking.{checkNodeOfKind, checkNode, checkNodes, badReference, checkRow, checkRows};
-ghost use Rattle.model.specs.Checking.{badOperation, badOutcome, measured, checkOperations, checkProgram, checking};
+ghost use Rattle.model.specs.Checking.{badOperation, badOutcome, measured, checkOperations, checkProgram, checkPlace, checkRecords, checking};
+ghost use Rattle.model.specs.declared.Lazy.the-variants.{From};
 ghost use Rattle.model.specs.Program.{records};
 ghost use Rattle.checking.specs.Call.{jobOf, lentOf};
 ghost use Rattle.checking.specs.Table.{hasBit, withBit};
 ghost use Rattle.checking.specs.Outcomes.{Entered, Checked};
 use model::Answer;
 use model::Counts;
+use model::Lazy;
 use model::Options;
 
 // The most that lookback, window, candidates and word limit may be.
@@ -271,7 +273,46 @@ fn check_program(c: Counts, nodes: &[u32], operations: &[u32], rows: &[u32]) -> 
     check_rows(rows, 2 * c.qubits, c.nodes)
 }
 
-// Refusals 1 to 8; 0 passes.
+// Refusal 16: the place is outside the program, or holds a plain rotation.
+fn check_named(operations: &[u32], count: usize, place: usize) -> Answer
+    requires { ⌜ 6 * count ≤ length (now operations) ⌝ }
+    ensures { λ a. ⌜ a ≡ checkPlace (From place) (records 6 count (now (operations .entry))) ⌝ }
+{
+    if place >= count {
+        return Answer::BadPlace;
+    }
+    let at = place * 6;
+    if operations[at] == 1 {
+        return Answer::BadPlace;
+    }
+    Answer::Accepted
+}
+
+// Refusal 16, where a place is named.
+fn check_place(operations: &[u32], count: usize, lazy: Lazy) -> Answer
+    requires { ⌜ 6 * count ≤ length (now operations) ⌝ }
+    ensures { λ a. ⌜ a ≡ checkPlace lazy (records 6 count (now (operations .entry))) ⌝ }
+{
+    match lazy {
+        Lazy::Off => Answer::Accepted,
+        Lazy::On => Answer::Accepted,
+        Lazy::From(place) => check_named(operations, count, place),
+    }
+}
+
+// Refusals 4 to 8, then 16.
+fn check_records(c: Counts, lazy: Lazy, nodes: &[u32], operations: &[u32], rows: &[u32]) -> Answer
+    requires { ⌜ programShort (jobOf c (now nodes) (now operations) (now rows)) ≡ false ⌝ }
+    ensures { λ a. ⌜ a ≡ checkRecords lazy (jobOf c (now (nodes .entry)) (now (operations .entry)) (now (rows .entry))) ⌝ }
+{
+    let a = check_program(c, nodes, operations, rows);
+    if model::number_of(a) != 0 {
+        return a;
+    }
+    check_place(operations, c.operations, lazy)
+}
+
+// Refusals 1 to 8 and 16; 0 passes.
 pub fn checking(
     counts: Counts,
     options: Options,
@@ -304,5 +345,6 @@ pub fn checking(
     {
         return Answer::SliceShort;
     }
-    check_program(counts, nodes, operations, rows)
+    let lazy = options.lazy_cliffords;
+    check_records(counts, lazy, nodes, operations, rows)
 }

@@ -1,7 +1,7 @@
 // Frame rows are carried through F, if anything was absorbed.
 ghost use mathlib.Core.List.{[]};
 ghost use Prim.Native.Nat.{ℕ, _-_};
-ghost use Rattle.model.specs.Rules.{Absorption};
+ghost use Rattle.model.specs.declared.Absorption.{Absorption};
 ghost use Rattle.model.specs.Stream.{Pass, carryRowsFrom};
 ghost use Rattle.work.specs.Rows.{rowsIn};
 ghost use Rattle.stream_states.specs.States.{SomePass};

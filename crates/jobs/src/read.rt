@@ -2,6 +2,7 @@
 ghost use Prim.Native.Nat.{_≤_};
 ghost use lib.ListN.{length};
 use model::Counts;
+use model::Lazy;
 use model::Options;
 use model::Strategy;
 
@@ -178,6 +179,17 @@ fn strategy(v: u32) -> Strategy {
     Strategy::Litinski
 }
 
+// The lazy setting: 0 off, 1 on; else the place of a named operation, plus 2.
+fn lazy(v: u32) -> Lazy {
+    if v == 0 {
+        return Lazy::Off;
+    }
+    if v == 1 {
+        return Lazy::On;
+    }
+    Lazy::From(v as usize - 2)
+}
+
 pub fn options(h: Header) -> Options {
     Options {
         lookback: h.lookback as usize,
@@ -187,7 +199,7 @@ pub fn options(h: Header) -> Options {
         clifford_to_frame: h.clifford_to_frame != 0,
         eager_swaps: h.eager_swaps != 0,
         second_exchange_first: h.second_exchange_first != 0,
-        lazy_cliffords: h.lazy_cliffords != 0,
+        lazy_cliffords: lazy(h.lazy_cliffords),
         strategy: strategy(h.strategy),
         measure_depth: h.measure_depth != 0,
         max_packed_words: h.limit as usize,

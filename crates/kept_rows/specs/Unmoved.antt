@@ -9,14 +9,16 @@ use lib.ListN.{length}
 use Rattle.pauli.specs.Word.{IsWord, symplectic}
 use Rattle.pauli.specs.ProductLaws.{symplectic-comm}
 use Rattle.model.specs.Lists.{isEven}
-use Rattle.model.specs.Rules.{Absorption, off, atOnce, lazy, isAtOnce, Rules}
+use Rattle.model.specs.declared.Absorption.{Absorption}
+use Rattle.model.specs.declared.Absorption.the-variants.{Off as off, AtOnce as atOnce, Lazy as lazy}
+use Rattle.model.specs.Rules.{isAtOnce, Rules}
 use Rattle.model.specs.Words.{Value, asValue, wordOf, Store}
 use Rattle.model.specs.Clifford.{absorbImage, wordImage}
 use Rattle.model.specs.Items.{rot, Item, rotation, barrier, isClifford}
 use Rattle.model.specs.Stream.{Place, nowhere, at, Pass, withLast, countMerge, setAngle, putOut, leaveZero, axisImage}
 use Rattle.model.specs.Stream.{imageId, carryAxis, absorb, absorbWaitingAt, absorbWaiting, absorbAllWaiting, absorbBlocking, carryRotation}
 use Rattle.model.specs.Stream.{mergeAt}
-use Rattle.model.specs.Stream.{putOutRotation, mergeOrPutOut, takeRotation, streamItem, stream, begin}
+use Rattle.model.specs.Stream.{putOutRotation, mergeOrPutOut, takeRotation, rulesAfter, streamItem, stream, begin}
 use Rattle.theory.specs.Cases.{by-if, on-if, and-left, and-right}
 use Rattle.theory.specs.Every.{Every, every-one, every-set, every-weaken}
 use Rattle.theory.specs.Ids.{id-word, Grows, grows-refl, grows-trans, grows-eq, intern-grows}
@@ -24,7 +26,7 @@ use Rattle.theory.specs.StreamState.{axisOf, absorb-axes, carried-id}
 use Rattle.words_wellformed.specs.StoredWords.{StoredWords, intern-stored}
 use Rattle.words_wellformed.specs.HeldImages.{IsQuarters, HeldImages, none-held, absorbImage-commuting, absorbWord-images, wordImage-signed}
 use Rattle.words_wellformed.specs.Carrying.{wordImage-absorbed, wordImage-none, wordImage-symplectic}
-use Rattle.words_wellformed.specs.PassWords.{afterItems, stream-after}
+use Rattle.words_wellformed.specs.PassWords.{rulesBehind, afterItems, stream-after}
 use Rattle.words_wellformed.specs.RunWords.{TurnsItem}
 use Rattle.run_wellformed.specs.CliffordAngles.{SmallItem, CliffordAngle, two, four, six, even-angle, clifford-angle}
 use Rattle.run_wellformed.specs.CliffordAngles.{withSign-turns}
@@ -264,7 +266,7 @@ module _ (l : ℕ) (v : List ℕ) where
     afterItems-stays r merging p (i ∷ is) u h =
         let q = streamItem l r merging p i in
         let g = streamItem-stays r merging p i u (h .0) in
-        stays-trans p q _ g (λ t. afterItems-stays r merging q is t
+        stays-trans p q _ g (λ t. afterItems-stays (rulesAfter r i) merging q is t
         (every-weaken (FreeTurn (p .store .axes)) (FreeTurn (q .store .axes)) (turn-more (g .grow)) is (h .1)))
 
     -- and at the end of the stream
@@ -272,7 +274,8 @@ module _ (l : ℕ) (v : List ℕ) where
         → StaysUnmoved p (stream l r merging p is)
     stream-stays r merging p is u h =
         let q = afterItems l r merging p is in
-        rw (stream-after l r merging p is) (stays-trans p q _ (afterItems-stays r merging p is u h) (absorbAllWaiting-stays (r .absorption) q))
+        rw (stream-after l r merging p is) (stays-trans p q _ (afterItems-stays r merging p is u h)
+        (absorbAllWaiting-stays (rulesBehind r is .absorption) q))
 
     -- F begins with nothing
     pub begin-unmoved : (st : Store) → StoredWords l (st .axes) → Unmoved (begin st)

@@ -10,7 +10,7 @@ use Rattle.model.specs.declared.Counts.{Counts}
 use Rattle.model.specs.declared.Options.{Options}
 use Rattle.model.specs.declared.Answer.the-variants.{Accepted, CountOutside, OptionOutside, SliceShort}
 use Rattle.model.specs.Program.{Job}
-use Rattle.model.specs.Checking.{Lent, badCount, badOption, programShort, lentShort, checkProgram, checking}
+use Rattle.model.specs.Checking.{Lent, badCount, badOption, programShort, lentShort, checkRecords, checking}
 use Rattle.pauli.specs.Word.{width}
 use Rattle.theory.specs.Cases.{neither}
 use Rattle.theory.specs.Checked.{not-refused}
@@ -76,5 +76,5 @@ unfolding checking
 passed o j s h =
     let a = not-refused (badCount (j .counts)) CountOutside _ refl h in
     let b = not-refused (badOption o) OptionOutside _ refl (a .1) in
-    let c = neither _ _ (not-refused _ SliceShort (checkProgram j) refl (b .1) .0) in
+    let c = neither _ _ (not-refused _ SliceShort (checkRecords (o .«lazy_cliffords») j) refl (b .1) .0) in
     record { counts = a .0; options = b .0; program = c .0; lent = c .1 }

@@ -4,23 +4,32 @@
 -- programs named there are ruled out; here stand the mission's sentences, and those of requests that promise something. Assumes nothing.
 use mathlib.Core.Path.{_≡_, refl, sym, ap, _∙_}
 use mathlib.Core.Logic.{_⊎_, inl, inr, _↔_, ⊎-elim}
-use mathlib.Core.Bool.{Bool}
+use mathlib.Core.Bool.{Bool, true, false, true≢false}
 use mathlib.Core.List.{List}
 use Prim.Native.Nat.{ℕ, _+_, _-_, _≤_}
 use native.Mathlib.Omega.{arith}
 use lib.ListN.{length, getD}
 use Rattle.groups.specs.Abelian.{pow2}
+use Rattle.pauli.specs.Word.{width}
+use Rattle.model.specs.declared.Lazy.the-variants.{Off, From}
 use Rattle.model.specs.declared.Options.{Options}
 use Rattle.model.specs.declared.Answer.{Answer}
 use Rattle.model.specs.declared.Answer.the-variants.{Accepted, SliceShort, NonHermitianAxis}
 use Rattle.model.specs.declared.Strategy.the-variants.{Litinski}
-use Rattle.model.specs.Interface.{numberOf, noCounters}
+use Rattle.model.specs.Interface.{numberOf, ofChecking, noCounters}
 use Rattle.model.specs.Program.{Job, programOf}
-use Rattle.model.specs.Checking.{Lent}
+use Rattle.model.specs.Rules.{rulesOf}
+use Rattle.model.specs.Rounds.{Work}
+use Rattle.model.specs.Run.{startOf}
+use Rattle.model.specs.Checking.{Lent, checking}
 use Rattle.model.specs.Rewriting.{Reply, rewriting}
 use Rattle.theory.specs.Replies.{runOf, limitOf}
 use Rattle.theory.specs.WithoutExchange.{inOrder, reply-in-order}
+use Rattle.theory.specs.WithoutAbsorption.{lazily, reply-unnamed}
+use Rattle.run_wellformed.specs.Points.{Reached}
 use Rattle.run_effect.specs.RunEffect.{Effects, sourceEffect, resultEffect}
+use Rattle.promises.specs.Calls.{PlaceRefused}
+use Rattle.promises.specs.Named.{ChangesAt}
 use Rattle.promises.specs.Left.{operationsIn, rowsIn, wordsIn}
 use Rattle.promises.specs.Strategies.{endWork}
 use Rattle.promises.specs.Alike.{AlikeButRoundsAndLimit, AlikeButLimit}
@@ -36,26 +45,29 @@ nothingCounted = countedBy noCounters 0 0
 -- ==== Demand 1. Memory
 
 module _ {o : Options} {j : Job} {s : Lent} {r : ℕ} {k : List ℕ} {t : Lent} (call : ExportedCall o j s r k t) where
-  refused-counts : (1 ≤ r) → rewriting o j s .counters ≡ noCounters → k ≡ nothingCounted
+  refused-counts : (r ≡ 0 → ⊥) → rewriting o j s .counters ≡ noCounters → k ≡ nothingCounted
   refused-counts h e =
-      let none = rewriting-promises.nothing-counted (rewriting-called call) (λ f. omega (arith, call .answer, ap numberOf f)) in
+      let none = rewriting-promises.nothing-counted (rewriting-called call) (λ f. h (call .answer ∙ ap numberOf f)) in
       call .counts ∙ rw (e, none .0, none .1) refl
 
-  -- a call returns 0 to 10
-  pub returns-0-to-10 : r ≤ 10
-  returns-0-to-10 = omega (arith, call .answer, rewriting-promises.answers-0-to-10 (rewriting-called call))
+  -- a call returns 0 to 10, or 16
+  pub returns-0-to-10-or-16 : (r ≤ 10) ⊎ (r ≡ 16)
+  returns-0-to-10-or-16 =
+      let n = numberOf (rewriting o j s .answer) in
+      ⊎-elim (λ (h : n ≤ 10). inl (omega (arith, call .answer, h))) (λ (h : n ≡ 16). inr (call .answer ∙ h))
+      (rewriting-promises.answers-0-to-10-or-16 (rewriting-called call))
 
-  -- "refusals 1 to 8 leave all slices unchanged"
-  pub refusals-1-to-8 : 1 ≤ r → r ≤ 8 → (t ≡ s) × (k ≡ nothingCounted)
-  refusals-1-to-8 h l =
-      let p = rewriting-promises.refusals-1-to-8 (rewriting-called call) (omega (arith, call .answer)) (omega (arith, call .answer)) in
-      (p .0, refused-counts h (p .1))
+  -- "refusals 1 to 8 leave all slices unchanged"; 02, M-112: 16 leaves memory "as by 8"
+  pub refusals-1-to-8-and-16 : ofChecking r ≡ true → (t ≡ s) × (k ≡ nothingCounted)
+  refusals-1-to-8-and-16 h =
+      let p = rewriting-promises.refusals-1-to-8-and-16 (rewriting-called call) (ap ofChecking (sym (call .answer)) ∙ h) in
+      (p .0, refused-counts (λ e. true≢false (sym h ∙ ap ofChecking e)) (p .1))
 
   -- "9 and 10 leave program and results unchanged and both work stores zero"
-  pub refusals-9-and-10 : 9 ≤ r → Cleared s t × (k ≡ nothingCounted)
-  refusals-9-and-10 h =
-      let p = rewriting-promises.refusals-9-and-10 (rewriting-called call) (omega (arith, call .answer)) in
-      (p .0, refused-counts (omega arith) (p .1))
+  pub refusals-9-and-10 : 9 ≤ r → r ≤ 10 → Cleared s t × (k ≡ nothingCounted)
+  refusals-9-and-10 h l =
+      let p = rewriting-promises.refusals-9-and-10 (rewriting-called call) (omega (arith, call .answer)) (omega (arith, call .answer)) in
+      (p .0, refused-counts (λ e. omega arith) (p .1))
 
   -- "acceptance leaves results, axis words and zeros"
   pub acceptance : r ≡ 0 → AcceptanceLeaves (programOf j) (endWork o j) s t
@@ -148,15 +160,34 @@ module _ {o o′ : Options} {j j′ : Job} {s s′ : Lent} {r r′ : ℕ} {k k�
       y .answer ∙ ap numberOf (rewriting-promises.one-less-is-refused (rewriting-called-as x Accepted done) (rewriting-called y) alike not-short
       (e ∙ words-are x))
 
+-- options by which the reply is the same
+exported-as : {o o′ : Options} {j : Job} {s : Lent} {r : ℕ} {k : List ℕ} {t : Lent} → rewriting o j s ≡ rewriting o′ j s
+    → ExportedCall o j s r k t → ExportedCall o′ j s r k t
+exported-as same call = record {
+  answer = call .answer ∙ ap (λ (x : Reply). numberOf (x .answer)) same;
+  counts = call .counts ∙ ap (λ (x : Reply). countedBy (x .counters) (x .operations) (x .axes)) same;
+  lent = call .lent ∙ ap (λ (x : Reply). x .lent) same;
+}
+
 -- ==== Request M-107. "Second exchange first". Every promise above is of any options, so of either order
 
 module _ {o : Options} {j : Job} {s : Lent} {r : ℕ} {k : List ℕ} {t : Lent} where
   -- "A new setting chooses this order of ties": in Litinski's strategy and at window 0 it has no say
   pub order-has-no-say : (b : Bool) → (o .strategy ≡ Litinski) ⊎ (o .window ≡ 0) → ExportedCall (inOrder b o) j s r k t → ExportedCall o j s r k t
-  order-has-no-say b none call =
-      let same = reply-in-order b o j s none in
-      record {
-        answer = call .answer ∙ ap (λ (x : Reply). numberOf (x .answer)) same;
-        counts = call .counts ∙ ap (λ (x : Reply). countedBy (x .counters) (x .operations) (x .axes)) same;
-        lent = call .lent ∙ ap (λ (x : Reply). x .lent) same;
-      }
+  order-has-no-say b none = exported-as (reply-in-order b o j s none)
+
+-- ==== Request M-112. "Change to lazy absorption during a job". Every promise above is of any options, so of any named place
+
+module _ {o : Options} {j : Job} {s : Lent} {r : ℕ} {k : List ℕ} {t : Lent} (call : ExportedCall o j s r k t) where
+  -- "16 the place is outside the program or holds a plain rotation, tested last among the checks"
+  pub refused-place : r ≡ 16 → PlaceRefused o j
+  refused-place e = rewriting-promises.refused-place (rewriting-called call) (sym (call .answer) ∙ e)
+
+  -- "Even rotations before it are absorbed at their turn; from the next operation on they wait"; "All streams of a run use the same named place"
+  pub each-stream-of-a-call : r ≡ 0 → (place : ℕ) → o .«lazy_cliffords» ≡ From place → o .«clifford_to_frame» ≡ true → {v : Work}
+      → Reached (width (programOf j .qubits)) (rulesOf o) (startOf (programOf j)) v → ChangesAt (rulesOf o) place (v .items)
+  each-stream-of-a-call e = rewriting-promises.each-stream-of-a-call (rewriting-called-as call Accepted e) refl
+
+  -- "Absorption off: even angles stay": then a place that Checking passes changes nothing
+  pub named-without-absorption : checking o j s ≡ Accepted → o .«clifford_to_frame» ≡ false → ExportedCall (lazily Off o) j s r k t
+  named-without-absorption passed e = exported-as (sym (reply-unnamed o j s e passed)) call

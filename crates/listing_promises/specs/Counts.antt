@@ -12,10 +12,13 @@ use Rattle.pauli.specs.Word.{width}
 use Rattle.model.specs.Lists.{if_then_else_}
 use Rattle.model.specs.Program.{Program}
 use Rattle.model.specs.Interface.{defaultsAt}
-use Rattle.model.specs.Rules.{Absorption, off, atOnce, lazy, Rules, absorptionOf, rulesOf}
+use Rattle.model.specs.declared.Lazy.the-variants.{Off}
+use Rattle.model.specs.declared.Absorption.{Absorption}
+use Rattle.model.specs.declared.Absorption.the-variants.{Off as off, AtOnce as atOnce, Lazy as lazy}
+use Rattle.model.specs.Rules.{Rules, absorptionOf, rulesOf, afterBarrier}
 use Rattle.model.specs.Items.{Item, rotation, barrier}
 use Rattle.model.specs.Stream.{Place, nowhere, at, Pass, withLast, countMerge, setAngle, putOut, leaveZero, putOutRotation, carryAxis, absorb}
-use Rattle.model.specs.Stream.{absorbAllWaiting, carryRotation, mergeAt, mergeOrPutOut, takeRotation, streamItem, stream, begin}
+use Rattle.model.specs.Stream.{absorbAllWaiting, carryRotation, mergeAt, mergeOrPutOut, takeRotation, rulesAfter, streamItem, stream, begin}
 use Rattle.model.specs.Rounds.{Work, streamPass, exchangePass, mergeRound, RoundBefore, noRound, roundsFrom, closingStream, mergeRounds, passes}
 use Rattle.model.specs.Run.{startOf, endOf}
 use Rattle.theory.specs.Cases.{by-if, if-true}
@@ -29,7 +32,13 @@ pub record Few (n : ℕ) (p : Pass) : Type 0 where
   pub merges : p .merges ≤ n
   pub absorbed : p .absorbed ≤ n
 
-module _ (l : ℕ) (r : Rules) (once : r .absorption ≡ atOnce) where
+-- without a named place the rules stay
+rules-stay : (r : Rules) (i : Item) → r .lazy ≡ Off → rulesAfter r i ≡ r
+unfolding afterBarrier if_then_else_
+rules-stay r (rotation t) e = refl
+rules-stay r (barrier o a s) e = rw e refl
+
+module _ (l : ℕ) (r : Rules) (once : r .absorption ≡ atOnce) (unnamed : r .lazy ≡ Off) where
   carried-few : (m : Absorption) → m ≡ atOnce → (n : ℕ) (p : Pass) (a : ℕ) → Few n p → Few n (carryRotation l m p a .pass)
   unfolding carryRotation carryAxis
   carried-few off e n p a h = record { merges = h .merges; absorbed = h .absorbed }
@@ -77,7 +86,9 @@ module _ (l : ℕ) (r : Rules) (once : r .absorption ≡ atOnce) where
       let g = none-wait (r .absorption) once n p h in
       record { merges = omega (arith, g .merges); absorbed = omega (arith, g .absorbed) }
   stream-few merging n p (i ∷ is) h =
-      let g = stream-few merging (suc n) (streamItem l r merging p i) is (item-few merging n p i h) in
+      let q = streamItem l r merging p i in
+      let g = subst (λ (s : Rules). Few (suc n + length is) (stream l s merging q is)) (sym (rules-stay r i unnamed))
+      (stream-few merging (suc n) q is (item-few merging n p i h)) in
       record { merges = omega (arith, g .merges); absorbed = omega (arith, g .absorbed) }
 
   -- ---- the passes: at most b items, and n of each counted so far
@@ -135,12 +146,12 @@ default-counts limit p fine =
     let l = width (p .qubits) in
     let r = rulesOf (defaultsAt limit) in
     let b = length (p .operations) in
-    let first : Counted l r refl b 0 (startOf p) = record {
+    let first : Counted l r refl refl b 0 (startOf p) = record {
       formed = start-formed p fine;
       merges = unfold startOf in (omega arith);
       absorbed = unfold startOf in (omega arith);
       swaps = unfold startOf in refl;
     } in
-    let h = closed l r refl refl 8 b (0 + 8 * b) (roundsFrom l r 8 true noRound (startOf p))
-    (rounded l r refl refl 8 b 0 true noRound (startOf p) first) in
+    let h = closed l r refl refl refl 8 b (0 + 8 * b) (roundsFrom l r 8 true noRound (startOf p))
+    (rounded l r refl refl refl 8 b 0 true noRound (startOf p) first) in
     record { merges = omega (arith, h .merges); absorbed = omega (arith, h .absorbed); swaps = h .swaps }

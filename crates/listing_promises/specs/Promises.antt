@@ -32,6 +32,7 @@ use Rattle.result_effect.specs.Listing.{operations-are, rows-are, listed-axes}
 use Rattle.run_effect.specs.RunEffect.{Effects, sourceEffect, resultEffect}
 use Rattle.run_effect.specs.Calls.{listing-keeps-effect}
 use Rattle.promises.specs.Strategies.{endWork}
+use Rattle.promises.specs.Calls.{of-low}
 use Rattle.promises.specs.Promises as rewriting-promises
 use Rattle.promises.specs.Promises.{Cleared, AcceptanceLeaves, tCountHanded}
 use Rattle.listing_columns.specs.Back.{textBack, linesBack, firstBack}
@@ -103,12 +104,20 @@ module _ {text out : List ℕ} {s : Lent} {a : Answer} {size : ℕ} {out′ : Li
       room (yes h) = short h
       room (no h) = go (omega arith) (read text) refl
 
+  -- a listing names no place
+  as-rewriting : {t : Read} → CalledOn t s a s′ → numberOf a ≤ 10
+  as-rewriting {t} c = go (rewriting-promises.answers-0-to-10-or-16 c)
+    where
+      go : (numberOf a ≤ 10) ⊎ (numberOf a ≡ 16) → numberOf a ≤ 10
+      go (inl h) = h
+      go (inr h) = let e = rewriting-promises.refused-place c h .named in let z : _≡_ {A = ℕ} 0 1 = cc in absurd (omega arith)
+
   -- a call answers 0 to 11.
   -- Rules out: a number of its own for an output that is short; 12 for a text without lines
   pub answers-0-to-11 : numberOf a ≤ 11
   answers-0-to-11 =
       by-cases (numberOf a ≤ 11) (λ h. omega (arith, ap numberOf (no-room h .0))) (λ h e. omega (arith, ap numberOf (unread-by call h e .0)))
-      (λ t h e. omega (arith, rewriting-promises.answers-0-to-10 (called-by call h t e)))
+      (λ t h e. omega (arith, as-rewriting (called-by call h t e)))
 
   -- 11 exactly where the text cannot be read: "a line has the wrong length, a field is no number, ..".
   -- Rules out: a field with leading zeros taken for a number; 1 for more than 64 qubits
@@ -118,7 +127,7 @@ module _ {text out : List ℕ} {s : Lent} {a : Answer} {size : ℕ} {out′ : Li
       there : a ≡ BadText → (mostBytes ≤ length out) × (read text ≡ none)
       there f =
           by-cases _ (λ h. let e = no-room h .0 in let z : _≡_ {A = ℕ} 0 1 = cc in absurd (omega arith)) (λ h e. (h, e))
-          (λ t h e. absurd (omega (arith, ap numberOf f, rewriting-promises.answers-0-to-10 (called-by call h t e))))
+          (λ t h e. absurd (omega (arith, ap numberOf f, as-rewriting (called-by call h t e))))
 
   -- so whatever is answered but 3 and 11, the text says a program: the promises below about accepted calls leave none out.
   -- Rules out: 0 for an empty text; 10 for a text of too many lines
@@ -140,8 +149,8 @@ module _ {text out : List ℕ} {s : Lent} {a : Answer} {size : ℕ} {out′ : Li
       by-cases (s′ ≡ s) (λ r. no-room r .1 .slices) (λ r e. unread-by call r e .1) (λ t r e. go (called-by call r t e) k)
     where
       go : {t : Read} → CalledOn t s a s′ → (numberOf a ≤ 8) ⊎ (numberOf a ≡ 11) → s′ ≡ s
-      go c (inl l) = rewriting-promises.refusals-1-to-8 c h l .0
-      go c (inr l) = absurd (omega (arith, rewriting-promises.answers-0-to-10 c))
+      go c (inl l) = rewriting-promises.refusals-1-to-8-and-16 c (of-low _ h l) .0
+      go c (inr l) = absurd (omega (arith, as-rewriting c))
 
   -- "9 and 10 leave program and results unchanged and both work stores zero".
   -- Rules out: packed words left in the word store after 9; the text's records left in the number store
@@ -149,7 +158,7 @@ module _ {text out : List ℕ} {s : Lent} {a : Answer} {size : ℕ} {out′ : Li
   refusals-9-and-10 h k =
       by-cases (Cleared s s′) (λ r. absurd (omega (arith, ap numberOf (no-room r .0))))
       (λ r e. absurd (omega (arith, ap numberOf (unread-by call r e .0))))
-      (λ t r e. rewriting-promises.refusals-9-and-10 (called-by call r t e) h .0)
+      (λ t r e. rewriting-promises.refusals-9-and-10 (called-by call r t e) h k .0)
 
   -- nothing is written outside the text and the four slices.
   -- Rules out: a last line that runs over the output's end; the rest of the output filled with blanks

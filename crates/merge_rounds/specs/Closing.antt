@@ -6,6 +6,8 @@ use Prim.Native.Nat.{ℕ, suc, _+_, _-_}
 use native.Mathlib.Nat.{lt-of-lt-of-le}
 use native.Mathlib.Omega.{arith}
 use borrow.Author.Tests.{not-true, not-false}
+use Rattle.model.specs.declared.Lazy.{Lazy}
+use Rattle.model.specs.declared.Lazy.the-variants.{Off, On, From}
 use Rattle.model.specs.declared.Options.{Options}
 use Rattle.model.specs.Lists.{if_then_else_, anyOf}
 use Rattle.model.specs.Program.{Program}
@@ -34,9 +36,10 @@ on-frame : (o : Options) → o .«clifford_to_frame» ≡ true → isOn (rulesOf
 unfolding rulesOf absorptionOf if_then_else_
 on-frame o e = go (o .«lazy_cliffords») refl
   where
-    go : (b : Bool) → o .«lazy_cliffords» ≡ b → isOn (absorptionOf o) ≡ true
-    go true f = rw (e, f) refl
-    go false f = rw (e, f) refl
+    go : (s : Lazy) → o .«lazy_cliffords» ≡ s → isOn (absorptionOf o) ≡ true
+    go Off f = rw (e, f) refl
+    go On f = rw (e, f) refl
+    go (From n) f = rw (e, f) refl
 
 -- the work behind the rounds
 abbrev pub closed : Shape → Options → Work → Work

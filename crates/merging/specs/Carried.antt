@@ -4,7 +4,8 @@ use mathlib.Core.Bool.{Bool}
 use mathlib.Core.List.{List}
 use Prim.Native.Nat.{ℕ, _≤_, _<_}
 use native.Mathlib.Omega.{arith}
-use Rattle.model.specs.Rules.{Absorption, Rules}
+use Rattle.model.specs.declared.Absorption.{Absorption}
+use Rattle.model.specs.Rules.{Rules}
 use Rattle.model.specs.Items.{withSign}
 use Rattle.model.specs.Clifford.{Touched}
 use Rattle.model.specs.Stream.{Pass, axisImage, imageId, carryAxis, takeRotation}
@@ -17,7 +18,7 @@ use Rattle.steps.specs.declared.State.{State}
 use Rattle.steps.specs.declared.Step.{Step}
 use Rattle.steps.specs.declared.Step.the-variants.{Next, ExpansionLimit}
 use Rattle.stream_states.specs.declared.StreamRules.{StreamRules}
-use Rattle.stream_states.specs.States.{heldOf, SomePass, absorptionSaid, SteppedAs, as-limit, stepped-from}
+use Rattle.stream_states.specs.States.{heldOf, SomePass, SteppedAs, as-limit, stepped-from}
 use Rattle.stream_states.specs.Carrying.{CarryPass, CarryLeft, carry-pre, carry-refused, carried-at, carried-in, carried-id, carried-turns}
 use Rattle.stream_states.specs.Carrying.{carried-same}
 use Rattle.merging.specs.Taking.{TakingAt}
@@ -27,7 +28,7 @@ pub record CarryingAt (z : Shape) (c : StreamRules) (st : State) (a k : ℕ) (ws
   pub carry : CarryPass z st a ws xs m n p
   pub some : 0 < k
   pub small : k ≤ 7
-  pub mode : m ≡ absorptionSaid c
+  pub mode : m ≡ c .absorption
   pub few-merges : st .merges < 9223372036854775808
   pub few : st .absorbed < 9223372036854775808
 

@@ -1,6 +1,6 @@
 -- The steps of a rotation that was carried: put out, left as a zero, absorbed, merged. Assumes nothing.
-use mathlib.Core.Path.{_≡_, refl, sym, ap, ap₂, _∙_, subst}
-use mathlib.Core.Bool.{Bool, true, false, not, _&&_, true≢false}
+use mathlib.Core.Path.{_≡_, refl, sym, ap, _∙_, subst}
+use mathlib.Core.Bool.{Bool, true, false, not, _&&_}
 use mathlib.Core.List.{List, [], _∷_}
 use Prim.Native.Nat.{ℕ, suc, _+_, _*_, _≤_, _<_}
 use native.Mathlib.Decide.{ℕ-discrete}
@@ -9,12 +9,14 @@ use lib.Dec.{eqb}
 use lib.ListN.{length}
 use Rattle.store.specs.Row.{Written}
 use Rattle.model.specs.Lists.{allOf, anyOf, member, isEven}
-use Rattle.model.specs.Rules.{Absorption, off, atOnce, lazy}
+use Rattle.model.specs.declared.Absorption.{Absorption}
+use Rattle.model.specs.declared.Absorption.the-variants.{Off as off, Lazy as lazy}
+use Rattle.model.specs.Rules.{isLazy}
 use Rattle.model.specs.Words.{wordOf}
 use Rattle.model.specs.Items.{isClifford}
 use Rattle.model.specs.Clifford.{Touched, absorbWord}
 use Rattle.model.specs.Stream.{Pass, leaveZero, putOutRotation, absorb}
-use Rattle.theory.specs.Cases.{if-true, if-false, and-left, and-right}
+use Rattle.theory.specs.Cases.{and-left}
 use Rattle.layout.specs.declared.Shape.{Shape}
 use Rattle.layout.specs.Rows.{rowCount, outRow, lastRow, waitingRow}
 use Rattle.layout.specs.Only.{Only, only-none, only-of, only-then, only-written}
@@ -33,7 +35,7 @@ use Rattle.steps.specs.declared.Step.{Step}
 use Rattle.steps.specs.declared.Step.the-variants.{Next, ExpansionLimit}
 use Rattle.stream_states.specs.declared.StreamRules.{StreamRules}
 use Rattle.steps.specs.State.{withSlots, withOut, withWaiting, withAbsorbed}
-use Rattle.stream_states.specs.States.{heldOf, isWaiting, HoldsPass, PassAt, SomePass, absorptionSaid, streamRows}
+use Rattle.stream_states.specs.States.{heldOf, isWaiting, HoldsPass, PassAt, SomePass, lazy-only, streamRows}
 use Rattle.stream_states.specs.States.{LeftS, SteppedAs, as-next, as-limit}
 use Rattle.stream_states.specs.Output.{WaitsBut, but-quiet, pass-other, with-list, angle-set, last-cleared, put-waits}
 use Rattle.stream_states.specs.Output.{rotation-put}
@@ -41,54 +43,33 @@ use Rattle.stream_states.specs.Known.{axes-count}
 
 -- ---- a place waits
 
+-- a test of the rules, b, and of the angle
+pub test-and : {a b : Bool} (t : Bool) (k : ℕ) → b ≡ a → b ≡ t → t && isEven k ≡ a && isEven k
+test-and t k e f = ap (λ (x : Bool). x && isEven k) (sym f ∙ e)
+
 -- whether angle k is left to wait
 unfoldable pub isLater : StreamRules → ℕ → Bool
-isLater c k = c .«to_frame» && (c .lazy && isEven k)
+isLater c k = isLazy (c .absorption) && isEven k
 
-pub later-off : (c : StreamRules) (k : ℕ) → c .«to_frame» ≡ false → false ≡ isLater c k
+later-lazy : (c : StreamRules) (k : ℕ) → isLater c k ≡ true → c .absorption ≡ lazy
 unfolding isLater
-later-off c k e = ap (λ (t : Bool). t && (c .lazy && isEven k)) (sym e)
-
-pub later-once : (c : StreamRules) (k : ℕ) → c .«to_frame» ≡ true → c .lazy ≡ false → false ≡ isLater c k
-unfolding isLater
-later-once c k e f = sym (ap₂ (λ (s t : Bool). s && (t && isEven k)) e f)
-
-pub later-even : (c : StreamRules) (k : ℕ) → c .«to_frame» ≡ true → c .lazy ≡ true → isEven k ≡ isLater c k
-unfolding isLater
-later-even c k e f = sym (ap₂ (λ (s t : Bool). s && (t && isEven k)) e f)
-
-later-lazy : (c : StreamRules) (k : ℕ) → isLater c k ≡ true → absorptionSaid c ≡ lazy
-unfolding isLater absorptionSaid
-later-lazy c k e =
-    if-true _ _ (and-left (c .«to_frame») _ e) ∙ if-true _ _ (and-left (c .lazy) _ (and-right (c .«to_frame») _ e))
+later-lazy c k e = lazy-only (c .absorption) (and-left (isLazy (c .absorption)) _ e)
 
 -- what is not left to wait does not wait, in lazy mode
-later-not : (c : StreamRules) (k : ℕ) → isLater c k ≡ false → absorptionSaid c ≡ lazy → isClifford k ≡ false
-unfolding isLater absorptionSaid
-later-not c k e f = go (c .«to_frame») refl (c .lazy) refl (isEven k) refl
-  where
-    go : (a : Bool) → c .«to_frame» ≡ a → (b : Bool) → c .lazy ≡ b → (d : Bool) → isEven k ≡ d → isClifford k ≡ false
-    go false g b h d i = absurd (no-off (sym (if-false {A = Absorption} _ off g) ∙ f))
-      where
-        no-off : off ≡ lazy → ⊥
-        no-off o = let x : _≡_ {A = ℕ} 0 1 = cc in omega arith
-    go true g false h d i = absurd (no-once (sym (if-true {A = Absorption} _ off g ∙ if-false {A = Absorption} lazy atOnce h) ∙ f))
-      where
-        no-once : atOnce ≡ lazy → ⊥
-        no-once o = let x : _≡_ {A = ℕ} 0 1 = cc in omega arith
-    go true g true h true i = absurd (true≢false (sym (ap₂ (λ (s t : Bool). s && t) g (ap₂ (λ (s t : Bool). s && t) h i)) ∙ e))
-    go true g true h false i = ap (λ (t : Bool). t && not (eqb k 0)) i
+later-not : (c : StreamRules) (k : ℕ) → isLater c k ≡ false → c .absorption ≡ lazy → isClifford k ≡ false
+unfolding isLater
+later-not c k e f = ap (λ (t : Bool). t && not (eqb k 0)) (sym (ap (λ (m : Absorption). isLazy m && isEven k) f) ∙ e)
 
 pub record NamePre (z : Shape) (c : StreamRules) (st : State) (j : ℕ) (xs : List ℕ) : Type 0 where
   pub numbers-long : rowCount * z .u ≤ length xs
   pub place : j < longestRow
-  pub few : absorptionSaid c ≡ lazy → st .waiting < z .u
+  pub few : c .absorption ≡ lazy → st .waiting < z .u
 
 -- place j of the output, by angle k, is named if it waits
 pub record PlaceNamed (z : Shape) (c : StreamRules) (st : State) (j k : ℕ) (xs xs′ : List ℕ) (r : State) : Type 0 where
   pub state : r ≡ withWaiting (r .waiting) st
   pub only : Only (waitingRow ∷ []) (z .u) xs xs′
-  pub holds : (m : Absorption) (ws : List ℕ) (p : Pass) → m ≡ absorptionSaid c → HoldsPass z off st ws xs p → j < st .out
+  pub holds : (m : Absorption) (ws : List ℕ) (p : Pass) → m ≡ c .absorption → HoldsPass z off st ws xs p → j < st .out
       → (m ≡ lazy → WaitsBut z xs (st .waiting) (st .out) j k) → HoldsPass z m r ws xs′ p
 
 module _ {z : Shape} {c : StreamRules} {st : State} {j k : ℕ} {xs : List ℕ} {t : Bool} (said : t ≡ isLater c k) where
@@ -143,12 +124,12 @@ pub record PutPre (z : Shape) (c : StreamRules) (st : State) (id : ℕ) (xs : Li
   pub space : st .out < z .u
   pub axis : id < z .u
   pub small : z .u ≤ longestRow
-  pub few : absorptionSaid c ≡ lazy → st .waiting < z .u
+  pub few : c .absorption ≡ lazy → st .waiting < z .u
 
 pub record OutPut (z : Shape) (c : StreamRules) (st : State) (id k : ℕ) (xs xs′ : List ℕ) (r : State) : Type 0 where
   pub state : r ≡ withWaiting (r .waiting) (withOut (st .out + 1) st)
   pub left : Only streamRows (z .u) xs xs′
-  pub holds : (m : Absorption) (ws : List ℕ) (p : Pass) → m ≡ absorptionSaid c → HoldsPass z m st ws xs p
+  pub holds : (m : Absorption) (ws : List ℕ) (p : Pass) → m ≡ c .absorption → HoldsPass z m st ws xs p
       → HoldsPass z m r ws xs′ (putOutRotation p id k)
 
 module _ {z : Shape} {c : StreamRules} {st : State} {id k : ℕ} {xs xs₁ xs₂ : List ℕ} (pre : PutPre z c st id xs)

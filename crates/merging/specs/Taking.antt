@@ -8,7 +8,8 @@ use lib.Dec.{ltb}
 use lib.ListN.{length}
 use borrow.Author.Tests.{lt-ltb, le-ltb, ltb-true, ltb-false, eq-eqb, ne-eqb, eqb-false}
 use Rattle.model.specs.Lists.{if_then_else_, allOf, anyOf, member, isEven, isOdd}
-use Rattle.model.specs.Rules.{Absorption, off, atOnce, lazy, isAtOnce, Rules}
+use Rattle.model.specs.declared.Absorption.{Absorption}
+use Rattle.model.specs.Rules.{isAtOnce, Rules}
 use Rattle.model.specs.Items.{rot, Item, rotation, isClifford, angleOf}
 use Rattle.model.specs.Stream.{Place, nowhere, at, Pass, withLast, countMerge, setAngle, leaveZero, putOutRotation, absorb, angleAt}
 use Rattle.model.specs.Stream.{canReach}
@@ -29,7 +30,7 @@ use Rattle.steps.specs.State.{withMerges}
 use Rattle.steps.specs.declared.Step.{Step}
 use Rattle.steps.specs.declared.Step.the-variants.{Next, ExpansionLimit}
 use Rattle.stream_states.specs.declared.StreamRules.{StreamRules}
-use Rattle.stream_states.specs.States.{lastIn, HoldsPass, FinePass, PassAt, SomePass, absorptionSaid, RulesAs, streamRows}
+use Rattle.stream_states.specs.States.{lastIn, HoldsPass, FinePass, PassAt, SomePass, RulesAs, streamRows}
 use Rattle.stream_states.specs.States.{LeftS, SteppedAs, as-next, as-limit, stepped-from}
 use Rattle.stream_states.specs.Output.{never, without-list, angle-waits, angle-set, place-here, place-none}
 use Rattle.stream_states.specs.Known.{out-long, out-few, axes-few, out-item, out-rotation, axes-stored, waiting-few}
@@ -95,19 +96,6 @@ module _ {z : Shape} {st : State} {j id k : ℕ} {ws xs ws₁ xs₁ : List ℕ} 
 
 -- ---- merging
 
--- whether it is absorbed at its turn
-pub once-off : (c : StreamRules) (k : ℕ) → c .«to_frame» ≡ false → false ≡ (isAtOnce (absorptionSaid c) && isEven k)
-unfolding absorptionSaid
-once-off c k e = rw (if-false {A = Absorption} _ off e) refl
-
-pub once-lazy : (c : StreamRules) (k : ℕ) → c .«to_frame» ≡ true → c .lazy ≡ true → false ≡ (isAtOnce (absorptionSaid c) && isEven k)
-unfolding absorptionSaid
-once-lazy c k e f = rw (if-true {A = Absorption} _ off e, if-true {A = Absorption} lazy atOnce f) refl
-
-pub once-even : (c : StreamRules) (k : ℕ) → c .«to_frame» ≡ true → c .lazy ≡ false → isEven k ≡ (isAtOnce (absorptionSaid c) && isEven k)
-unfolding absorptionSaid
-once-even c k e f = rw (if-true {A = Absorption} _ off e, if-false {A = Absorption} lazy atOnce f) refl
-
 pub record MergingAt (z : Shape) (c : StreamRules) (st : State) (j id k : ℕ) (ws xs : List ℕ) (m : Absorption) (n : ℕ)
     (p : Pass) : Type 0 where
   pub at : PassAt z m n st ws xs p
@@ -115,7 +103,7 @@ pub record MergingAt (z : Shape) (c : StreamRules) (st : State) (j id k : ℕ) (
   pub place : j < st .out
   pub tag : taggedAt xs (z .u) outRow j .tag ≡ 0
   pub small : k ≤ 7
-  pub mode : m ≡ absorptionSaid c
+  pub mode : m ≡ c .absorption
   pub few-merges : st .merges < 9223372036854775808
   pub few : st .absorbed < 9223372036854775808
 
@@ -219,7 +207,7 @@ module _ {z : Shape} {c : StreamRules} {st : State} {j id k : ℕ} {ws xs : List
         result (subst (SteppedAs z m 1 1 st (Next (withMerges (st .merges + 1) st)) ws xs′) (sym (merge-zero (z .l) m (countMerge p) j id _ e))
         (as-next (left .holds m (withMerges (st .merges + 1) st) ws (countMerge p) counted (h .place)) (omega arith) (omega arith)))
 
-    module _ (n0 : (old % 8 + k) % 8 ≡ 0 → ⊥) {t : Bool} (said : t ≡ (isAtOnce (absorptionSaid c) && isEven ((old % 8 + k) % 8))) where
+    module _ (n0 : (old % 8 + k) % 8 ≡ 0 → ⊥) {t : Bool} (said : t ≡ (isAtOnce (c .absorption) && isEven ((old % 8 + k) % 8))) where
       once : t ≡ (isAtOnce m && isEven ((old % 8 + k) % 8))
       once = said ∙ ap (λ (x : Absorption). isAtOnce x && isEven ((old % 8 + k) % 8)) (sym (h .mode))
 
@@ -345,7 +333,7 @@ pub record TakingAt (z : Shape) (c : StreamRules) (st : State) (id k : ℕ) (ws 
   pub id-in : id < st .axes
   pub some : 0 < k
   pub small : k ≤ 7
-  pub mode : m ≡ absorptionSaid c
+  pub mode : m ≡ c .absorption
   pub few-merges : st .merges < 9223372036854775808
   pub few : st .absorbed < 9223372036854775808
 
@@ -363,10 +351,10 @@ module _ {z : Shape} {c : StreamRules} {st : State} {id k : ℕ} {ws xs : List �
   pub taking-last : LastPre z id xs
   taking-last = record { numbers-long = h .at .granted .numbers-long; axis = omega (arith, h .id-in, axes-few (h .at)) }
 
-  once-said : {t : Bool} → t ≡ (isAtOnce (absorptionSaid c) && isEven k) → t ≡ (isAtOnce m && isEven k)
+  once-said : {t : Bool} → t ≡ (isAtOnce (c .absorption) && isEven k) → t ≡ (isAtOnce m && isEven k)
   once-said said = said ∙ ap (λ (x : Absorption). isAtOnce x && isEven k) (sym (h .mode))
 
-  pub taking-absorbs : {t : Bool} → t ≡ (isAtOnce (absorptionSaid c) && isEven k) → t ≡ true → AbsorbingAt z st id k ws xs m n p
+  pub taking-absorbs : {t : Bool} → t ≡ (isAtOnce (c .absorption) && isEven k) → t ≡ true → AbsorbingAt z st id k ws xs m n p
   taking-absorbs said e = record {
     at = h .at;
     id-in = h .id-in;
@@ -414,7 +402,7 @@ module _ {z : Shape} {c : StreamRules} {st : State} {id k : ℕ} {ws xs : List �
 
 -- the model's, for the rules g
 module _ {z : Shape} {c : StreamRules} {g : Rules} (rules : RulesAs c g) {st : State} {id k : ℕ} {ws xs : List ℕ} {n : ℕ} {p : Pass}
-    (h : TakingAt z c st id k ws xs (g .absorption) n p) {t : Bool} (once : t ≡ (isAtOnce (absorptionSaid c) && isEven k)) where
+    (h : TakingAt z c st id k ws xs (g .absorption) n p) {t : Bool} (once : t ≡ (isAtOnce (c .absorption) && isEven k)) where
   pub take-once : t ≡ true → takeRotation (z .l) g (c .merge) p id k ≡ absorb (z .l) p id k
   unfolding takeRotation
   take-once e = if-true _ _ (sym (once-said h once) ∙ e)
@@ -453,7 +441,7 @@ module _ {z : Shape} {c : StreamRules} {g : Rules} (rules : RulesAs c g) {st : S
 -- ---- the answers
 
 pub put-next : {z : Shape} {c : StreamRules} {m : Absorption} {st r : State} {id k : ℕ} {ws xs xs′ : List ℕ} {p q : Pass}
-    → m ≡ absorptionSaid c
+    → m ≡ c .absorption
     → HoldsPass z m st ws xs p → OutPut z c st id k xs xs′ r → q ≡ putOutRotation p id k → SteppedAs z m 1 1 st (Next r) ws xs′ q
 put-next {z} {c} {m} {st} {r} {id} {k} {ws} {xs} {xs′} {p} mode h o e =
     let a = ap (λ (s : State). s .merges) (o .state) in

@@ -2,11 +2,12 @@
 ghost use mathlib.Core.Path.{_≡_};
 ghost use mathlib.Core.Bool.{_&&_, not};
 ghost use Prim.Native.Nat.{ℕ, _+_, _%_};
-ghost use Rattle.model.specs.Rules.{Absorption, Rules, isAtOnce};
+ghost use Rattle.model.specs.declared.Absorption.{Absorption};
+ghost use Rattle.model.specs.Rules.{Rules, isAtOnce};
 ghost use Rattle.model.specs.Stream.{Pass, absorb, leaveZero, countMerge, mergeAt, angleAt, takeRotation, carryAxis, imageId, axisImage};
 ghost use Rattle.model.specs.Lists.{isEven};
 ghost use Rattle.model.specs.Items.{withSign};
-ghost use Rattle.stream_states.specs.States.{SomePass, LeftS, SteppedAs, absorptionSaid, RulesAs};
+ghost use Rattle.stream_states.specs.States.{SomePass, LeftS, SteppedAs, RulesAs};
 ghost use Rattle.merging.specs.Reach.{BlocksPre, passes, ReachPre, reaches};
 ghost use Rattle.merging.specs.Steps.{isLater, NamePre, PlaceNamed, PutPre, OutPut, LeftAbsorbed, ZeroPre, ZeroLeft, AbsorbingAt};
 ghost use Rattle.merging.specs.Taking.{MergedAt, MergingAt, lastSaid, LastPre, TakingAt};
@@ -61,10 +62,7 @@ fn can_reach(
 fn later(rules: StreamRules, k: u32) -> bool
     ensures { λ r. ⌜ r ≡ isLater rules k ⌝ }
 {
-    if !rules.to_frame {
-        return false;
-    }
-    if !rules.lazy {
+    if !stream_states::is_lazy(rules) {
         return false;
     }
     k % 2 != 1
@@ -143,12 +141,9 @@ fn absorb(
 
 // Whether angle k is absorbed at its turn.
 fn at_once(rules: StreamRules, k: u32) -> bool
-    ensures { λ r. ⌜ r ≡ isAtOnce (absorptionSaid rules) && isEven k ⌝ }
+    ensures { λ r. ⌜ r ≡ isAtOnce (rules .absorption) && isEven k ⌝ }
 {
-    if !rules.to_frame {
-        return false;
-    }
-    if rules.lazy {
+    if !stream_states::is_at_once(rules) {
         return false;
     }
     k % 2 != 1

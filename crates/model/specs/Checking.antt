@@ -1,16 +1,18 @@
--- 01, "Turning work down", Checking: the answers 0 to 8 in the stated order. Assumes nothing.
+-- 01, "Turning work down", Checking: the answers 0 to 8 in the stated order, then 16. Assumes nothing.
 use mathlib.Core.Bool.{Bool, not, _&&_, _||_}
 use mathlib.Core.List.{List, [], _∷_}
 use Prim.Native.Nat.{ℕ, zero, suc, _+_, _*_, _/_, _%_}
 use lib.Dec.{eqb, ltb, leb}
-use lib.ListN.{length}
+use lib.ListN.{length, getD}
 use Rattle.pauli.specs.Word.{width, phase}
+use Rattle.model.specs.declared.Lazy.{Lazy}
+use Rattle.model.specs.declared.Lazy.the-variants.{Off, On, From}
 use Rattle.model.specs.declared.Options.{Options}
 use Rattle.model.specs.declared.Counts.{Counts}
 use Rattle.model.specs.declared.Answer.{Answer}
 use Rattle.model.specs.declared.Answer.the-variants.{Accepted, CountOutside, OptionOutside, SliceShort, BadNode, BadQubit, BadReference}
 use Rattle.model.specs.declared.Answer.the-variants.{BadOperation}
-use Rattle.model.specs.declared.Answer.the-variants.{BadOutcome}
+use Rattle.model.specs.declared.Answer.the-variants.{BadOutcome, BadPlace}
 use Rattle.model.specs.Lists.{if_then_else_, member}
 use Rattle.model.specs.Interface.{accepts}
 use Rattle.model.specs.Program.{fieldOf, largestOutcome, noOutcome, Job, nodeRecords, operationRecords, rowRecords}
@@ -131,8 +133,22 @@ checkProgram j =
     andThen (checkNodes (j .counts .qubits) 0 (nodeRecords j))
     (andThen (checkOperations (j .counts .nodes) [] (operationRecords j)) (checkRows (j .counts .nodes) 0 (rowRecords j)))
 
+-- 02, M-112: "16 the place is outside the program or holds a plain rotation"
+unfoldable pub badPlace : ℕ → List (List ℕ) → Bool
+badPlace n rs = leb (length rs) n || eqb (fieldOf (getD rs n []) 0) 1
+
+unfoldable pub checkPlace : Lazy → List (List ℕ) → Answer
+checkPlace Off rs = Accepted
+checkPlace On rs = Accepted
+checkPlace (From n) rs = if badPlace n rs then BadPlace else Accepted
+
+-- 16 is "tested last among the checks"
+unfoldable pub checkRecords : Lazy → Job → Answer
+checkRecords setting j = andThen (checkProgram j) (checkPlace setting (operationRecords j))
+
 unfoldable pub checking : Options → Job → Lent → Answer
 checking o j s =
     if badCount (j .counts) then CountOutside else
     if badOption o then OptionOutside else
-    if programShort j || lentShort (j .counts) s (o .«max_packed_words») then SliceShort else checkProgram j
+    if programShort j || lentShort (j .counts) s (o .«max_packed_words») then SliceShort else
+    checkRecords (o .«lazy_cliffords») j

@@ -10,9 +10,13 @@ use Rattle.angle.specs.Angle.{eighthsOf, signedAngle}
 use Rattle.pauli.specs.Letter.{single}
 use Rattle.model.specs.declared.Strategy.{Strategy}
 use Rattle.model.specs.declared.Strategy.the-variants.{Merge, Litinski}
+use Rattle.model.specs.declared.Lazy.{Lazy}
+use Rattle.model.specs.declared.Lazy.the-variants.{Off, On, From}
 use Rattle.model.specs.declared.Options.{Options}
 use Rattle.model.specs.Program.{identity, letter, product, rotate, measure, Operation, Program}
-use Rattle.model.specs.Rules.{Absorption, off, atOnce, lazy, Rules, rulesOf}
+use Rattle.model.specs.declared.Absorption.{Absorption}
+use Rattle.model.specs.declared.Absorption.the-variants.{Off as off, AtOnce as atOnce, Lazy as lazy}
+use Rattle.model.specs.Rules.{Rules, absorptionBy, rulesOf}
 use Rattle.model.specs.Words.{asValue}
 use Rattle.model.specs.Clifford.{absorbImage}
 use Rattle.model.specs.Items.{rot, rotation, tCount}
@@ -42,6 +46,7 @@ rulesFor strategy secondFirst lookback window candidates absorption = record {
   lookback = lookback;
   exchange = record { window = window; candidates = candidates; eager = true; «second_first» = secondFirst };
   absorption = absorption;
+  lazy = Off;
   strategy = strategy;
   depth = false;
 }
@@ -49,9 +54,33 @@ rulesFor strategy secondFirst lookback window candidates absorption = record {
 abbrev rules : ℕ → ℕ → ℕ → Absorption → Rules
 rules = rulesFor Merge false
 
+-- 02, M-112: Rust's other defaults, by the lazy setting
+abbrev lazyBy : ℕ → ℕ → Lazy → Rules
+lazyBy lookback window setting = record {
+  lookback = lookback;
+  exchange = record { window = window; candidates = 16; eager = true; «second_first» = false };
+  absorption = absorptionBy setting;
+  lazy = setting;
+  strategy = Merge;
+  depth = false;
+}
+
+-- X:1 Z:2 Y:1, a measurement of Z, X:1 Z:2 Y:1
+abbrev twice : Program
+twice = qubit (turn 1 1 ∷ turn 2 2 ∷ turn 3 1 ∷ measured 2 ∷ turn 1 1 ∷ turn 2 2 ∷ turn 3 1 ∷ [])
+
+-- XX:1 YY:1 ZI:1 IZ:1 YY:3 IX:1 XX:1, a measurement of ZI
+abbrev beforeNamed : Program
+beforeNamed = record {
+  qubits = 2;
+  nodes = identity ∷ letter 0 1 ∷ letter 0 2 ∷ letter 0 3 ∷ letter 1 1 ∷ letter 1 2 ∷ letter 1 3 ∷ product 1 0 4 0 ∷ product 2 0 5 0 ∷ [];
+  operations = turn 7 1 ∷ turn 8 1 ∷ turn 3 1 ∷ turn 6 1 ∷ turn 8 3 ∷ turn 4 1 ∷ turn 7 1 ∷ measured 3 ∷ [];
+  rows = [];
+}
+
 -- no two numbers alike
-abbrev options : Options
-options = record {
+abbrev options : Lazy → Options
+options setting = record {
   lookback = 1;
   window = 2;
   candidates = 3;
@@ -59,7 +88,7 @@ options = record {
   «clifford_to_frame» = true;
   «eager_swaps» = false;
   «second_exchange_first» = true;
-  «lazy_cliffords» = true;
+  «lazy_cliffords» = setting;
   strategy = Litinski;
   «measure_depth» = true;
   «max_packed_words» = 5;
@@ -75,7 +104,7 @@ newOrder = record {
   «clifford_to_frame» = false;
   «eager_swaps» = false;
   «second_exchange_first» = true;
-  «lazy_cliffords» = false;
+  «lazy_cliffords» = Off;
   strategy = Merge;
   «measure_depth» = false;
   «max_packed_words» = 0;
@@ -104,16 +133,32 @@ pub record RuledOut : Type 0 where
   pub second-with-third : endOf (rulesFor Merge true 0 1 16 off) 1 (qubits (turn 1 1 ∷ turn 2 1 ∷ turn 1 1 ∷ [])) .items
       ≡ rotation (rot 0 2) ∷ rotation (rot 1 1) ∷ []
   -- options taken for one another
-  pub options-to-rules : rulesOf options
+  pub options-to-rules : rulesOf (options On)
       ≡ record {
         lookback = 1;
         exchange = record { window = 2; candidates = 3; eager = false; «second_first» = true };
         absorption = lazy;
+        lazy = On;
+        strategy = Litinski;
+        depth = true;
+      }
+  pub named-to-rules : rulesOf (options (From 6))
+      ≡ record {
+        lookback = 1;
+        exchange = record { window = 2; candidates = 3; eager = false; «second_first» = true };
+        absorption = atOnce;
+        lazy = From 6;
         strategy = Litinski;
         depth = true;
       }
   -- another flag taken for the order of ties
   pub order-to-rules : rulesOf newOrder .exchange .«second_first» ≡ true
+  -- a named measurement that changes nothing, or changes what comes before it (02, M-112): none is left at once, 4 lazily, 2 if it is named
+  pub at-once-all : tCount (endOf (lazyBy 0 0 Off) 1 twice .items) ≡ 0
+  pub lazy-all : tCount (endOf (lazyBy 0 0 On) 1 twice .items) ≡ 4
+  pub lazy-behind : tCount (endOf (lazyBy 0 0 (From 3)) 1 twice .items) ≡ 2
+  -- a later stream that begins lazily would keep 5
+  pub each-begins-at-once : tCount (endOf (lazyBy 1 4 (From 7)) 2 beforeNamed .items) ≡ 3
   -- a stop rule with "higher" for "no lower": IY:1 YI:2 YY:2 YY:6 YI:6 IY:1 would keep none
   pub no-lower-stops :
       tCount (endOf (rules 0 0 16 off) 8 (qubits (turn 1 1 ∷ turn 2 2 ∷ turn 3 2 ∷ turn 3 6 ∷ turn 2 6 ∷ turn 1 1 ∷ [])) .items) ≡ 2
@@ -139,7 +184,12 @@ ruled-out = record {
   exchange-goes-on = refl;
   second-with-third = refl;
   options-to-rules = refl;
+  named-to-rules = refl;
   order-to-rules = refl;
+  at-once-all = refl;
+  lazy-all = refl;
+  lazy-behind = refl;
+  each-begins-at-once = refl;
   no-lower-stops = refl;
   four-rounds = refl;
   streams-apart = refl;

@@ -6,7 +6,9 @@ use lib.Dec.{eqb, leb}
 use lib.ListN.{length, getD, drop, set}
 use Rattle.pauli.specs.Word.{anticommutes}
 use Rattle.model.specs.Lists.{if_then_else_, allOf, isEven}
-use Rattle.model.specs.Rules.{Absorption, off, atOnce, lazy, isAtOnce, Rules}
+use Rattle.model.specs.declared.Absorption.{Absorption}
+use Rattle.model.specs.declared.Absorption.the-variants.{Off as off, AtOnce as atOnce, Lazy as lazy}
+use Rattle.model.specs.Rules.{isAtOnce, Rules, afterBarrier}
 use Rattle.model.specs.Words.{Value, idOf, wordOf, anticommute, Store, intern}
 use Rattle.model.specs.Packing.{SignedAxis}
 use Rattle.model.specs.Clifford.{Images, imageWords, absorbWord, wordImage}
@@ -79,6 +81,11 @@ pub record Carried : Type 0 where
   pub pass : Pass
   pub axis : ℕ
   pub turns : ℕ
+
+-- 02, M-112: the rules behind an item. "The Clifford gathered so far goes on unchanged.": the pass is handed on as it is
+abbrev pub rulesAfter : Rules → Item → Rules
+rulesAfter r (rotation t) = r
+rulesAfter r (barrier o a s) = afterBarrier o r
 
 -- a pass, and the frame rows carried so far
 pub record Rowed : Type 0 where
@@ -177,7 +184,7 @@ module _ (l : ℕ) where
 
   unfoldable pub stream : Rules → Bool → Pass → List Item → Pass
   stream r merging p [] = absorbAllWaiting (r .absorption) p
-  stream r merging p (i ∷ rest) = stream r merging (streamItem r merging p i) rest
+  stream r merging p (i ∷ rest) = stream (rulesAfter r i) merging (streamItem r merging p i) rest
 
   -- ---- "frame rows are carried if anything was absorbed, else kept"
 

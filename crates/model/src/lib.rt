@@ -8,7 +8,21 @@ pub enum Strategy {
     Litinski,
 }
 
-// The options of `OptimizeOptions`, and the order of ties, which it does not have.
+// Whether even rotations wait: none, all, or those behind a measurement or conditional rotation, named by its place in the program.
+pub enum Lazy {
+    Off,
+    On,
+    From(usize),
+}
+
+// What becomes of even rotations now: they stay, are absorbed at their turn, or wait.
+pub enum Absorption {
+    Off,
+    AtOnce,
+    Lazy,
+}
+
+// The options of `OptimizeOptions`, the order of ties and the place of a change to lazy absorption, which it does not have.
 pub struct Options {
     pub lookback: usize,
     pub window: usize,
@@ -17,7 +31,7 @@ pub struct Options {
     pub clifford_to_frame: bool,
     pub eager_swaps: bool,
     pub second_exchange_first: bool,
-    pub lazy_cliffords: bool,
+    pub lazy_cliffords: Lazy,
     pub strategy: Strategy,
     pub measure_depth: bool,
     pub max_packed_words: usize,
@@ -43,7 +57,7 @@ pub fn defaults(limit: usize) -> Options
         clifford_to_frame: true,
         eager_swaps: true,
         second_exchange_first: false,
-        lazy_cliffords: false,
+        lazy_cliffords: Lazy::Off,
         strategy: Strategy::Merge,
         measure_depth: false,
         max_packed_words: limit,
@@ -74,6 +88,7 @@ pub enum Answer {
     NonHermitianAxis,
     ExpansionLimit,
     BadText,
+    BadPlace,
 }
 
 // Document 01's number of an answer.
@@ -93,6 +108,7 @@ pub fn number_of(a: Answer) -> u32
         Answer::NonHermitianAxis => 9,
         Answer::ExpansionLimit => 10,
         Answer::BadText => 11,
+        Answer::BadPlace => 16,
     }
 }
 

@@ -1,25 +1,28 @@
 -- The reply of a call of Rewriting by its answer's number. Assumes nothing.
-use mathlib.Core.Path.{_≡_, refl, sym, ap, _∙_}
-use mathlib.Core.Logic.{_⊎_, inl, inr, _↔_}
-use mathlib.Core.Bool.{Bool, true, false}
+use mathlib.Core.Path.{_≡_, refl, sym, ap, _∙_, subst}
+use mathlib.Core.Logic.{_⊎_, inl, inr, ⊎-elim, _↔_}
+use mathlib.Core.Bool.{Bool, true, false, _&&_, _||_, true≢false}
 use Prim.Native.Nat.{ℕ, _≤_}
 use native.Mathlib.Omega.{arith}
-use lib.Dec.{ltb}
-use borrow.Author.Tests.{ltb-true, ltb-false}
+use lib.Dec.{eqb, ltb, leb}
+use borrow.Author.Tests.{ltb-true, ltb-false, leb-true, le-leb, lt-leb, eqb-true, ne-eqb}
+use Rattle.model.specs.declared.Lazy.{Lazy}
+use Rattle.model.specs.declared.Lazy.the-variants.{Off, On, From}
 use Rattle.model.specs.declared.Options.{Options}
 use Rattle.model.specs.declared.Answer.{Answer}
-use Rattle.model.specs.declared.Answer.the-variants.{Accepted, NonHermitianAxis, ExpansionLimit}
+use Rattle.model.specs.declared.Answer.the-variants.{Accepted, CountOutside, OptionOutside, SliceShort, NonHermitianAxis, ExpansionLimit, BadPlace}
 use Rattle.model.specs.declared.Counters.{Counters}
-use Rattle.model.specs.Interface.{numberOf, accepts}
-use Rattle.model.specs.Program.{Job, programOf}
+use Rattle.model.specs.Interface.{numberOf, accepts, ofChecking}
+use Rattle.model.specs.Program.{Job, operationRecords, programOf}
 use Rattle.model.specs.Rules.{rulesOf}
 use Rattle.model.specs.Run.{Ending, nonHermitian, finished, endAnswer}
-use Rattle.model.specs.Checking.{Lent, checking}
+use Rattle.model.specs.Checking.{Lent, andThen, checkProgram, badPlace, checkPlace, checkRecords, checking}
 use Rattle.model.specs.Rewriting.{Reply, refused, stopped, afterEnding, rewriting, Called}
+use Rattle.theory.specs.Cases.{by-if, on-if, and-right}
 use Rattle.theory.specs.Checked.{accepts-only}
 use Rattle.theory.specs.Called.{answer-is}
 use Rattle.theory.specs.Replies.{runOf, limitOf, refused-reply, beyond-limit, within-limit, stopped-answer, refused-answer, ending-answer}
-use Rattle.theory.specs.Replies.{run-answer, checking-low, ran}
+use Rattle.theory.specs.Replies.{run-answer, Checks, program-low, checking-checks, ran}
 use Rattle.theory.specs.Limit.{within, within-answer}
 use Rattle.theory.specs.Hermitian.{Hermitian, accepted-exactly}
 
@@ -57,32 +60,57 @@ answer-of a s e = ap (λ (y : Reply). y .answer) e ∙ stopped-answer a s
 number-of : (a : Answer) (s : Lent) {x : Reply} → x ≡ stopped a s → numberOf (x .answer) ≡ numberOf a
 number-of a s e = ap numberOf (answer-of a s e)
 
--- the number of a reply that Checking refused
-checked-number : (o : Options) (j : Job) (s : Lent) {x : Reply} → x ≡ refused (checking o j s) s → numberOf (x .answer) ≤ 8
-checked-number o j s e =
-    omega (arith, ap (λ (y : Reply). numberOf (y .answer)) e ∙ ap numberOf (refused-answer (checking o j s) s), checking-low o j s)
+-- a number is Checking's: 1 to 8, or 16
+pub of-checking : (n : ℕ) → ofChecking n ≡ true → (n ≤ 8) ⊎ (n ≡ 16)
+of-checking n h = go (leb 1 n && leb n 8) refl h
+  where
+    go : (b : Bool) → leb 1 n && leb n 8 ≡ b → b || eqb n 16 ≡ true → (n ≤ 8) ⊎ (n ≡ 16)
+    go true e f = inl (leb-true n 8 (and-right (leb 1 n) (leb n 8) e))
+    go false e f = inr (eqb-true n 16 f)
+
+-- 1 to 8 are
+pub of-low : (n : ℕ) → 1 ≤ n → n ≤ 8 → ofChecking n ≡ true
+of-low n h k = rw (le-leb 1 n h, le-leb n 8 k) refl
+
+-- 9 and 10 are not
+pub not-of-checking : (n : ℕ) → 9 ≤ n → n ≤ 10 → ofChecking n ≡ false
+not-of-checking n h k = rw (le-leb 1 n (omega arith), lt-leb n 8 (omega arith), ne-eqb n 16 (λ e. omega arith)) refl
+
+-- a reply that Checking refused
+checks : (o : Options) (j : Job) (s : Lent) {x : Reply} → x ≡ refused (checking o j s) s → Checks (x .answer)
+checks o j s e = subst Checks (sym (ap (λ (y : Reply). y .answer) e ∙ refused-answer (checking o j s) s)) (checking-checks o j s)
+
+-- a number that is not Checking's
+not-checks : {k n : ℕ} → k ≡ n → ofChecking n ≡ false → ofChecking k ≡ true → ⊥
+not-checks e f h = true≢false (sym h ∙ ap ofChecking e ∙ f)
 
 module _ {o : Options} {j : Job} {s : Lent} {x : Reply} where
-  -- no number above 10
-  pub number-low : Replied o j s x → numberOf (x .answer) ≤ 10
-  number-low (byChecking e) = omega (arith, checked-number o j s e)
-  number-low (byLimit e) = omega (arith, number-of ExpansionLimit s e)
-  number-low (byRoot e) = omega (arith, number-of NonHermitianAxis s e)
-  number-low (done e) = omega (arith, ap numberOf e)
+  -- 0 to 10, or 16
+  pub number-low : Replied o j s x → (numberOf (x .answer) ≤ 10) ⊎ (numberOf (x .answer) ≡ 16)
+  number-low (byChecking e) = go (accepts (x .answer)) refl (checks o j s e)
+    where
+      go : (b : Bool) → accepts (x .answer) ≡ b → b || ofChecking (numberOf (x .answer)) ≡ true
+          → (numberOf (x .answer) ≤ 10) ⊎ (numberOf (x .answer) ≡ 16)
+      go true f h = inl (omega (arith, eqb-true (numberOf (x .answer)) 0 f))
+      go false f h = ⊎-elim (λ (k : numberOf (x .answer) ≤ 8). inl (omega (arith, k))) inr (of-checking (numberOf (x .answer)) h)
+  number-low (byLimit e) = inl (omega (arith, number-of ExpansionLimit s e))
+  number-low (byRoot e) = inl (omega (arith, number-of NonHermitianAxis s e))
+  number-low (done e) = inl (omega (arith, ap numberOf e))
 
-  -- 1 to 8 are Checking's
-  pub number-checking : Replied o j s x → 1 ≤ numberOf (x .answer) → numberOf (x .answer) ≤ 8 → x ≡ refused (checking o j s) s
-  number-checking (byChecking e) h k = e
-  number-checking (byLimit e) h k = absurd (omega (arith, number-of ExpansionLimit s e))
-  number-checking (byRoot e) h k = absurd (omega (arith, number-of NonHermitianAxis s e))
-  number-checking (done e) h k = absurd (omega (arith, ap numberOf e))
+  -- Checking's numbers
+  pub number-checking : Replied o j s x → ofChecking (numberOf (x .answer)) ≡ true → x ≡ refused (checking o j s) s
+  number-checking (byChecking e) h = e
+  number-checking (byLimit e) h = absurd (not-checks (number-of ExpansionLimit s e) refl h)
+  number-checking (byRoot e) h = absurd (not-checks (number-of NonHermitianAxis s e) refl h)
+  number-checking (done e) h = absurd (not-checks (ap numberOf e) refl h)
 
   -- 9 and 10 stop the work
-  pub number-stopped : Replied o j s x → 9 ≤ numberOf (x .answer) → x ≡ stopped (x .answer) s
-  number-stopped (byChecking e) h = absurd (omega (arith, checked-number o j s e))
-  number-stopped (byLimit e) h = e ∙ ap (λ (a : Answer). stopped a s) (sym (answer-of ExpansionLimit s e))
-  number-stopped (byRoot e) h = e ∙ ap (λ (a : Answer). stopped a s) (sym (answer-of NonHermitianAxis s e))
-  number-stopped (done e) h = absurd (omega (arith, ap numberOf e))
+  pub number-stopped : Replied o j s x → 9 ≤ numberOf (x .answer) → numberOf (x .answer) ≤ 10 → x ≡ stopped (x .answer) s
+  number-stopped (byChecking e) h k =
+      absurd (true≢false (sym (checks o j s e) ∙ rw (ne-eqb (numberOf (x .answer)) 0 (λ f. omega arith)) (not-of-checking (numberOf (x .answer)) h k)))
+  number-stopped (byLimit e) h k = e ∙ ap (λ (a : Answer). stopped a s) (sym (answer-of ExpansionLimit s e))
+  number-stopped (byRoot e) h k = e ∙ ap (λ (a : Answer). stopped a s) (sym (answer-of NonHermitianAxis s e))
+  number-stopped (done e) h k = absurd (omega (arith, ap numberOf e))
 
 -- a call's reply is one of them
 pub called-of : {o : Options} {j : Job} {s : Lent} {a : Answer} {c : Counters} {m n : ℕ} {t : Lent} → Called o j s a c m n t
@@ -92,8 +120,8 @@ called-of {o} {j} {s} call = rw (call .replied) (reply-of o j s)
 -- 0 and 9 come after Checking has passed
 pub passed-checking : {o : Options} {j : Job} {s : Lent} {a : Answer} {c : Counters} {m n : ℕ} {t : Lent} → Called o j s a c m n t
     → (a ≡ Accepted) ⊎ (a ≡ NonHermitianAxis) → checking o j s ≡ Accepted
-passed-checking {o} {j} {s} call (inl e) = ran o j s Accepted (answer-is call ∙ e) (inl refl)
-passed-checking {o} {j} {s} call (inr e) = ran o j s NonHermitianAxis (answer-is call ∙ e) (inr (omega arith))
+passed-checking {o} {j} {s} call (inl e) = ran o j s Accepted (answer-is call ∙ e) refl
+passed-checking {o} {j} {s} call (inr e) = ran o j s NonHermitianAxis (answer-is call ∙ e) refl
 
 -- a run that Checking let through answers 9 exactly where the limit is no smaller than the peak and a root is non-Hermitian
 pub nine-exactly : (o : Options) (j : Job) (s : Lent) → checking o j s ≡ Accepted
@@ -113,3 +141,30 @@ nine-exactly o j s c = (there, λ h. back (h .0) (h .1))
         go (finished g) f =
             absurd (odd (accepted-exactly o j s c .0
             (run-answer o j s c ∙ within-answer (limitOf o) (runOf o j) le ∙ ap endAnswer f) .1))
+
+-- ---- 02, M-112: 16 comes from a named place alone, after all other checks
+
+pub record PlaceRefused (o : Options) (j : Job) : Type 0 where
+  pub place : ℕ
+  pub named : o .«lazy_cliffords» ≡ From place
+  pub bad : badPlace place (operationRecords j) ≡ true
+  pub program : checkProgram j ≡ Accepted
+
+pub sixteen-where : (o : Options) (j : Job) (s : Lent) → numberOf (checking o j s) ≡ 16 → PlaceRefused o j
+unfolding checking checkRecords andThen checkPlace
+sixteen-where o j s =
+    by-if P _ CountOutside _ (λ h. absurd (omega (arith, h)))
+    (by-if P _ OptionOutside _ (λ h. absurd (omega (arith, h)))
+    (by-if P _ SliceShort _ (λ h. absurd (omega (arith, h)))
+    (on-if P (accepts (checkProgram j)) (checkPlace (o .«lazy_cliffords») (operationRecords j)) (checkProgram j)
+    (λ e. place (o .«lazy_cliffords») refl (accepts-only (checkProgram j) e)) (λ e h. absurd (omega (arith, h, program-low j))))))
+  where
+    P : Answer → Type 0
+    P a = numberOf a ≡ 16 → PlaceRefused o j
+
+    place : (setting : Lazy) → o .«lazy_cliffords» ≡ setting → checkProgram j ≡ Accepted → P (checkPlace setting (operationRecords j))
+    place Off e f h = absurd (omega (arith, h))
+    place On e f h = absurd (omega (arith, h))
+    place (From n) e f h =
+        on-if P (badPlace n (operationRecords j)) BadPlace Accepted
+        (λ b g. record { place = n; named = e; bad = b; program = f }) (λ b g. absurd (omega (arith, g))) h

@@ -3,4 +3,5 @@ pub mod Calls
 pub mod Left
 pub mod Alike
 pub mod Strategies
+pub mod Named
 pub mod Promises

@@ -4,21 +4,20 @@
 -- Under each promise stand two wrong programs that it rules out. Assumes nothing.
 use mathlib.Core.Path.{_≡_, refl, sym, ap, ap₂, _∙_, subst}
 use mathlib.Core.Logic.{_⊎_, inl, inr, _↔_, ⊎-elim}
-use mathlib.Core.Bool.{Bool, false}
+use mathlib.Core.Bool.{Bool, true, false}
 use mathlib.Core.List.{List, flatten}
 use Prim.Native.Nat.{ℕ, _+_, _-_, _≤_, _<_}
-use native.Mathlib.Decide.{decLt}
 use native.Mathlib.Omega.{arith}
-use lib.Dec.{eqb}
 use lib.ListN.{length, length-map}
 use Rattle.groups.specs.Abelian.{pow2}
 use Rattle.pauli.specs.Word.{width}
 use Rattle.model.specs.declared.Strategy.the-variants.{Merge, Litinski}
+use Rattle.model.specs.declared.Lazy.the-variants.{Off, From}
 use Rattle.model.specs.declared.Options.{Options}
 use Rattle.model.specs.declared.Answer.{Answer}
 use Rattle.model.specs.declared.Answer.the-variants.{Accepted, SliceShort, OptionOutside, NonHermitianAxis, ExpansionLimit}
 use Rattle.model.specs.declared.Counters.{Counters}
-use Rattle.model.specs.Interface.{numberOf, accepts, noCounters}
+use Rattle.model.specs.Interface.{numberOf, accepts, ofChecking, noCounters}
 use Rattle.model.specs.Program.{Job, Program, programOf}
 use Rattle.model.specs.Rules.{rulesOf}
 use Rattle.model.specs.Rounds.{Work, mergeRounds, litinskiRounds}
@@ -29,7 +28,7 @@ use Rattle.model.specs.Rewriting.{Reply, thenZeros, zeros, refused, stopped, ac
 use Rattle.theory.specs.Alike.{alike-program}
 use Rattle.theory.specs.Called.{answer-is, counters-are, operations-are, axes-are, lent-is}
 use Rattle.theory.specs.Replies.{runOf, limitOf, refused-answer, run-answer, refusal-answer}
-use Rattle.theory.specs.Checked.{accepts-only, limit-fits, checking-options}
+use Rattle.theory.specs.Checked.{limit-fits, checking-options}
 use Rattle.theory.specs.Limit.{run-same, checks-again, same-at-larger-limit, results-answer, results-counters}
 use Rattle.theory.specs.AcceptedRun.{finishOf, hermitian-peak}
 use Rattle.theory.specs.TCountCalls.{accepted-hermitian, accepted-counters, accepted-operations, accepted-axes, accepted-reply}
@@ -37,12 +36,15 @@ use Rattle.theory.specs.TCountCalls.{no-more-than-source, no-more-with-more-rou
 use Rattle.theory.specs.EqualRounds.{equal-rounds}
 use Rattle.theory.specs.Hermitian.{Hermitian, accepted-exactly, limit-exactly}
 use Rattle.theory.specs.WithoutExchange.{inOrder, reply-in-order}
+use Rattle.theory.specs.WithoutAbsorption.{lazily, reply-unnamed}
+use Rattle.run_wellformed.specs.Points.{Reached}
 use Rattle.run_wellformed.specs.Lengths.{SameLengths, same-lengths}
 use Rattle.result_effect.specs.Calls.{call-fine, call-hermitian}
 use Rattle.run_effect.specs.RunEffect.{Effects, sourceEffect, resultEffect, run-keeps-effect}
 use Rattle.promises.specs.Slices.{Agree, agree-then, agree-zeros}
 use Rattle.promises.specs.Calls.{Replied, byChecking, byLimit, byRoot, done, called-of, passed-checking, nine-exactly}
-use Rattle.promises.specs.Calls.{number-low, number-checking, number-stopped}
+use Rattle.promises.specs.Calls.{number-low, number-checking, number-stopped, PlaceRefused, sixteen-where}
+use Rattle.promises.specs.Named.{ChangesAt, stream-changes}
 use Rattle.promises.specs.Strategies.{endWork, merge-end, litinski-end, no-rounds-end}
 use Rattle.promises.specs.Left.{operationsIn, rowsIn, wordsIn, operations-left, effect-left}
 use Rattle.promises.specs.Alike.{AlikeButRoundsAndLimit, AlikeButLimit, alike-rules, but-limit, not-two}
@@ -81,33 +83,33 @@ tCountLeft j t = resultTCount (operationsIn j t)
 -- ==== Demand 1. Memory: "Every call ends and does its own checking. For every input each lent slice holds just what document 01 says"
 
 module _ {o : Options} {j : Job} {s : Lent} {a : Answer} {c : Counters} {m n : ℕ} {t : Lent} (call : Called o j s a c m n t) where
-  -- a call answers 0 to 10.
+  -- a call answers 0 to 10, or 16 (02, M-112).
   -- Rules out: 11 for a job that Listing would not read; a number of its own for "stores too short to go on"
-  pub answers-0-to-10 : numberOf a ≤ 10
-  answers-0-to-10 = number-low (called-of call)
+  pub answers-0-to-10-or-16 : (numberOf a ≤ 10) ⊎ (numberOf a ≡ 16)
+  answers-0-to-10-or-16 = number-low (called-of call)
 
   -- it does its own checking: where Checking refuses, its answer is the call's.
   -- Rules out: going on with a job whose node 0 is not the identity; answering 10 before the records are checked
   pub checks-itself : accepts (checking o j s) ≡ false → a ≡ checking o j s
   checks-itself n = sym (answer-is call) ∙ refusal-answer o j s n
 
-  -- and 1 to 8 come from nowhere else.
-  -- Rules out: 3 for stores that Checking takes; 8 for an outcome that the passes meet twice
-  pub only-checking : 1 ≤ numberOf a → numberOf a ≤ 8 → a ≡ checking o j s
-  only-checking h k = ap (λ (x : Reply). x .answer) (number-checking (called-of call) h k) ∙ refused-answer (checking o j s) s
+  -- and 1 to 8 and 16 come from nowhere else.
+  -- Rules out: 3 for stores that Checking takes; 8 for an outcome that the passes meet twice; 16 for a named measurement that no rotation follows
+  pub only-checking : ofChecking (numberOf a) ≡ true → a ≡ checking o j s
+  only-checking h = ap (λ (x : Reply). x .answer) (number-checking (called-of call) h) ∙ refused-answer (checking o j s) s
 
-  -- "refusals 1 to 8 leave all slices unchanged", and counters are 0, whatever they held before.
+  -- "refusals 1 to 8 leave all slices unchanged", 16 "as by 8", and counters are 0, whatever they held before.
   -- Rules out: clearing the number store before refusal 6; counting T before Checking and then refusing
-  pub refusals-1-to-8 : 1 ≤ numberOf a → numberOf a ≤ 8 → (t ≡ s) × (c ≡ noCounters)
-  refusals-1-to-8 h k =
-      let e = number-checking (called-of call) h k in
+  pub refusals-1-to-8-and-16 : ofChecking (numberOf a) ≡ true → (t ≡ s) × (c ≡ noCounters)
+  refusals-1-to-8-and-16 h =
+      let e = number-checking (called-of call) h in
       (ap (λ (x : Reply). x .lent) e ∙ unfold refused in refl, ap (λ (x : Reply). x .counters) e ∙ unfold refused in refl)
 
   -- "9 and 10 leave program and results unchanged and both work stores zero", and counters are 0.
   -- Rules out: packed words left in the word store after 9; results written as they are found, then 10 in the closing stream
-  pub refusals-9-and-10 : 9 ≤ numberOf a → Cleared s t × (c ≡ noCounters)
-  refusals-9-and-10 h =
-      let e = number-stopped (called-of call) h in (
+  pub refusals-9-and-10 : 9 ≤ numberOf a → numberOf a ≤ 10 → Cleared s t × (c ≡ noCounters)
+  refusals-9-and-10 h k =
+      let e = number-stopped (called-of call) h k in (
         rw (ap (λ (x : Reply). x .lent) e) (unfold stopped in (record { words = refl; numbers = refl; operations = refl; rows = refl })),
         ap (λ (x : Reply). x .counters) e ∙ unfold stopped in refl,
       )
@@ -291,7 +293,7 @@ module _ {o o′ : Options} {j j′ : Job} {s s′ : Lent} {a a′ : Answer} {c 
   larger-limit-same-answer x y alike e h k n =
       let passed = passed-checking x e in
       let not-2 : rewriting o′ j′ s′ .answer ≡ OptionOutside → ⊥ = λ f. let m = ap numberOf (sym (answer-is y) ∙ f) in
-      not-two s s′ alike passed k (sym (only-checking y (omega arith) (omega arith)) ∙ sym (answer-is y) ∙ f) in
+      not-two s s′ alike passed k (sym (only-checking y (ap ofChecking m)) ∙ sym (answer-is y) ∙ f) in
       let same = same-at-larger-limit o o′ j j′ s s′ (alike .others .job) (but-limit alike) h
       (⊎-elim (λ f. inl (answer-is x ∙ f)) (λ f. inr (answer-is x ∙ f)) e) not-2 (λ f. n (sym (answer-is y) ∙ f)) in
       (rw (← answer-is x, ← answer-is y) (results-answer same), rw (← counters-are x, ← counters-are y) (results-counters same))
@@ -311,12 +313,14 @@ module _ {o : Options} {j : Job} {s : Lent} {a : Answer} {c : Counters} {m n : �
   -- "0 .. on refusal", as every counter is.
   -- Rules out: the sum that 10 refused; what an earlier call left there
   pub words-refused : (a ≡ Accepted → ⊥) → c ≡ noCounters
-  words-refused n = go (decLt 0 (numberOf a)) (decLt 8 (numberOf a))
+  unfolding refused stopped
+  words-refused no′ = go (called-of call)
     where
-      go : Dec (0 < numberOf a) → Dec (8 < numberOf a) → c ≡ noCounters
-      go (no p) q = absurd (n (accepts-only a (ap (λ (i : ℕ). eqb i 0) (let e : numberOf a ≡ 0 = omega arith in e))))
-      go (yes p) (yes q) = refusals-9-and-10 call q .1
-      go (yes p) (no q) = refusals-1-to-8 call p (omega arith) .1
+      go : Replied o j s (record { answer = a; counters = c; operations = m; axes = n; lent = t }) → c ≡ noCounters
+      go (byChecking e) = ap (λ (x : Reply). x .counters) e
+      go (byLimit e) = ap (λ (x : Reply). x .counters) e
+      go (byRoot e) = ap (λ (x : Reply). x .counters) e
+      go (done e) = absurd (no′ e)
 
   -- "For a program with no non-Hermitian root, a run that passes the checks is then accepted exactly if the limit is no smaller than that
   -- sum as the same run without a limit would test it."
@@ -379,3 +383,25 @@ module _ {o : Options} {j : Job} {s : Lent} {a : Answer} {c : Counters} {m n : �
   -- Rules out: the setting taken for that of lazy absorption; layers that are swept the other way round
   pub order-has-no-say : (b : Bool) → (o .strategy ≡ Litinski) ⊎ (o .window ≡ 0) → Called (inOrder b o) j s a c m n t → Called o j s a c m n t
   order-has-no-say b none call = record { replied = call .replied ∙ reply-in-order b o j s none }
+
+-- ==== Request M-112. "Change to lazy absorption during a job". Demands 2 and 3 above are of any options, so of any named place, and in demand 3
+-- the lazy setting is among what is alike, with its place
+
+module _ {o : Options} {j : Job} {s : Lent} {a : Answer} {c : Counters} {m n : ℕ} {t : Lent} (call : Called o j s a c m n t) where
+  -- "16 the place is outside the program or holds a plain rotation, tested last among the checks": what refusals-1-to-8-and-16 leaves as it was.
+  -- Rules out: 16 for a program whose frame rows 6 refuses; 16 where no place is named
+  pub refused-place : numberOf a ≡ 16 → PlaceRefused o j
+  refused-place e = sixteen-where o j s (ap numberOf (sym (only-checking call (ap ofChecking e))) ∙ e)
+
+  -- "Even rotations before it are absorbed at their turn; from the next operation on they wait, as the lazy setting has it."; "All streams of a
+  -- run use the same named place": a stream from any point of the run. "If the named operation drops out in packing": it never does.
+  -- Rules out: a change in the first stream alone; a later stream that begins lazily; a name that is lost when a rotation before it drops out
+  pub each-stream-of-a-call : a ≡ Accepted → (place : ℕ) → o .«lazy_cliffords» ≡ From place → o .«clifford_to_frame» ≡ true → {v : Work}
+      → Reached (width (programOf j .qubits)) (rulesOf o) (startOf (programOf j)) v → ChangesAt (rulesOf o) place (v .items)
+  each-stream-of-a-call e place named on h =
+      stream-changes o j s place named on (passed-checking call (inl e)) (accepted-hermitian o j s (answer-is call ∙ e)) h
+
+  -- "Absorption off: even angles stay": then a place that Checking passes changes nothing, and the call is one that names none.
+  -- Rules out: rotations that begin to wait in spite of it; a place that is looked at before the setting of absorption
+  pub named-without-absorption : checking o j s ≡ Accepted → o .«clifford_to_frame» ≡ false → Called (lazily Off o) j s a c m n t
+  named-without-absorption passed e = record { replied = call .replied ∙ sym (reply-unnamed o j s e passed) }

@@ -27,7 +27,7 @@ use Rattle.model.specs.Rounds.{Work}
 use Rattle.model.specs.Run.{itemOf, itemsFrom, startOf, endOf, endAnswer}
 use Rattle.model.specs.Results.{operationAt, barrierRecord, itemRecord, operationResults, keptRow, givenRow, rowRecord, axesLeft, rowResultsFrom}
 use Rattle.model.specs.Results.{rowResults}
-use Rattle.model.specs.Checking.{Lent, badCount, badOption, wordsAsked, numbersAsked, programShort, lentShort, checkProgram, checking}
+use Rattle.model.specs.Checking.{Lent, badCount, badOption, wordsAsked, numbersAsked, programShort, lentShort, checkRecords, checking}
 use Rattle.model.specs.Rewriting.{thenZeros, zeros, refused, stopped, accepted, afterEnding, rewriting}
 use Rattle.theory.specs.Cases.{by-if, neither}
 use Rattle.theory.specs.Lists.{flatten-length}
@@ -158,7 +158,7 @@ long-enough o j s c =
     let l = width (j .counts .qubits) in
     let a = not-refused (badCount (j .counts)) CountOutside _ refl c in
     let b = not-refused (badOption o) OptionOutside _ refl (a .1) in
-    let d = neither (programShort j) _ (not-refused _ SliceShort (checkProgram j) refl (b .1) .0) .1 in
+    let d = neither (programShort j) _ (not-refused _ SliceShort (checkRecords (o .«lazy_cliffords») j) refl (b .1) .0) .1 in
     let e = neither (ltb (length (s .words)) (limitOf o + 16 * l) || ltb (length (s .numbers)) (numbersAsked l (j .counts) (limitOf o))
     || ltb (length (s .operations)) (6 * j .counts .operations)) (ltb (length (s .rows)) (8 * j .counts .qubits)) d in
     let f = neither (ltb (length (s .words)) (limitOf o + 16 * l) || ltb (length (s .numbers)) (numbersAsked l (j .counts) (limitOf o))) _

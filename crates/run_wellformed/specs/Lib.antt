@@ -6,6 +6,7 @@ pub mod Points
 pub mod CarriedImages
 pub mod WaitingItems
 pub mod Waiting
+pub mod Changing
 pub mod RunWellFormed
 pub mod Signs
 pub mod Lengths

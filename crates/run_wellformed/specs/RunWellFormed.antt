@@ -10,7 +10,7 @@ use Rattle.pauli.specs.Word.{width}
 use Rattle.model.specs.declared.Options.{Options}
 use Rattle.model.specs.declared.Answer.the-variants.{Accepted}
 use Rattle.model.specs.Program.{Job, operationRecords, PauliRef, Program, operationOf, programOf}
-use Rattle.model.specs.Rules.{lazy, Rules, rulesOf}
+use Rattle.model.specs.Rules.{Rules, rulesOf}
 use Rattle.model.specs.Packing.{packed, SignedAxis}
 use Rattle.model.specs.Items.{Item}
 use Rattle.model.specs.Stream.{begin}
@@ -19,16 +19,16 @@ use Rattle.model.specs.Run.{startOf, endOf}
 use Rattle.model.specs.Results.{itemRecord, operationResults, rowResultsFrom, rowResults}
 use Rattle.model.specs.Checking.{Lent, checking}
 use Rattle.theory.specs.Every.{Every}
-use Rattle.theory.specs.StreamState.{AllIn}
+use Rattle.theory.specs.StreamState.{AllIn, begin-sound}
 use Rattle.theory.specs.Steady.{Steady}
 use Rattle.theory.specs.PackedRoots.{start-range}
 use Rattle.theory.specs.Checked.{Fine, checked-fine}
-use Rattle.words_wellformed.specs.PassWords.{afterItems}
+use Rattle.words_wellformed.specs.PassWords.{rulesBehind, afterItems}
 use Rattle.words_wellformed.specs.RunWords.{TurnsItem}
 use Rattle.run_wellformed.specs.Memory.{width-positive, axes-within}
 use Rattle.run_wellformed.specs.Points.{Reached, passes-reached, StreamFormed, afterItems-formed, WellFormed, reached-formed, reached-steady}
 use Rattle.run_wellformed.specs.Points.{start-formed}
-use Rattle.run_wellformed.specs.Waiting.{Waiting, begin-waiting, afterItems-waiting}
+use Rattle.run_wellformed.specs.Changing.{WaitsAs, begin-waits, afterItems-waits}
 
 every-front : {A : Type 0} (P : A → Type 0) (xs ys : List A) → Every P (xs ++ ys) → Every P xs
 every-front P [] ys h = tt
@@ -63,14 +63,16 @@ module _ (p : Program) (fine : Fine p) (r : Rules) where
       let w = point-formed h in
       afterItems-formed (width (p .qubits)) r merging (v .store) is (every-front TurnsItem is rest (rw e at (w .turns))) (w .fits)
 
-  -- lazy mode: what waits commutes with every later nonzero rotation of the output, and none waits before a barrier
-  pub point-waiting : {v : Work} → packed p .refused ≡ false → r .absorption ≡ lazy → Reached (width (p .qubits)) r (startOf p) v
+  -- where even rotations are absorbed at once, none waits; in lazy mode, also behind a named operation, what waits commutes with every later
+  -- nonzero rotation of the output, and none waits before a barrier
+  pub point-waiting : {v : Work} → packed p .refused ≡ false → Reached (width (p .qubits)) r (startOf p) v
       → (merging : Bool) (is rest : List Item) → v .items ≡ is ++ rest
-      → Waiting (width (p .qubits)) (afterItems (width (p .qubits)) r merging (begin (v .store)) is)
-  point-waiting {v} hermitian is-lazy h merging is rest e =
-      afterItems-waiting (width (p .qubits)) r is-lazy merging (begin (v .store)) is
+      → WaitsAs (width (p .qubits)) (rulesBehind r is .absorption) (afterItems (width (p .qubits)) r merging (begin (v .store)) is)
+  point-waiting {v} hermitian h merging is rest e =
+      afterItems-waits (width (p .qubits)) r merging (begin (v .store)) is
       (every-front TurnsItem is rest (rw e at (point-formed h .turns)))
-      (unfold begin in (allIn-front _ is rest (rw e at (point-steady hermitian h .range)))) (begin-waiting (width (p .qubits)) (v .store))
+      (unfold begin in (allIn-front _ is rest (rw e at (point-steady hermitian h .range)))) (begin-sound (v .store))
+      (begin-waits (width (p .qubits)) (r .absorption) (v .store))
 
   -- ---- the end of a run
 

@@ -7,7 +7,9 @@ use native.Mathlib.Omega.{arith}
 use native.Mathlib.Nat.{add-zero}
 use lib.ListN.{length, set}
 use Rattle.model.specs.Lists.{isEven}
-use Rattle.model.specs.Rules.{Absorption, off, atOnce, lazy, isAtOnce, Rules}
+use Rattle.model.specs.declared.Absorption.{Absorption}
+use Rattle.model.specs.declared.Absorption.the-variants.{Off as off, AtOnce as atOnce, Lazy as lazy}
+use Rattle.model.specs.Rules.{isAtOnce, Rules}
 use Rattle.model.specs.Items.{rot, Item, rotation, barrier, isClifford}
 use Rattle.model.specs.Words.{wordOf}
 use Rattle.model.specs.Packing.{SignedAxis}
@@ -15,10 +17,10 @@ use Rattle.model.specs.Clifford.{Images, Touched, absorbWord}
 use Rattle.model.specs.Stream.{Place, nowhere, at, Pass, withLast, countMerge, setAngle, putOut, clearedLast, leaveZero, Rowed}
 use Rattle.model.specs.Stream.{carryAxis, absorb, absorbWaitingAt, absorbWaiting, absorbAllWaiting, absorbBlocking, carryRotation, mergeAt}
 use Rattle.model.specs.Stream.{putOutRotation}
-use Rattle.model.specs.Stream.{mergeOrPutOut, takeRotation, streamItem, stream, carryRowsFrom, carryRows}
+use Rattle.model.specs.Stream.{mergeOrPutOut, takeRotation, rulesAfter, streamItem, stream, carryRowsFrom, carryRows}
 use Rattle.theory.specs.Cases.{by-if, on-if, and-left, and-right}
 use Rattle.theory.specs.Every.{Every, every-one}
-use Rattle.words_wellformed.specs.PassWords.{afterItems, stream-after}
+use Rattle.words_wellformed.specs.PassWords.{rulesBehind, afterItems, stream-after}
 use Rattle.words_wellformed.specs.RunWords.{TurnsItem}
 use Rattle.run_wellformed.specs.CliffordAngles.{SmallItem, CliffordAngle, even-angle, clifford-angle}
 use Rattle.run_wellformed.specs.CliffordAngles.{withSign-turns}
@@ -121,14 +123,14 @@ module _ (l : ℕ) (P : ℕ → Pass → Type 0) (kept : KeptBySteps l P) where
     afterItems-by n r merging p [] b h = rw (add-zero n) h
     afterItems-by n r merging p (i ∷ is) b h =
         let e : n + suc (length is) ≡ suc n + length is = omega arith in
-        rw e (afterItems-by (suc n) r merging (streamItem l r merging p i) is (b .1) (streamItem-by n r merging p i (b .0) h))
+        rw e (afterItems-by (suc n) (rulesAfter r i) merging (streamItem l r merging p i) is (b .1) (streamItem-by n r merging p i (b .0) h))
 
     -- the stream ends
     pub stream-by : (n : ℕ) (r : Rules) (merging : Bool) (p : Pass) (is : List Item) → Every TurnsItem is → P n p
         → P (n + length is) (stream l r merging p is)
     stream-by n r merging p is b h =
         subst (P (n + length is)) (sym (stream-after l r merging p is))
-        (absorbAllWaiting-by (n + length is) (r .absorption) (afterItems l r merging p is) (afterItems-by n r merging p is b h))
+        (absorbAllWaiting-by (n + length is) (rulesBehind r is .absorption) (afterItems l r merging p is) (afterItems-by n r merging p is b h))
 
   -- the rest of the frame rows is carried
   pub carryRowsFrom-by : (n : ℕ) (p : Pass) (done rows : List SignedAxis) → P n p → P n (carryRowsFrom l p done rows .pass)

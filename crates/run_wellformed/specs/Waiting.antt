@@ -12,7 +12,9 @@ use borrow.Author.Tests.{eqb-true, eqb-false}
 use Rattle.pauli.specs.Word.{symplectic, anticommutes}
 use Rattle.pauli.specs.ProductLaws.{symplectic-comm, anticommutes-false}
 use Rattle.model.specs.Lists.{if_then_else_, isEven}
-use Rattle.model.specs.Rules.{Absorption, lazy, isAtOnce, Rules}
+use Rattle.model.specs.declared.Absorption.{Absorption}
+use Rattle.model.specs.declared.Absorption.the-variants.{Lazy as lazy}
+use Rattle.model.specs.Rules.{isAtOnce, Rules}
 use Rattle.model.specs.Words.{Value, wordOf, Store}
 use Rattle.model.specs.Clifford.{absorbWord, wordImage}
 use Rattle.model.specs.Items.{Rot, rot, Item, rotation, barrier, withSign, isClifford}
@@ -25,8 +27,7 @@ use Rattle.model.specs.Stream.{putOutRotation, mergeOrPutOut, takeRotation, str
 use Rattle.theory.specs.Cases.{by-if, on-if, and-left, and-right}
 use Rattle.theory.specs.Every.{Every, every-one}
 use Rattle.theory.specs.Ids.{id-word, Grows, intern-grows}
-use Rattle.theory.specs.StreamState.{withoutAngles, axisOf, AllIn, AllRotations, Names, Sound, absorb-axes, carried-id, streamItem-stepped}
-use Rattle.words_wellformed.specs.PassWords.{afterItems}
+use Rattle.theory.specs.StreamState.{withoutAngles, axisOf, AllIn, AllRotations, Names, Sound, absorb-axes, carried-id}
 use Rattle.words_wellformed.specs.RunWords.{TurnsItem}
 use Rattle.run_wellformed.specs.CliffordAngles.{and-false, withSign-turns}
 use Rattle.run_wellformed.specs.CarriedImages.{absorbed-image}
@@ -44,7 +45,8 @@ pub record Waiting (l : ℕ) (p : Pass) : Type 0 where
   -- `last` names a nonzero rotation of its own axis in the present segment
   pub names : (a j : ℕ) → p .last a ≡ at j → Live (p .out) a j
 
-allIn-more : (m k : ℕ) (xs : List Item) → m ≤ k → AllIn m xs → AllIn k xs
+-- more axes
+pub allIn-more : (m k : ℕ) (xs : List Item) → m ≤ k → AllIn m xs → AllIn k xs
 allIn-more m k [] h a = tt
 allIn-more m k (x ∷ xs) h a = (le-trans (a .0) h, allIn-more m k xs h (a .1))
 
@@ -78,7 +80,8 @@ pub at-seam : (p : Pass) (front : List Item) (i : Item) (is : List Item) → p .
     → About (p .out) (r .axis) (length front)
 at-seam p front i is e r f = rw (e, f) (about-seam front r is)
 
-nowhere-at : {A : Type 0} (j : ℕ) → nowhere ≡ at j → A
+-- a place is not nowhere
+pub nowhere-at : {A : Type 0} (j : ℕ) → nowhere ≡ at j → A
 nowhere-at j e = let z : _≡_ {A = ℕ} 0 1 = cc in absurd (omega arith)
 
 module _ (l : ℕ) where
@@ -461,16 +464,3 @@ inside-shapes m (barrier o a s ∷ xs) h = (h .0, inside-shapes m xs (h .1))
 -- ids are in range, and `last` names a rotation of its own axis in the present segment
 pub waiting-sound : (l : ℕ) (p : Pass) → Waiting l p → Sound p
 waiting-sound l p h = record { ids = inside-shapes _ (p .out) (h .inside); names = λ a j e. live-names (p .out) a j (h .names a j e) }
-
--- ---- the stream
-
-module _ (l : ℕ) (r : Rules) (is-lazy : r .absorption ≡ lazy) (merging : Bool) where
-  -- after any items
-  pub afterItems-waiting : (p : Pass) (is : List Item) → Every TurnsItem is → AllIn (length (p .store .axes)) is → Waiting l p
-      → Waiting l (afterItems l r merging p is)
-  unfolding afterItems
-  afterItems-waiting p [] b c h = h
-  afterItems-waiting p (i ∷ is) b c h =
-      let q = streamItem l r merging p i in
-      let g = streamItem-stepped l r merging p i (waiting-sound l p h) (c .0) .grow .longer in
-      afterItems-waiting q is (b .1) (allIn-more _ _ is g (c .1)) (streamItem-waiting l r is-lazy merging p i (b .0) (c .0) h)

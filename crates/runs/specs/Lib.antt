@@ -5,6 +5,7 @@ pub mod Rule
 pub mod Limits
 pub mod Refusals
 pub mod Options
+pub mod Changes
 pub mod Texts
 pub mod Directed1
 pub mod Directed2

@@ -7,7 +7,8 @@ use Rattle.model.specs.declared.Strategy.the-variants.{Merge}
 use Rattle.model.specs.declared.Answer.{Answer}
 use Rattle.model.specs.declared.Answer.the-variants.{Accepted, ExpansionLimit}
 use Rattle.model.specs.Program.{Program}
-use Rattle.model.specs.Rules.{atOnce, Rules}
+use Rattle.model.specs.declared.Absorption.the-variants.{AtOnce as atOnce}
+use Rattle.model.specs.Rules.{Rules}
 use Rattle.model.specs.Run.{Run, run, answerOf}
 use Rattle.model.specs.Everything.{everything}
 use Rattle.runs.specs.Shown.{I, X, Y, Z, product, rotate, row, program, rules}

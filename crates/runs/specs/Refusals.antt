@@ -6,6 +6,7 @@ use Prim.Native.Nat.{ℕ}
 use lib.ListN.{replicate}
 use Rattle.pauli.specs.Word.{width}
 use Rattle.model.specs.declared.Strategy.the-variants.{Merge}
+use Rattle.model.specs.declared.Lazy.the-variants.{Off}
 use Rattle.model.specs.declared.Options.{Options}
 use Rattle.model.specs.declared.Answer.{Answer}
 use Rattle.model.specs.declared.Answer.the-variants.{Accepted, CountOutside, OptionOutside, SliceShort, BadNode, BadQubit, BadReference}
@@ -32,7 +33,7 @@ sized lookback window candidates rounds = record {
   «clifford_to_frame» = true;
   «eager_swaps» = true;
   «second_exchange_first» = false;
-  «lazy_cliffords» = false;
+  «lazy_cliffords» = Off;
   strategy = Merge;
   «measure_depth» = false;
   «max_packed_words» = 0;

@@ -8,7 +8,9 @@ use lib.ListN.{length}
 use Rattle.model.specs.declared.Strategy.{Strategy}
 use Rattle.model.specs.declared.Counters.{Counters}
 use Rattle.model.specs.Program.{Job, Program, programOf}
-use Rattle.model.specs.Rules.{Absorption, Rules}
+use Rattle.model.specs.declared.Lazy.the-variants.{Off}
+use Rattle.model.specs.declared.Absorption.{Absorption}
+use Rattle.model.specs.Rules.{Rules}
 use Rattle.model.specs.Run.{Ending, nonHermitian, finished, run}
 use Rattle.model.specs.Results.{operationResults, rowResults, countersOf}
 use Prim.Native.String.{[] as done, _∷_ as _then_}
@@ -64,6 +66,7 @@ rulesInOrder secondFirst lookback window candidates absorption eager strategy de
   lookback = lookback;
   exchange = record { window = window; candidates = candidates; eager = eager; «second_first» = secondFirst };
   absorption = absorption;
+  lazy = Off;
   strategy = strategy;
   depth = depth;
 }

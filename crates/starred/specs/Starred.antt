@@ -13,7 +13,8 @@ use Rattle.pauli.specs.Support.{signature, signatureTo}
 use Rattle.model.specs.declared.Strategy.the-variants.{Merge}
 use Rattle.model.specs.declared.Answer.the-variants.{NonHermitianAxis}
 use Rattle.model.specs.Program.{Program}
-use Rattle.model.specs.Rules.{atOnce, Rules}
+use Rattle.model.specs.declared.Absorption.the-variants.{AtOnce as atOnce}
+use Rattle.model.specs.Rules.{Rules}
 use Rattle.model.specs.Words.{Value, multiply}
 use Rattle.model.specs.Clifford.{absorbImage}
 use Rattle.model.specs.Run.{run, answerOf}

@@ -10,7 +10,8 @@ use lib.Seq.{set-append-seam}
 use borrow.Author.Tests.{eqb-true}
 use Rattle.model.specs.Program.{Operation}
 use Rattle.model.specs.Lists.{if_then_else_, allOf, isEven}
-use Rattle.model.specs.Rules.{Absorption, isAtOnce, Rules}
+use Rattle.model.specs.declared.Absorption.{Absorption}
+use Rattle.model.specs.Rules.{isAtOnce, Rules}
 use Rattle.model.specs.Items.{rot, Item, rotation, isClifford}
 use Rattle.model.specs.Stream.{Place, nowhere, at, Pass, withLast, countMerge, setAngle, leaveZero, putOutRotation, letsPass, canReach, angleAt}
 use Rattle.model.specs.Stream.{absorb, mergeAt}

@@ -6,25 +6,27 @@ use Prim.Native.Nat.{ℕ, _+_, _%_, _≤_, _<_}
 use native.Mathlib.Nat.{le-trans}
 use lib.ListN.{length}
 use Rattle.model.specs.Program.{Operation}
-use Rattle.model.specs.Rules.{Absorption, off, atOnce, lazy, Rules}
+use Rattle.model.specs.declared.Absorption.{Absorption}
+use Rattle.model.specs.declared.Absorption.the-variants.{Off as off, AtOnce as atOnce, Lazy as lazy}
+use Rattle.model.specs.Rules.{Rules}
 use Rattle.model.specs.Words.{wordOf, Store}
 use Rattle.model.specs.Items.{Rot, Item, rotation, barrier, withSign}
 use Rattle.model.specs.Stream.{Pass, Carried, withLast, putOut, clearedLast, axisImage, imageId, carryAxis, absorbAllWaiting, absorbBlocking, carryRotation}
 use Rattle.model.specs.Stream.{takeRotation}
-use Rattle.model.specs.Stream.{streamItem, stream, begin}
+use Rattle.model.specs.Stream.{rulesAfter, streamItem, stream, begin}
 use Rattle.theory.specs.Every.{Every}
 use Rattle.theory.specs.Ids.{id-word, Grows, grows-refl, grows-trans, grows-eq, intern-grows}
 use Rattle.theory.specs.StreamState.{axisOf, Sound, carryAxis-kept, carried-id, streamItem-stepped, begin-sound}
 use Rattle.words_wellformed.specs.HeldImages.{IsSign}
 use Rattle.words_wellformed.specs.StoredWords.{StoredWords}
-use Rattle.words_wellformed.specs.PassWords.{WellItem, WellPass, items-more, afterItems, stream-after, carryAxis-well, absorbAllWaiting-well}
+use Rattle.words_wellformed.specs.PassWords.{WellItem, WellPass, items-more, rulesBehind, afterItems, stream-after, carryAxis-well, absorbAllWaiting-well}
 use Rattle.words_wellformed.specs.PassWords.{absorbBlocking-well}
 use Rattle.words_wellformed.specs.PassWords.{carryRotation-well, streamItem-well, begin-well}
 use Rattle.words_wellformed.specs.RunWords.{TurnsItem}
 use Rattle.run_wellformed.specs.CliffordAngles.{withSign-turns}
-use Rattle.run_wellformed.specs.Waiting.{Waiting, absorbWaiting-axes, absorbBlocking-axes, carryRotation-waiting, streamItem-waiting}
-use Rattle.run_wellformed.specs.Waiting.{begin-waiting}
+use Rattle.run_wellformed.specs.Waiting.{Waiting, absorbWaiting-axes, absorbBlocking-axes, carryRotation-waiting}
 use Rattle.run_wellformed.specs.Waiting.{waiting-sound}
+use Rattle.run_wellformed.specs.Changing.{WaitsAs, waits-lazy, begin-waits, streamItem-waits}
 use Rattle.effect.specs.Effect.{Op}
 use Rattle.effect.specs.Clifford.{carry, Sim, sim-push}
 use Rattle.effect.specs.Packed.{Packed, packed}
@@ -191,24 +193,26 @@ module _ (l : ℕ) (operations : List Operation) where
   inside-item m (rotation t) h = h .0
   inside-item m (barrier o a s) h = h .0
 
-  module _ (r : Rules) (merging : Bool) (axes : List (List ℕ)) where
-    -- the state p after some items about the first axes
-    record Reads (X : List (Op W)) (p : Pass) : Type 0 where
+  module _ (merging : Bool) (axes : List (List ℕ)) where
+    -- the state p after some items about the first axes, and the rules behind them
+    record Reads (r : Rules) (X : List (Op W)) (p : Pass) : Type 0 where
       grow : Grows axes (p .store .axes)
       well : Well p
       sound : Sound p
-      wait : r .absorption ≡ lazy → Waiting l p
+      waits : WaitsAs l (r .absorption) p
       follows : S X p
 
-    one-follows : (X : List (Op W)) (p : Pass) (i : Item) → WellItem (Unit {0}) (length (p .store .axes)) i → Reads X p
+    one-follows : (r : Rules) (X : List (Op W)) (p : Pass) (i : Item) → WellItem (Unit {0}) (length (p .store .axes)) i → Reads r X p
         → S (X ++ (op (p .store .axes) i ∷ [])) (streamItem l r merging p i)
-    one-follows X p (rotation t) h k =
-        rotation-follows r merging X p (k .well) (k .sound) (k .wait) (k .follows) t (h .0) (h .1 tt .0) (h .1 tt .1)
-    one-follows X p (barrier o a s) h k = barrier-follows r merging X p (k .well) (k .sound) (k .wait) (k .follows) o a s (h .0) (h .1 tt)
+    one-follows r X p (rotation t) h k =
+        rotation-follows r merging X p (k .well) (k .sound) (waits-lazy l (r .absorption) p (k .waits)) (k .follows) t (h .0) (h .1 tt .0)
+        (h .1 tt .1)
+    one-follows r X p (barrier o a s) h k =
+        barrier-follows r merging X p (k .well) (k .sound) (waits-lazy l (r .absorption) p (k .waits)) (k .follows) o a s (h .0) (h .1 tt)
 
-    streamItem-reads : (X : List (Op W)) (p : Pass) (i : Item) → WellItem (Unit {0}) (length axes) i → Reads X p
-        → Reads (X ++ (op axes i ∷ [])) (streamItem l r merging p i)
-    streamItem-reads X p i h k =
+    streamItem-reads : (r : Rules) (X : List (Op W)) (p : Pass) (i : Item) → WellItem (Unit {0}) (length axes) i → Reads r X p
+        → Reads (rulesAfter r i) (X ++ (op axes i ∷ [])) (streamItem l r merging p i)
+    streamItem-reads r X p i h k =
         let more = items-more (Unit {0}) (length axes) (length (p .store .axes)) (i ∷ []) (k .grow .longer) (h, tt) .0 in
         let b = inside-item (length (p .store .axes)) i more in
         let stepped = streamItem-stepped l r merging p i (k .sound) b in
@@ -216,20 +220,21 @@ module _ (l : ℕ) (operations : List Operation) where
           grow = grows-trans (k .grow) (stepped .grow);
           well = streamItem-well l (Unit {0}) r merging p i (k .well) more .well;
           sound = stepped .sound;
-          wait = λ e. streamItem-waiting l r e merging p i (turns-item (length axes) i h) b (k .wait e);
+          waits = streamItem-waits l r merging p i (turns-item (length axes) i h) b (k .sound) (k .waits);
           follows =
               subst (λ (x : Op W). S (X ++ (x ∷ [])) (streamItem l r merging p i))
-              (opOf-grows l operations axes (p .store .axes) (k .grow) i (inside-item (length axes) i h, tt)) (one-follows X p i more k);
+              (opOf-grows l operations axes (p .store .axes) (k .grow) i (inside-item (length axes) i h, tt)) (one-follows r X p i more k);
         }
 
-    afterItems-reads : (X : List (Op W)) (p : Pass) (is : List Item) → Every (WellItem (Unit {0}) (length axes)) is → Reads X p
-        → Reads (X ++ opsOf l operations axes is) (afterItems l r merging p is)
-    unfolding afterItems
-    afterItems-reads X p [] h k = subst (λ (Y : List (Op W)). Reads Y p) (sym (append-nil X)) k
-    afterItems-reads X p (i ∷ is) h k =
-        subst (λ (Y : List (Op W)). Reads Y (afterItems l r merging (streamItem l r merging p i) is))
+    afterItems-reads : (r : Rules) (X : List (Op W)) (p : Pass) (is : List Item) → Every (WellItem (Unit {0}) (length axes)) is → Reads r X p
+        → Reads (rulesBehind r is) (X ++ opsOf l operations axes is) (afterItems l r merging p is)
+    unfolding rulesBehind afterItems
+    afterItems-reads r X p [] h k = subst (λ (Y : List (Op W)). Reads r Y p) (sym (append-nil X)) k
+    afterItems-reads r X p (i ∷ is) h k =
+        let q = streamItem l r merging p i in
+        subst (λ (Y : List (Op W)). Reads (rulesBehind (rulesAfter r i) is) Y (afterItems l (rulesAfter r i) merging q is))
         (append-assoc X (op axes i ∷ []) (opsOf l operations axes is))
-        (afterItems-reads (X ++ (op axes i ∷ [])) (streamItem l r merging p i) is (h .1) (streamItem-reads X p i (h .0) k))
+        (afterItems-reads (rulesAfter r i) (X ++ (op axes i ∷ [])) q is (h .1) (streamItem-reads r X p i (h .0) k))
 
   -- a whole stream
   pub stream-follows : (r : Rules) (merging : Bool) (st : Store) (is : List Item) → StoredWords l (st .axes)
@@ -237,14 +242,14 @@ module _ (l : ℕ) (operations : List Operation) where
       → S (opsOf l operations (st .axes) is) (stream l r merging (begin st) is)
   stream-follows r merging st is stored h =
       subst (S (opsOf l operations (st .axes) is)) (sym (stream-after l r merging (begin st) is))
-      (absorbAllWaiting-follows l operations (opsOf l operations (st .axes) is) (r .absorption) (afterItems l r merging (begin st) is)
-      (k .well) (k .wait) (k .follows))
+      (absorbAllWaiting-follows l operations (opsOf l operations (st .axes) is) (rulesBehind r is .absorption)
+      (afterItems l r merging (begin st) is) (k .well) (waits-lazy l (rulesBehind r is .absorption) _ (k .waits)) (k .follows))
     where
-      k : Reads r merging (st .axes) (opsOf l operations (st .axes) is) (afterItems l r merging (begin st) is)
-      k = afterItems-reads r merging (st .axes) [] (begin st) is h (record {
+      k : Reads merging (st .axes) (rulesBehind r is) (opsOf l operations (st .axes) is) (afterItems l r merging (begin st) is)
+      k = afterItems-reads merging (st .axes) r [] (begin st) is h (record {
         grow = unfold begin in (grows-refl (st .axes));
         well = begin-well l (Unit {0}) st stored;
         sound = begin-sound st;
-        wait = λ e. begin-waiting l st;
+        waits = begin-waits l (r .absorption) st;
         follows = begin-follows l operations st;
       })

@@ -1,22 +1,23 @@
 -- One item of a stream: a rotation, behind those that wait and block it, or a barrier, behind all that wait. Assumes nothing.
 use mathlib.Core.Path.{_≡_, refl, sym, ap, ap₂, _∙_, subst}
-use mathlib.Core.Logic.{_⊎_, inl, inr}
-use mathlib.Core.Bool.{Bool, true, false, true≢false}
+use mathlib.Core.Bool.{Bool, true, false, not, true≢false}
 use mathlib.Core.List.{List, [], _∷_, _++_}
 use Prim.Native.Nat.{ℕ, _+_, _-_, _%_, _≤_, _<_}
 use native.Mathlib.Nat.{lt-of-lt-of-le}
 use native.Mathlib.Omega.{arith}
 use native.Mathlib.Decide.{ℕ-discrete}
 use lib.ListN.{length, getD}
+use borrow.Author.Tests.{not-false}
 use Rattle.store.specs.Row.{row}
 use Rattle.pauli.specs.Word.{anticommutes}
-use Rattle.model.specs.Lists.{if_then_else_, allOf, anyOf, member}
-use Rattle.model.specs.Rules.{Absorption, off, atOnce, lazy, Rules}
+use Rattle.model.specs.Lists.{allOf, anyOf, member}
+use Rattle.model.specs.declared.Absorption.{Absorption}
+use Rattle.model.specs.declared.Absorption.the-variants.{Off as off, AtOnce as atOnce, Lazy as lazy}
+use Rattle.model.specs.Rules.{isLazy, Rules}
 use Rattle.model.specs.Words.{Value, wordOf, anticommute, idOf}
 use Rattle.model.specs.Items.{rot, Item, rotation, barrier, withSign}
 use Rattle.model.specs.Stream.{at, Pass, withLast, clearedLast, putOut, axisImage, imageId, carryAxis, absorbWaiting, absorbAllWaiting}
-use Rattle.model.specs.Stream.{absorbBlocking, carryRotation, takeRotation, streamItem}
-use Rattle.theory.specs.Cases.{if-true, if-false}
+use Rattle.model.specs.Stream.{absorbBlocking, Carried, carryRotation, takeRotation, streamItem}
 use Rattle.theory.specs.Ids.{id-word, id-in}
 use Rattle.theory.specs.Peak.{carryAxis-rises, absorbWaiting-rises, takeRotation-rises}
 use Rattle.theory.specs.StreamState.{axisImage-carried}
@@ -37,7 +38,7 @@ use Rattle.steps.specs.State.{withSegment}
 use Rattle.steps.specs.declared.Step.{Step}
 use Rattle.steps.specs.declared.Step.the-variants.{Next, ExpansionLimit}
 use Rattle.stream_states.specs.declared.StreamRules.{StreamRules}
-use Rattle.stream_states.specs.States.{lastIn, isWaiting, Waits, HoldsPass, FinePass, PassAt, absorptionSaid, RulesAs, LeftS}
+use Rattle.stream_states.specs.States.{lastIn, isWaiting, Waits, HoldsPass, FinePass, PassAt, lazy-only, RulesAs, LeftS}
 use Rattle.stream_states.specs.States.{left-then, granted-left, streamRows, SteppedAs, as-next, as-limit, stepped-from}
 use Rattle.stream_states.specs.Output.{holds-other, place-none}
 use Rattle.stream_states.specs.Known.{axes-count, out-few}
@@ -115,16 +116,17 @@ pub record RotationAt (z : Shape) (c : StreamRules) (st : State) (a k : ℕ) (ws
   pub few-all : st .absorbed + st .out < 9223372036854775808
 
 -- not lazy
-plain-is : (l : ℕ) (g : Rules) (merging : Bool) (p : Pass) (a k : ℕ) → (g .absorption ≡ off) ⊎ (g .absorption ≡ atOnce)
+plain-is : (l : ℕ) (g : Rules) (merging : Bool) (p : Pass) (a k : ℕ) → isLazy (g .absorption) ≡ false
     → streamItem l g merging p (rotation (rot a k))
     ≡ takeRotation l g merging (carryAxis l p a) (imageId l (carryAxis l p a) a) (withSign (axisImage l (carryAxis l p a) a .turns) k)
 unfolding streamItem carryRotation
-plain-is l g merging p a k (inl e) =
-    ap (λ (m : Absorption). takeRotation l g merging (carryRotation l m p a .pass) (carryRotation l m p a .axis)
-    (withSign (carryRotation l m p a .turns) k)) e
-plain-is l g merging p a k (inr e) =
-    ap (λ (m : Absorption). takeRotation l g merging (carryRotation l m p a .pass) (carryRotation l m p a .axis)
-    (withSign (carryRotation l m p a .turns) k)) e
+plain-is l g merging p a k e =
+    ap (λ (c : Carried). takeRotation l g merging (c .pass) (c .axis) (withSign (c .turns) k)) (plain (g .absorption) e)
+  where
+    plain : (m : Absorption) → isLazy m ≡ false → carryRotation l m p a ≡ carryRotation l off p a
+    plain off f = refl
+    plain atOnce f = refl
+    plain lazy f = absurd (true≢false f)
 
 lazy-is : (l : ℕ) (g : Rules) (merging : Bool) (p : Pass) (a k : ℕ) → g .absorption ≡ lazy
     → streamItem l g merging p (rotation (rot a k))
@@ -135,18 +137,6 @@ lazy-is l g merging p a k e =
     ap (λ (m : Absorption). takeRotation l g merging (carryRotation l m p a .pass) (carryRotation l m p a .axis)
     (withSign (carryRotation l m p a .turns) k)) e
 
-said-off : (c : StreamRules) → c .«to_frame» ≡ false → absorptionSaid c ≡ off
-unfolding absorptionSaid
-said-off c e = if-false _ _ e
-
-said-once : (c : StreamRules) → c .«to_frame» ≡ true → c .lazy ≡ false → absorptionSaid c ≡ atOnce
-unfolding absorptionSaid
-said-once c e f = if-true _ _ e ∙ if-false _ _ f
-
-pub said-lazy : (c : StreamRules) → c .«to_frame» ≡ true → c .lazy ≡ true → absorptionSaid c ≡ lazy
-unfolding absorptionSaid
-said-lazy c e f = if-true _ _ e ∙ if-true _ _ f
-
 -- more may be absorbed
 more-absorbed : {z : Shape} {m : Absorption} {st : State} {r : Step} {ws xs : List ℕ} {p : Pass} → SteppedAs z m 1 1 st r ws xs p
     → SteppedAs z m 1 (st .out + 1) st r ws xs p
@@ -155,23 +145,19 @@ more-absorbed s = stepped-from 1 _ s (omega arith) (omega arith)
 module _ {z : Shape} {c : StreamRules} {g : Rules} (rules : RulesAs c g) {st : State} {a k : ℕ} {ws xs : List ℕ} {n : ℕ} {p : Pass}
     (h : RotationAt z c st a k ws xs (g .absorption) n p) where
   -- taken as it is
-  pub rotation-off : {r : Step} {ws′ xs′ : List ℕ} → c .«to_frame» ≡ false
+  pub rotation-plain : {r : Step} {ws′ xs′ : List ℕ} → isLazy (c .absorption) ≡ false
       → SteppedAs z (g .absorption) 1 1 st r ws′ xs′
       (takeRotation (z .l) g (c .merge) (carryAxis (z .l) p a) (imageId (z .l) (carryAxis (z .l) p a) a)
       (withSign (axisImage (z .l) (carryAxis (z .l) p a) a .turns) k))
       → SteppedAs z (g .absorption) 1 (st .out + 1) st r ws′ xs′ (streamItem (z .l) g (c .merge) p (rotation (rot a k)))
-  rotation-off {r} {ws′} {xs′} e s =
+  rotation-plain {r} {ws′} {xs′} e s =
       subst (SteppedAs z (g .absorption) 1 (st .out + 1) st r ws′ xs′)
-      (sym (plain-is (z .l) g (c .merge) p a k (inl (sym (rules .absorption) ∙ said-off c e)))) (more-absorbed s)
+      (sym (plain-is (z .l) g (c .merge) p a k (ap isLazy (sym (rules .absorption)) ∙ e))) (more-absorbed s)
 
-  pub rotation-once : {r : Step} {ws′ xs′ : List ℕ} → c .«to_frame» ≡ true → c .lazy ≡ false
-      → SteppedAs z (g .absorption) 1 1 st r ws′ xs′
-      (takeRotation (z .l) g (c .merge) (carryAxis (z .l) p a) (imageId (z .l) (carryAxis (z .l) p a) a)
-      (withSign (axisImage (z .l) (carryAxis (z .l) p a) a .turns) k))
-      → SteppedAs z (g .absorption) 1 (st .out + 1) st r ws′ xs′ (streamItem (z .l) g (c .merge) p (rotation (rot a k)))
-  rotation-once {r} {ws′} {xs′} e f s =
-      subst (SteppedAs z (g .absorption) 1 (st .out + 1) st r ws′ xs′)
-      (sym (plain-is (z .l) g (c .merge) p a k (inr (sym (rules .absorption) ∙ said-once c e f)))) (more-absorbed s)
+-- it was told that even rotations wait
+pub told-lazy : {z : Shape} {c : StreamRules} {st : State} {a k : ℕ} {ws xs : List ℕ} {m : Absorption} {n : ℕ} {p : Pass} {b : Bool}
+    → RotationAt z c st a k ws xs m n p → b ≡ isLazy (c .absorption) → not b ≡ false → m ≡ lazy
+told-lazy {c = c} {b = b} h e f = h .carrying .mode ∙ lazy-only (c .absorption) (sym e ∙ not-false b f)
 
 -- lazy: those that block it first
 module _ {z : Shape} {c : StreamRules} {st : State} {a k : ℕ} {ws xs : List ℕ} {m : Absorption} {n : ℕ} {p : Pass}
@@ -250,30 +236,25 @@ module _ (z : Shape) (c : StreamRules) (g : Rules) (st : State) (a k : ℕ) (p :
 
 pub record AllAt (z : Shape) (c : StreamRules) (st : State) (ws xs : List ℕ) (m : Absorption) (n : ℕ) (p : Pass) : Type 0 where
   pub at : PassAt z m n st ws xs p
-  pub mode : m ≡ absorptionSaid c
+  pub mode : m ≡ c .absorption
   pub few : st .absorbed + st .out < 9223372036854775808
 
-all-off : (l : ℕ) (m : Absorption) (p : Pass) → (m ≡ off) ⊎ (m ≡ atOnce) → absorbAllWaiting l m p ≡ p
+none-waiting : (l : ℕ) (m : Absorption) (p : Pass) → isLazy m ≡ false → absorbAllWaiting l m p ≡ p
 unfolding absorbAllWaiting
-all-off l m p (inl e) = ap (λ (x : Absorption). absorbAllWaiting l x p) e
-all-off l m p (inr e) = ap (λ (x : Absorption). absorbAllWaiting l x p) e
+none-waiting l off p e = refl
+none-waiting l atOnce p e = refl
+none-waiting l lazy p e = absurd (true≢false e)
 
 module _ {z : Shape} {c : StreamRules} {st : State} {ws xs : List ℕ} {m : Absorption} {n : ℕ} {p : Pass}
     (h : AllAt z c st ws xs m n p) where
-  none-waits : (m ≡ off) ⊎ (m ≡ atOnce) → SteppedAs z m 0 (st .out) st (Next st) ws xs (absorbAllWaiting (z .l) m p)
+  pub none-waits : isLazy (c .absorption) ≡ false → SteppedAs z m 0 (st .out) st (Next st) ws xs (absorbAllWaiting (z .l) m p)
   none-waits e =
-      subst (SteppedAs z m 0 (st .out) st (Next st) ws xs) (sym (all-off (z .l) m p e))
+      subst (SteppedAs z m 0 (st .out) st (Next st) ws xs) (sym (none-waiting (z .l) m p (ap isLazy (h .mode) ∙ e)))
       (as-next (h .at .holds) (omega arith) (omega arith))
 
-  pub all-when-off : c .«to_frame» ≡ false → SteppedAs z m 0 (st .out) st (Next st) ws xs (absorbAllWaiting (z .l) m p)
-  all-when-off e = none-waits (inl (h .mode ∙ said-off c e))
-
-  pub all-when-once : c .«to_frame» ≡ true → c .lazy ≡ false → SteppedAs z m 0 (st .out) st (Next st) ws xs (absorbAllWaiting (z .l) m p)
-  all-when-once e f = none-waits (inr (h .mode ∙ said-once c e f))
-
-  module _ (e : c .«to_frame» ≡ true) (f : c .lazy ≡ true) where
+  module _ (e : isLazy (c .absorption) ≡ true) where
     is-lazy : m ≡ lazy
-    is-lazy = h .mode ∙ said-lazy c e f
+    is-lazy = h .mode ∙ lazy-only (c .absorption) e
 
     pub all-there : WaitAt z st true 0 ws xs n p
     all-there = record {

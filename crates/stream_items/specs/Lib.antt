@@ -1,4 +1,5 @@
 pub mod Waiting
 pub mod WaitingList
 pub mod Items
+pub mod Behind
 pub mod Loop

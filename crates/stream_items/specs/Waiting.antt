@@ -11,7 +11,7 @@ use lib.Seq.{getD-set-same}
 use borrow.Author.Tests.{ne-eqb}
 use Rattle.store.specs.Row.{Written}
 use Rattle.model.specs.Lists.{if_then_else_, allOf, anyOf, member, isEven}
-use Rattle.model.specs.Rules.{off}
+use Rattle.model.specs.declared.Absorption.the-variants.{Off as off}
 use Rattle.model.specs.Words.{anticommute}
 use Rattle.model.specs.Items.{rot, Item, rotation, barrier, isClifford}
 use Rattle.model.specs.Stream.{Pass, withLast, setAngle, leaveZero, absorb, absorbWaitingAt}

@@ -8,7 +8,7 @@ use native.Mathlib.Decide.{ℕ-discrete, decLt}
 use native.Mathlib.Omega.{arith}
 use lib.ListN.{length, getD, drop, length-set}
 use lib.Seq.{drop-cons, drop-length, getD-drop, drop-set-lt, getD-set-other}
-use Rattle.model.specs.Rules.{off, lazy}
+use Rattle.model.specs.declared.Absorption.the-variants.{Off as off, Lazy as lazy}
 use Rattle.model.specs.Items.{rot, Item, rotation, barrier}
 use Rattle.model.specs.Stream.{Pass, withLast, setAngle, leaveZero, absorb, absorbWaitingAt, absorbWaiting}
 use Rattle.theory.specs.Cases.{by-if}

@@ -1,17 +1,19 @@
 // The items of a stream, one after the other.
 ghost use mathlib.Core.Path.{_≡_};
 ghost use Prim.Native.Nat.{ℕ, _+_, _-_};
-ghost use Rattle.model.specs.Rules.{Absorption, Rules, lazy};
-ghost use Rattle.model.specs.Stream.{Pass, absorbBlocking, absorbAllWaiting, streamItem};
+ghost use Rattle.model.specs.declared.Absorption.{Absorption};
+ghost use Rattle.model.specs.declared.Absorption.the-variants.{Lazy as lazy};
+ghost use Rattle.model.specs.Rules.{Rules};
+ghost use Rattle.model.specs.Stream.{Pass, absorbBlocking, absorbAllWaiting, streamItem, stream};
 ghost use Rattle.model.specs.Items.{rot, rotation};
 ghost use Rattle.layout.specs.Rows.{itemsRow};
 ghost use Rattle.axes.specs.Held.{storedAxes};
 ghost use Rattle.items.specs.View.{itemSaid, itemsIn};
-ghost use Rattle.words_wellformed.specs.PassWords.{afterItems};
 ghost use Rattle.stream_states.specs.States.{SomePass, LeftS, SteppedAs, RulesAs, isWaiting};
 ghost use Rattle.stream_items.specs.Waiting.{pickedBy, PicksPre, TurnAt, TurnedAs};
 ghost use Rattle.stream_items.specs.WaitingList.{ListedAt, WaitAt, waitedAll};
 ghost use Rattle.stream_items.specs.Items.{BlockingAt, RotationAt, AllAt, BarrierAt, barrierPut};
+ghost use Rattle.stream_items.specs.Behind.{namedItem, beginsAt, rulesThen, stateThen};
 ghost use Rattle.stream_items.specs.Loop.{ItemAt, StreamAt, SomeStream, StreamedAs};
 use axes::Sizes;
 use items::Tagged;
@@ -19,6 +21,8 @@ use layout::ITEMS;
 use layout::OUT;
 use layout::Shape;
 use layout::WAITING;
+use model::Absorption;
+use model::Lazy;
 use steps::State;
 use steps::Step;
 use stream_states::StreamRules;
@@ -158,10 +162,7 @@ fn rotation(
         → SteppedAs shape (g .absorption) 1 (st .out + 1) st r (now (words .exit)) (now (numbers .exit))
         (streamItem (shape .l) g (rules .merge) p (rotation (rot a angle)))) ⌝ }
 {
-    if !rules.to_frame {
-        return merging::carry_and_take(words, numbers, shape, rules, st, a, angle);
-    }
-    if !rules.lazy {
+    if !stream_states::is_lazy(rules) {
         return merging::carry_and_take(words, numbers, shape, rules, st, a, angle);
     }
     let t = absorb_blocking(words, numbers, shape, st, a);
@@ -172,7 +173,7 @@ fn rotation(
 }
 
 // Absorbs all that wait.
-pub fn absorb_all(
+fn absorb_all(
     words: &mut [u64],
     numbers: &mut [u32],
     shape: Shape,
@@ -184,10 +185,7 @@ pub fn absorb_all(
         × ((m : Absorption) (n : ℕ) (p : Pass) → AllAt shape rules st (now (words .entry)) (now (numbers .entry)) m n p
         → SteppedAs shape m 0 (st .out) st r (now (words .exit)) (now (numbers .exit)) (absorbAllWaiting (shape .l) m p)) ⌝ }
 {
-    if !rules.to_frame {
-        return Step::Next(st);
-    }
-    if !rules.lazy {
+    if !stream_states::is_lazy(rules) {
         return Step::Next(st);
     }
     absorb_waiting(words, numbers, shape, st, true, 0)
@@ -245,7 +243,58 @@ fn stream_item(
     put_barrier(words, numbers, shape, s, x)
 }
 
-// All of the items, one after the other.
+// Whether item x is the barrier that the rules name.
+fn is_named(rules: StreamRules, x: Tagged) -> bool
+    ensures { λ r. ⌜ r ≡ namedItem (rules .lazy) (itemSaid x) ⌝ }
+{
+    if x.tag == 0 {
+        return false;
+    }
+    let lazy = rules.lazy;
+    match lazy {
+        Lazy::Off => false,
+        Lazy::On => false,
+        Lazy::From(place) => (x.tag - 1) as usize == place,
+    }
+}
+
+// Whether even rotations begin to wait behind item x.
+fn begins(rules: StreamRules, x: Tagged) -> bool
+    ensures { λ r. ⌜ r ≡ beginsAt rules x ⌝ }
+{
+    if !stream_states::is_at_once(rules) {
+        return false;
+    }
+    is_named(rules, x)
+}
+
+// The rules behind an item, where even rotations may begin to wait.
+fn rules_behind(rules: StreamRules, begin: bool) -> StreamRules
+    ensures { λ r. ⌜ r ≡ rulesThen begin rules ⌝ }
+{
+    if !begin {
+        return rules;
+    }
+    let lazy = rules.lazy;
+    StreamRules {
+        lookback: rules.lookback,
+        absorption: Absorption::Lazy,
+        lazy,
+        merge: rules.merge,
+    }
+}
+
+// The state behind an item: where even rotations begin to wait, none is named yet.
+fn state_behind(st: State, begin: bool) -> State
+    ensures { λ r. ⌜ r ≡ stateThen begin st ⌝ }
+{
+    if !begin {
+        return st;
+    }
+    steps::with_waiting(st, 0)
+}
+
+// All of the items, one after the other, and then all that still wait.
 pub fn stream_items(
     words: &mut [u64],
     numbers: &mut [u32],
@@ -257,17 +306,20 @@ pub fn stream_items(
     requires { ⌜ SomeStream (λ g p. StreamAt shape rules first items (now words) (now numbers) g p) ⌝ }
     ensures { λ r. ⌜ LeftS shape (now (words .entry)) (now (numbers .entry)) (now (words .exit)) (now (numbers .exit))
         × ((g : Rules) (p : Pass) → StreamAt shape rules first items (now (words .entry)) (now (numbers .entry)) g p
-        → StreamedAs shape (g .absorption) items r (now (words .exit)) (now (numbers .exit))
-        (afterItems (shape .l) g (rules .merge) p (itemsIn (now (numbers .entry)) (shape .u) itemsRow 0 items))) ⌝ }
+        → StreamedAs shape r (now (words .exit)) (now (numbers .exit))
+        (stream (shape .l) g (rules .merge) p (itemsIn (now (numbers .entry)) (shape .u) itemsRow 0 items))) ⌝ }
 {
     let mut st = first;
+    let mut present = rules;
     for i in 0..items {
         let x = items::item_at(&numbers[..], shape.u, ITEMS, i);
-        let t = stream_item(words, numbers, shape, rules, st, x);
-        match t {
-            Step::Next(s) => st = s,
-            Step::ExpansionLimit => return Step::ExpansionLimit,
-        }
+        let t = stream_item(words, numbers, shape, present, st, x);
+        let Step::Next(s) = t else {
+            return Step::ExpansionLimit;
+        };
+        let begin = begins(present, x);
+        st = state_behind(s, begin);
+        present = rules_behind(present, begin);
     }
-    Step::Next(st)
+    absorb_all(words, numbers, shape, present, st)
 }

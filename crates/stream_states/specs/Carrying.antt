@@ -5,7 +5,7 @@ use Prim.Native.Nat.{ℕ, _<_}
 use native.Mathlib.Omega.{arith}
 use lib.ListN.{length}
 use Rattle.model.specs.Lists.{allOf, anyOf, member}
-use Rattle.model.specs.Rules.{Absorption}
+use Rattle.model.specs.declared.Absorption.{Absorption}
 use Rattle.model.specs.Words.{Value, idOf}
 use Rattle.model.specs.Clifford.{Touched}
 use Rattle.model.specs.Stream.{Pass, axisImage, imageId, carryAxis}

@@ -4,7 +4,8 @@ use mathlib.Core.List.{List}
 use Prim.Native.Nat.{ℕ, _≤_, _<_}
 use native.Mathlib.Omega.{arith}
 use lib.ListN.{length, getD}
-use Rattle.model.specs.Rules.{Absorption, lazy}
+use Rattle.model.specs.declared.Absorption.{Absorption}
+use Rattle.model.specs.declared.Absorption.the-variants.{Lazy as lazy}
 use Rattle.model.specs.Items.{Item, barrier}
 use Rattle.model.specs.Stream.{Pass}
 use Rattle.theory.specs.Every.{every-at}

@@ -10,7 +10,8 @@ use lib.ListN.{length, getD, set}
 use borrow.Author.Tests.{lt-ltb, le-ltb, eq-eqb, ne-eqb}
 use Rattle.store.specs.Row.{row, Written}
 use Rattle.model.specs.Lists.{if_then_else_, anyOf, member}
-use Rattle.model.specs.Rules.{Absorption, off, lazy}
+use Rattle.model.specs.declared.Absorption.{Absorption}
+use Rattle.model.specs.declared.Absorption.the-variants.{Off as off, Lazy as lazy}
 use Rattle.model.specs.Items.{rot, Item, rotation, isClifford}
 use Rattle.model.specs.Clifford.{Touched}
 use Rattle.model.specs.Stream.{Place, nowhere, at, Pass, withLast, setAngle, putOut, setLast, putOutRotation}
@@ -180,6 +181,9 @@ without-list n h = record {
   absorbed-are = h .absorbed-are;
   waits = λ e. absurd (never e);
 }
+
+pub list-forgotten : {z : Shape} {m : Absorption} {st : State} {ws xs : List ℕ} {p : Pass} → HoldsPass z m st ws xs p → HoldsPass z off st ws xs p
+list-forgotten {st = st} h = without-list (st .waiting) h
 
 -- it is written
 pub with-list : {z : Shape} {m : Absorption} {st : State} {ws xs xs′ : List ℕ} {p : Pass} (n : ℕ) → Only (waitingRow ∷ []) (z .u) xs xs′

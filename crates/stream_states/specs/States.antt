@@ -1,6 +1,6 @@
 -- The stream's state in memory: F and the axes, the output in rows OUT, `last` in row LAST. Assumes nothing.
-use mathlib.Core.Path.{_≡_, subst}
-use mathlib.Core.Bool.{Bool, true, false, not}
+use mathlib.Core.Path.{_≡_, refl, sym, subst}
+use mathlib.Core.Bool.{Bool, true, false, true≢false}
 use mathlib.Core.List.{List, _∷_}
 use Prim.Native.Nat.{ℕ, _+_, _-_, _≤_, _<_}
 use native.Mathlib.Omega.{arith}
@@ -8,7 +8,9 @@ use lib.Dec.{ltb}
 use lib.ListN.{getD}
 use Rattle.store.specs.Row.{row}
 use Rattle.model.specs.Lists.{if_then_else_}
-use Rattle.model.specs.Rules.{Absorption, off, atOnce, lazy, Rules}
+use Rattle.model.specs.declared.Absorption.{Absorption}
+use Rattle.model.specs.declared.Absorption.the-variants.{Off as off, AtOnce as atOnce, Lazy as lazy}
+use Rattle.model.specs.Rules.{isLazy, Rules}
 use Rattle.model.specs.Items.{Item, rotation, barrier, isClifford}
 use Rattle.model.specs.Clifford.{Touched}
 use Rattle.model.specs.Stream.{Place, nowhere, at, Pass}
@@ -84,12 +86,15 @@ pub record SomePass (P : Absorption → ℕ → Pass → Type 0) : Type 0 where
 
 -- ---- rules
 
-unfoldable pub absorptionSaid : StreamRules → Absorption
-absorptionSaid c = if c .«to_frame» then if c .lazy then lazy else atOnce else off
+pub lazy-only : (m : Absorption) → isLazy m ≡ true → m ≡ lazy
+lazy-only off e = absurd (true≢false (sym e))
+lazy-only atOnce e = absurd (true≢false (sym e))
+lazy-only lazy e = refl
 
 pub record RulesAs (c : StreamRules) (r : Rules) : Type 0 where
   pub lookback : c .lookback ≡ r .lookback
-  pub absorption : absorptionSaid c ≡ r .absorption
+  pub absorption : c .absorption ≡ r .absorption
+  pub lazy : c .lazy ≡ r .lazy
 
 -- ---- what a step leaves
 

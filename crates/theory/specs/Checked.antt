@@ -8,11 +8,12 @@ use lib.Dec.{eqb, ltb, leb}
 use lib.ListN.{length, getD, length-map}
 use borrow.Author.Tests.{eqb-true, ltb-false, leb-false}
 use Rattle.store.specs.Chunk.{chunks, chunks-length}
+use Rattle.model.specs.declared.Lazy.the-variants.{Off}
 use Rattle.model.specs.declared.Options.{Options}
 use Rattle.model.specs.declared.Answer.{Answer}
 use Rattle.model.specs.declared.Answer.the-variants.{Accepted, CountOutside, OptionOutside, SliceShort, BadNode, BadQubit, BadReference}
 use Rattle.model.specs.declared.Answer.the-variants.{BadOperation}
-use Rattle.model.specs.declared.Answer.the-variants.{BadOutcome, NonHermitianAxis, ExpansionLimit, BadText}
+use Rattle.model.specs.declared.Answer.the-variants.{BadOutcome, NonHermitianAxis, ExpansionLimit, BadText, BadPlace}
 use Rattle.model.specs.Lists.{if_then_else_}
 use Rattle.model.specs.Interface.{numberOf, accepts}
 use Rattle.model.specs.Program.{fieldOf, Job, nodeRecords, operationRecords, rowRecords, Node, identity, letter, product, nodeOfKind, nodeOf}
@@ -20,18 +21,19 @@ use Rattle.model.specs.Program.{Operation}
 use Rattle.model.specs.Program.{operationOf, PauliRef, rowOf, Program, programOf}
 use Rattle.model.specs.Results.{noOperation, operationAt}
 use Rattle.model.specs.Checking.{Lent, andThen, badCount, badOption, badProduct, checkNodeOfKind, checkNode, checkNodes, badOperation}
-use Rattle.model.specs.Checking.{badReference, measured, checkOperation, checkOperations, badRow, checkRow, checkRows, checkProgram, checking}
+use Rattle.model.specs.Checking.{badReference, measured, checkOperation, checkOperations, badRow, checkRow, checkRows, checkProgram}
+use Rattle.model.specs.Checking.{checkPlace, checkRecords, checking}
 use Rattle.theory.specs.Cases.{on-if, neither}
 use Rattle.theory.specs.Every.{Every}
 use Rattle.theory.specs.ByNode.{ChildrenBefore, Ordered}
 
 -- ---- answers
 
--- by number
+-- by number; 12 to 15 are no answers
 answers : List Answer
 answers =
     Accepted ∷ CountOutside ∷ OptionOutside ∷ SliceShort ∷ BadNode ∷ BadQubit ∷ BadReference ∷ BadOperation ∷ BadOutcome ∷ NonHermitianAxis ∷
-    ExpansionLimit ∷ BadText ∷ []
+    ExpansionLimit ∷ BadText ∷ Accepted ∷ Accepted ∷ Accepted ∷ Accepted ∷ BadPlace ∷ []
 
 numbered : (a : Answer) → getD answers (numberOf a) Accepted ≡ a
 unfolding answers
@@ -47,6 +49,7 @@ numbered BadOutcome = refl
 numbered NonHermitianAxis = refl
 numbered ExpansionLimit = refl
 numbered BadText = refl
+numbered BadPlace = refl
 
 -- no two have one number
 pub same-number : (a b : Answer) → numberOf a ≡ numberOf b → a ≡ b
@@ -214,13 +217,25 @@ checking-options o j s h =
     let a = not-refused (badCount (j .counts)) CountOutside _ refl h in
     not-refused (badOption o) OptionOutside _ refl (a .1) .0
 
--- and after all three kinds of records passed
-pub checking-program : (o : Options) (j : Job) (s : Lent) → checking o j s ≡ Accepted → checkProgram j ≡ Accepted
+-- and after the records and the named place passed
+pub checking-records : (o : Options) (j : Job) (s : Lent) → checking o j s ≡ Accepted → checkRecords (o .«lazy_cliffords») j ≡ Accepted
 unfolding checking
-checking-program o j s h =
+checking-records o j s h =
     let a = not-refused (badCount (j .counts)) CountOutside _ refl h in
     let b = not-refused (badOption o) OptionOutside _ refl (a .1) in
-    not-refused _ SliceShort (checkProgram j) refl (b .1) .1
+    not-refused _ SliceShort (checkRecords (o .«lazy_cliffords») j) refl (b .1) .1
+
+-- without a named place 16 refuses nothing
+pub unnamed-records : (j : Job) → checkRecords Off j ≡ checkProgram j
+unfolding checkRecords checkPlace andThen
+unnamed-records j =
+    on-if (λ (x : Answer). x ≡ checkProgram j) (accepts (checkProgram j)) Accepted (checkProgram j)
+    (λ e. sym (accepts-only (checkProgram j) e)) (λ e. refl)
+
+-- so all three kinds of records passed
+pub checking-program : (o : Options) (j : Job) (s : Lent) → checking o j s ≡ Accepted → checkProgram j ≡ Accepted
+unfolding checkRecords
+checking-program o j s h = both-accepted (checkProgram j) _ (checking-records o j s h) .0
 
 -- a program that Checking passes is fine
 pub checked-fine : (o : Options) (j : Job) (s : Lent) → checking o j s ≡ Accepted → Fine (programOf j)

@@ -14,7 +14,9 @@ pub mod StreamState
 pub mod SweepsEnd
 pub mod SwapsEnd
 pub mod TieOrder
+pub mod SamePasses
 pub mod WithoutExchange
+pub mod WithoutAbsorption
 pub mod Segments
 pub mod SegmentAxes
 pub mod Steady

@@ -15,11 +15,11 @@ use Rattle.model.specs.Interface.{accepts}
 use Rattle.model.specs.Program.{Job, Program, programOf}
 use Rattle.model.specs.Rules.{Rules, rulesOf}
 use Rattle.model.specs.Run.{Ending, nonHermitian, finished, Run, endAnswer, answerOf}
-use Rattle.model.specs.Checking.{Lent, badCount, badOption, programShort, lentShort, checkProgram, checking}
+use Rattle.model.specs.Checking.{Lent, badCount, badOption, programShort, lentShort, checkRecords, checking}
 use Rattle.model.specs.Rewriting.{Reply, stopped, accepted, afterEnding, rewriting}
 use Rattle.theory.specs.Cases.{on-if, if-true, if-false}
-use Rattle.theory.specs.Checked.{not-refused, checking-program}
-use Rattle.theory.specs.Alike.{Alike, alike-program, alike-checked}
+use Rattle.theory.specs.Checked.{not-refused, checking-records}
+use Rattle.theory.specs.Alike.{Alike, alike-program, alike-records}
 use Rattle.theory.specs.Replies.{runOf, limitOf, within-limit, ending-answer, run-answer, refusal-answer, ran}
 
 -- ---- a run's answer at two limits
@@ -61,6 +61,10 @@ module _ (o o′ : Options) (j j′ : Job) (s s′ : Lent) (alike : Alike j j′
   pub run-same : runOf o′ j′ ≡ runOf o j
   run-same = rw (same .rules, same .rounds, alike-program j j′ alike) refl
 
+  -- one lazy setting
+  pub lazy-same : o′ .«lazy_cliffords» ≡ o .«lazy_cliffords»
+  lazy-same = unfold rulesOf in (ap (λ (r : Rules). r .lazy) (same .rules))
+
   -- Checking has passed both, and the first call did not answer 10
   pub larger-limit : checking o j s ≡ Accepted → checking o′ j′ s′ ≡ Accepted → limitOf o ≤ limitOf o′
       → (rewriting o j s .answer ≡ ExpansionLimit → ⊥) → SameResults o j s s′ (rewriting o j s) (rewriting o′ j′ s′)
@@ -80,12 +84,13 @@ module _ (o o′ : Options) (j j′ : Job) (s s′ : Lent) (alike : Alike j j′
   checks-again c =
       let count : badCount (j′ .counts) ≡ false = rw (alike .counts) (not-refused _ CountOutside _ refl c .0) in
       let short = programShort j′ || lentShort (j′ .counts) s′ (limitOf o′) in
-      let left = if short then SliceShort else checkProgram j′ in
-      let right : checkProgram j′ ≡ Accepted = alike-checked j j′ alike ∙ checking-program o j s (unfold checking in c) in
+      let records = checkRecords (o′ .«lazy_cliffords») j′ in
+      let left = if short then SliceShort else records in
+      let right : records ≡ Accepted = rw lazy-same (alike-records _ j j′ alike ∙ checking-records o j s (unfold checking in c)) in
       rw (if-false CountOutside (if badOption o′ then OptionOutside else left) count)
       (on-if (λ (x : Answer). (x ≡ OptionOutside → ⊥) → (x ≡ SliceShort → ⊥) → x ≡ Accepted) (badOption o′) OptionOutside left
       (λ e p q. absurd (p refl))
-      (λ e. on-if (λ (x : Answer). (x ≡ OptionOutside → ⊥) → (x ≡ SliceShort → ⊥) → x ≡ Accepted) short SliceShort (checkProgram j′)
+      (λ e. on-if (λ (x : Answer). (x ≡ OptionOutside → ⊥) → (x ≡ SliceShort → ⊥) → x ≡ Accepted) short SliceShort records
       (λ f p q. absurd (q refl)) (λ f p q. right)))
 
   -- the answer of Checking is the call's, where it is a refusal
@@ -105,9 +110,9 @@ module _ (o o′ : Options) (j j′ : Job) (s s′ : Lent) (alike : Alike j j′
       → (rewriting o′ j′ s′ .answer ≡ OptionOutside → ⊥) → (rewriting o′ j′ s′ .answer ≡ SliceShort → ⊥)
       → SameResults o j s s′ (rewriting o j s) (rewriting o′ j′ s′)
   same-at-larger-limit le (inl e) p q =
-      not-ten le (ran o j s Accepted e (inl refl)) (λ f. let z : _≡_ {A = ℕ} 0 1 = cc in omega arith) p q
+      not-ten le (ran o j s Accepted e refl) (λ f. let z : _≡_ {A = ℕ} 0 1 = cc in omega arith) p q
   same-at-larger-limit le (inr e) p q =
-      not-ten le (ran o j s NonHermitianAxis e (inr (omega arith))) (λ f. let z : _≡_ {A = ℕ} 0 1 = cc in omega arith) p q
+      not-ten le (ran o j s NonHermitianAxis e refl) (λ f. let z : _≡_ {A = ℕ} 0 1 = cc in omega arith) p q
 
 -- the same answer
 pub results-answer : {o : Options} {j : Job} {s s′ : Lent} {x x′ : Reply} → SameResults o j s s′ x x′ → x′ .answer ≡ x .answer

@@ -1,10 +1,10 @@
 -- Demand 3 about calls of Listing: "A Listing's results and counters are what it prints." Assumes nothing.
 use mathlib.Core.Path.{_≡_, refl, sym, ap, ap₂, _∙_}
 use mathlib.Core.Logic.{_⊎_, inl, inr}
-use mathlib.Core.Bool.{Bool, true, false, _||_, true≢false}
+use mathlib.Core.Bool.{Bool, true, false, _||_}
 use mathlib.Core.Option.{Option, none, some, bind, Option·map}
 use mathlib.Core.List.{List, [], _∷_}
-use Prim.Native.Nat.{ℕ, _+_, _≤_, _<_}
+use Prim.Native.Nat.{ℕ, _+_, _≤_}
 use native.Mathlib.Nat.{le-trans}
 use native.Mathlib.Omega.{arith}
 use lib.Dec.{ltb}
@@ -16,7 +16,7 @@ use Rattle.model.specs.declared.Answer.{Answer}
 use Rattle.model.specs.declared.Answer.the-variants.{Accepted, CountOutside, OptionOutside, NonHermitianAxis, ExpansionLimit, BadText}
 use Rattle.model.specs.declared.Counters.{Counters}
 use Rattle.model.specs.Lists.{if_then_else_}
-use Rattle.model.specs.Interface.{numberOf, accepts, defaultsAt}
+use Rattle.model.specs.Interface.{numberOf, accepts, ofChecking, defaultsAt}
 use Rattle.model.specs.Program.{fieldOf, Program, programOf}
 use Rattle.model.specs.Rules.{Rules, absorptionOf, rulesOf}
 use Rattle.model.specs.Packing.{packed}
@@ -29,7 +29,7 @@ use Rattle.model.specs.Listing.{textOf, refusalLines, firstLine, endLines, runL
 use Rattle.theory.specs.Cases.{by-if, on-if, if-true, if-false, neither, none-some, bind-some, map-some}
 use Rattle.theory.specs.Checked.{accepts-only, not-refused, Fine, program-fine}
 use Rattle.theory.specs.Alike.{Alike, alike-program, alike-checked}
-use Rattle.theory.specs.Replies.{runOf, program-low}
+use Rattle.theory.specs.Replies.{runOf, program-low, low-checks, passes-checks}
 use Rattle.theory.specs.Limit.{within, within-answer}
 use Rattle.theory.specs.AcceptedRun.{finishOf, accepted-peak, accepted-roots, accepted-ending, counters-source}
 
@@ -133,17 +133,10 @@ checks-low t =
     by-if (λ (a : Answer). numberOf a ≤ 8) _ CountOutside _ (omega arith)
     (by-if (λ (a : Answer). numberOf a ≤ 8) _ OptionOutside _ (omega arith) (program-low (t .job)))
 
--- an answer 0 or above 8 is the run's
-listing-ran : (t : Read) (a : Answer) → listingAnswer (some t) ≡ a → (accepts a ≡ true) ⊎ (8 < numberOf a) → accepts (checksOf t) ≡ true
+-- an answer that is no refusal of Checking's is the run's
+listing-ran : (t : Read) (a : Answer) → listingAnswer (some t) ≡ a → ofChecking (numberOf a) ≡ false → accepts (checksOf t) ≡ true
 unfolding listingAnswer
-listing-ran t a e h = go (accepts (checksOf t)) refl h
-  where
-    go : (b : Bool) → accepts (checksOf t) ≡ b → (accepts a ≡ true) ⊎ (8 < numberOf a) → accepts (checksOf t) ≡ true
-    go true f g = f
-    go false f (inl g) = absurd (true≢false (sym g ∙ ap accepts (sym e ∙ if-false _ (checksOf t) f) ∙ f))
-    go false f (inr g) =
-        let n : numberOf a ≡ numberOf (checksOf t) = ap numberOf (sym e ∙ if-false _ (checksOf t) f) in
-        absurd (omega (arith, checks-low t))
+listing-ran t a e = passes-checks (checksOf t) a (low-checks (checksOf t) (checks-low t)) (λ f. sym e ∙ if-false _ (checksOf t) f)
 
 module _ (text text′ : List ℕ) (t t′ : Read) (reads : read text ≡ some t) (reads′ : read text′ ≡ some t′)
     (alike : Alike (t .job) (t′ .job)) where
@@ -178,15 +171,15 @@ module _ (text text′ : List ℕ) (t t′ : Read) (reads : read text ≡ some t
   pub same-text-at-larger-limit : t .limit ≤ t′ .limit
       → (listingAnswer (some t) ≡ Accepted) ⊎ (listingAnswer (some t) ≡ NonHermitianAxis) → listing text′ ≡ listing text
   same-text-at-larger-limit le (inl e) =
-      not-ten le (listing-ran t Accepted e (inl refl)) (λ f. let z : _≡_ {A = ℕ} 0 1 = cc in omega arith)
+      not-ten le (listing-ran t Accepted e refl) (λ f. let z : _≡_ {A = ℕ} 0 1 = cc in omega arith)
   same-text-at-larger-limit le (inr e) =
-      not-ten le (listing-ran t NonHermitianAxis e (inr (omega arith))) (λ f. let z : _≡_ {A = ℕ} 0 1 = cc in omega arith)
+      not-ten le (listing-ran t NonHermitianAxis e refl) (λ f. let z : _≡_ {A = ℕ} 0 1 = cc in omega arith)
 
   -- M-103: one that was accepted at one limit is accepted at every limit from its largest sum on
   pub accepted-from-peak-on : listingAnswer (some t) ≡ Accepted → listedRun t .peak ≤ t′ .limit → listingAnswer (some t′) ≡ Accepted
   unfolding listingAnswer
   accepted-from-peak-on e h =
-      let ran = listing-ran t Accepted e (inl refl) in
+      let ran = listing-ran t Accepted e refl in
       let ended = accepted-ending (t .limit) (rulesOf (optionsOf t)) 8 (programOf (t .job)) (sym (if-true _ (checksOf t) ran) ∙ e) in
       if-true _ (checksOf t′) (ap accepts same-checks ∙ ran) ∙ within-answer (t′ .limit) (listedRun t′) (rw same-run h)
       ∙ ap (λ (x : Run). endAnswer (x .ending)) same-run ∙ ap endAnswer ended
@@ -210,7 +203,7 @@ module _ (t : Read) (yes′ : listingAnswer (some t) ≡ Accepted) where
   pub listed-passed : (checksOf t ≡ Accepted) × (answerOf (t .limit) (listedRun t) ≡ Accepted)
   unfolding listingAnswer
   listed-passed =
-      let ran = listing-ran t Accepted yes′ (inl refl) in
+      let ran = listing-ran t Accepted yes′ refl in
       (accepts-only (checksOf t) ran, sym (if-true _ (checksOf t) ran) ∙ yes′)
 
   -- so did those for its records

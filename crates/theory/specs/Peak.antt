@@ -8,7 +8,9 @@ use Rattle.pauli.specs.Word.{width}
 use Rattle.model.specs.declared.Strategy.{Strategy}
 use Rattle.model.specs.declared.Strategy.the-variants.{Merge, Litinski}
 use Rattle.model.specs.Program.{Node, identity, letter, product, PauliRef, Program}
-use Rattle.model.specs.Rules.{Absorption, off, atOnce, lazy, Rules}
+use Rattle.model.specs.declared.Absorption.{Absorption}
+use Rattle.model.specs.declared.Absorption.the-variants.{Off as off, AtOnce as atOnce, Lazy as lazy}
+use Rattle.model.specs.Rules.{Rules}
 use Rattle.model.specs.Words.{Value, Store, tested, intern}
 use Rattle.model.specs.Packing.{Pack, useNode, useChildren, takeSlot, packRoot, packRoots, packNode, packFrom, packed, SignedAxis}
 use Rattle.model.specs.Clifford.{Touched, touch, touchAll, absorbWord}
@@ -17,7 +19,7 @@ use Rattle.model.specs.Stream.{Place, nowhere, at, Pass, withLast, countMerge, 
 use Rattle.model.specs.Stream.{absorb}
 use Rattle.model.specs.Stream.{absorbWaitingAt, absorbWaiting, absorbAllWaiting, absorbBlocking, carryRotation, mergeAt, mergeOrPutOut}
 use Rattle.model.specs.Stream.{takeRotation}
-use Rattle.model.specs.Stream.{streamItem, stream, carryRowsFrom, carryRows, begin}
+use Rattle.model.specs.Stream.{rulesAfter, streamItem, stream, carryRowsFrom, carryRows, begin}
 use Rattle.model.specs.Rounds.{Work, streamPass, exchangePass, layeringPass, mergeRound, roundsFrom, closingStream, mergeRounds, litinskiFrom}
 use Rattle.model.specs.Rounds.{litinskiRounds}
 use Rattle.model.specs.Rounds.{passes}
@@ -152,7 +154,7 @@ module _ (l : ℕ) where
   pub stream-rises : (r : Rules) (b : Bool) (p : Pass) (is : List Item) → Rises p (stream l r b p is)
   unfolding stream
   stream-rises r b p [] = absorbAllWaiting-rises (r .absorption) p
-  stream-rises r b p (i ∷ is) = le-trans (streamItem-rises r b p i) (stream-rises r b _ is)
+  stream-rises r b p (i ∷ is) = le-trans (streamItem-rises r b p i) (stream-rises (rulesAfter r i) b _ is)
 
   -- carrying rows, from any row on
   pub carryRowsFrom-rises : (p : Pass) (done rows : List SignedAxis) → Rises p (carryRowsFrom l p done rows .pass)

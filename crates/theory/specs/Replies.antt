@@ -1,25 +1,26 @@
 -- What a call of Rewriting replies: after a refusal by Checking, beyond the limit, and within it. Assumes nothing.
-use mathlib.Core.Path.{_≡_, refl, sym, ap, _∙_}
-use mathlib.Core.Logic.{_⊎_, inl, inr}
-use mathlib.Core.Bool.{Bool, true, false, true≢false}
+use mathlib.Core.Path.{_≡_, refl, sym, ap, ap₂, _∙_}
+use mathlib.Core.Bool.{Bool, true, false, _||_, true≢false}
 use mathlib.Core.List.{List, [], _∷_}
 use Prim.Native.Nat.{ℕ, zero, suc, _≤_, _<_}
 use native.Mathlib.Omega.{arith}
-use lib.Dec.{ltb}
-use borrow.Author.Tests.{lt-ltb, le-ltb}
+use lib.Dec.{eqb, ltb}
+use borrow.Author.Tests.{lt-ltb, le-ltb, le-leb, ne-eqb}
+use Rattle.model.specs.declared.Lazy.{Lazy}
+use Rattle.model.specs.declared.Lazy.the-variants.{Off, On, From}
 use Rattle.model.specs.declared.Options.{Options}
 use Rattle.model.specs.declared.Answer.{Answer}
 use Rattle.model.specs.declared.Answer.the-variants.{Accepted, CountOutside, OptionOutside, SliceShort, BadNode, BadQubit, BadReference}
 use Rattle.model.specs.declared.Answer.the-variants.{BadOperation}
-use Rattle.model.specs.declared.Answer.the-variants.{BadOutcome, NonHermitianAxis, ExpansionLimit}
+use Rattle.model.specs.declared.Answer.the-variants.{BadOutcome, NonHermitianAxis, ExpansionLimit, BadPlace}
 use Rattle.model.specs.Lists.{if_then_else_}
-use Rattle.model.specs.Interface.{numberOf, accepts}
+use Rattle.model.specs.Interface.{numberOf, accepts, ofChecking}
 use Rattle.model.specs.Program.{fieldOf, Job, Program, programOf}
 use Rattle.model.specs.Rules.{Rules, rulesOf}
 use Rattle.model.specs.Run.{Ending, nonHermitian, finished, Run, run, endAnswer, answerOf}
 use Rattle.model.specs.Checking.{Lent, andThen, checkNodeOfKind, checkNode, checkNodes, measured, checkOperation, checkOperations, checkRow}
 use Rattle.model.specs.Checking.{checkRows}
-use Rattle.model.specs.Checking.{checkProgram, checking}
+use Rattle.model.specs.Checking.{checkProgram, checkPlace, checkRecords, checking}
 use Rattle.model.specs.Rewriting.{Reply, refused, stopped, accepted, afterEnding, afterRun, rewriting}
 use Rattle.theory.specs.Cases.{by-if, on-if, if-true, if-false}
 use Rattle.theory.specs.Checked.{accepts-only}
@@ -80,7 +81,7 @@ module _ (o : Options) (j : Job) (s : Lent) where
   pub refusal-answer : accepts (checking o j s) ≡ false → rewriting o j s .answer ≡ checking o j s
   refusal-answer n = ap (λ (x : Reply). x .answer) (refused-reply o j s (checking o j s) refl n) ∙ refused-answer (checking o j s) s
 
--- ---- Checking answers 0 to 8 only
+-- ---- Checking answers 0 and its refusals only
 
 abbrev Low : Answer → Type 0
 Low a = numberOf a ≤ 8
@@ -124,22 +125,45 @@ pub program-low : (j : Job) → numberOf (checkProgram j) ≤ 8
 unfolding checkProgram
 program-low j = andThen-low _ _ (nodes-low _ 0 _) (andThen-low _ _ (operations-low _ [] _) (rows-low _ 0 _))
 
--- Checking answers no number above 8
-pub checking-low : (o : Options) (j : Job) (s : Lent) → numberOf (checking o j s) ≤ 8
-unfolding checking
-checking-low o j s =
-    by-if Low _ CountOutside _ (omega arith)
-    (by-if Low _ OptionOutside _ (omega arith) (by-if Low _ SliceShort _ (omega arith) (program-low j)))
+abbrev pub Checks : Answer → Type 0
+Checks a = accepts a || ofChecking (numberOf a) ≡ true
 
--- so a call that answers 0, 9 or 10 has passed Checking
-pub ran : (o : Options) (j : Job) (s : Lent) (a : Answer) → rewriting o j s .answer ≡ a → (accepts a ≡ true) ⊎ (8 < numberOf a)
-    → checking o j s ≡ Accepted
-ran o j s a e h = go (accepts (checking o j s)) refl h
+-- 0 to 8 are Checking's
+pub low-checks : (a : Answer) → numberOf a ≤ 8 → Checks a
+low-checks a h = go (numberOf a) h
   where
-    go : (t : Bool) → accepts (checking o j s) ≡ t → (accepts a ≡ true) ⊎ (8 < numberOf a) → checking o j s ≡ Accepted
-    go true f g = accepts-only (checking o j s) f
-    go false f (inl g) =
-        absurd (true≢false (sym g ∙ ap accepts (sym e ∙ refusal-answer o j s f) ∙ f))
-    go false f (inr g) =
-        let n : numberOf (checking o j s) ≡ numberOf a = ap numberOf (sym (refusal-answer o j s f) ∙ e) in
-        absurd (omega (arith, checking-low o j s))
+    go : (n : ℕ) → n ≤ 8 → eqb n 0 || ofChecking n ≡ true
+    go zero k = refl
+    go (suc n) k = rw (ne-eqb (suc n) 0 (λ e. omega arith), le-leb 1 (suc n) (omega arith), le-leb (suc n) 8 k) refl
+
+place-checks : (setting : Lazy) (rs : List (List ℕ)) → Checks (checkPlace setting rs)
+unfolding checkPlace
+place-checks Off rs = refl
+place-checks On rs = refl
+place-checks (From n) rs = by-if Checks _ BadPlace Accepted refl refl
+
+records-checks : (setting : Lazy) (j : Job) → Checks (checkRecords setting j)
+unfolding checkRecords andThen
+records-checks setting j = by-if Checks _ _ (checkProgram j) (place-checks setting _) (low-checks (checkProgram j) (program-low j))
+
+pub checking-checks : (o : Options) (j : Job) (s : Lent) → Checks (checking o j s)
+unfolding checking
+checking-checks o j s =
+    by-if Checks _ CountOutside _ refl
+    (by-if Checks _ OptionOutside _ refl (by-if Checks _ SliceShort _ refl (records-checks (o .«lazy_cliffords») j)))
+
+-- where Checking's refusals are the call's, a call that does not answer by one of them has passed
+pub passes-checks : (a b : Answer) → Checks a → (accepts a ≡ false → b ≡ a) → ofChecking (numberOf b) ≡ false → accepts a ≡ true
+passes-checks a b h refusal n = go (accepts a) refl
+  where
+    go : (t : Bool) → accepts a ≡ t → accepts a ≡ true
+    go true e = e
+    go false e =
+        absurd (true≢false
+        (sym h ∙ ap₂ (λ (x y : Bool). x || y) e (ap (λ (x : Answer). ofChecking (numberOf x)) (sym (refusal e)) ∙ n)))
+
+pub ran : (o : Options) (j : Job) (s : Lent) (a : Answer) → rewriting o j s .answer ≡ a → ofChecking (numberOf a) ≡ false
+    → checking o j s ≡ Accepted
+ran o j s a e n =
+    accepts-only (checking o j s)
+    (passes-checks (checking o j s) a (checking-checks o j s) (λ f. sym e ∙ refusal-answer o j s f) n)

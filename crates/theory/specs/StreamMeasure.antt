@@ -5,13 +5,15 @@ use Prim.Native.Nat.{ℕ, suc, _+_, _%_, _≤_}
 use native.Mathlib.Nat.{le-refl}
 use native.Mathlib.Omega.{arith}
 use Rattle.model.specs.Lists.{sumOf}
-use Rattle.model.specs.Rules.{Absorption, off, atOnce, lazy, Rules}
+use Rattle.model.specs.declared.Absorption.{Absorption}
+use Rattle.model.specs.declared.Absorption.the-variants.{Off as off, AtOnce as atOnce, Lazy as lazy}
+use Rattle.model.specs.Rules.{Rules}
 use Rattle.model.specs.Items.{rot, Item, rotation, barrier, withSign, angleOf, stays, dropZeros}
 use Rattle.model.specs.Stream.{Place, nowhere, at, Pass, withLast, countMerge, setAngle, putOut, clearedLast, leaveZero, putOutRotation, angleAt}
 use Rattle.model.specs.Stream.{axisImage}
 use Rattle.model.specs.Stream.{imageId, carryAxis, absorb, absorbWaitingAt, absorbWaiting, absorbAllWaiting, absorbBlocking, carryRotation}
 use Rattle.model.specs.Stream.{mergeAt}
-use Rattle.model.specs.Stream.{mergeOrPutOut, takeRotation, streamItem, stream, begin}
+use Rattle.model.specs.Stream.{mergeOrPutOut, takeRotation, rulesAfter, streamItem, stream, begin}
 use Rattle.model.specs.Rounds.{Work, streamPass}
 use Rattle.theory.specs.Cases.{by-if}
 use Rattle.theory.specs.Lists.{sumOf-one, sumOf-set}
@@ -131,7 +133,7 @@ module _ (m : ℕ → ℕ) (law : Measure m) where
     pub stream-adds : (r : Rules) (b : Bool) (p : Pass) (is : List Item) → Adds (sizeOf m is) p (stream l r b p is)
     unfolding stream sizeOf sumOf
     stream-adds r b p [] = absorbAllWaiting-adds (r .absorption) p
-    stream-adds r b p (i ∷ is) = omega (arith, streamItem-adds r b p i, stream-adds r b (streamItem l r b p i) is)
+    stream-adds r b p (i ∷ is) = omega (arith, streamItem-adds r b p i, stream-adds (rulesAfter r i) b (streamItem l r b p i) is)
 
   -- ---- the theorem
 

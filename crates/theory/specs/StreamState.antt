@@ -9,7 +9,9 @@ use lib.Dec.{eqb}
 use lib.ListN.{length, getD, drop, set}
 use borrow.Author.Tests.{eqb-true}
 use Rattle.model.specs.Lists.{if_then_else_, keep}
-use Rattle.model.specs.Rules.{Absorption, off, atOnce, lazy, Rules}
+use Rattle.model.specs.declared.Absorption.{Absorption}
+use Rattle.model.specs.declared.Absorption.the-variants.{Off as off, AtOnce as atOnce, Lazy as lazy}
+use Rattle.model.specs.Rules.{Rules}
 use Rattle.model.specs.Words.{Store, tested}
 use Rattle.model.specs.Packing.{SignedAxis}
 use Rattle.model.specs.Clifford.{Touched, touch, touchAll, absorbWord}
@@ -19,7 +21,7 @@ use Rattle.model.specs.Stream.{Rowed}
 use Rattle.model.specs.Stream.{axisImage, imageId, carryAxis, absorb, absorbWaitingAt, absorbWaiting, absorbAllWaiting, absorbBlocking}
 use Rattle.model.specs.Stream.{carryRotation}
 use Rattle.model.specs.Stream.{mergeAt}
-use Rattle.model.specs.Stream.{mergeOrPutOut, takeRotation, streamItem, stream, carryRowsFrom, carryRows, begin}
+use Rattle.model.specs.Stream.{mergeOrPutOut, takeRotation, rulesAfter, streamItem, stream, carryRowsFrom, carryRows, begin}
 use Rattle.model.specs.Rounds.{Work, streamPass}
 use Rattle.theory.specs.Cases.{by-if, on-if}
 use Rattle.theory.specs.Every.{Every}
@@ -410,7 +412,7 @@ module _ (l : ℕ) where
   stream-stepped r merging p (i ∷ is) s h =
       let a = streamItem-stepped r merging p i s (h .0) in
       let q = streamItem l r merging p i in
-      let b = stream-stepped r merging q is (a .sound) (allIn-more _ _ is (a .grow .longer) (h .1)) in
+      let b = stream-stepped (rulesAfter r i) merging q is (a .sound) (allIn-more _ _ is (a .grow .longer) (h .1)) in
       record {
         sound = b .sound;
         grow = grows-trans (a .grow) (b .grow);

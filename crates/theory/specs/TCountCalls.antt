@@ -1,6 +1,5 @@
 -- Demand 3, the T-count, about calls of Rewriting. Assumes nothing.
 use mathlib.Core.Path.{_≡_, refl, sym, ap, _∙_}
-use mathlib.Core.Logic.{inl}
 use mathlib.Core.Bool.{false}
 use Prim.Native.Nat.{_≤_}
 use lib.ListN.{length}
@@ -24,7 +23,7 @@ module _ (o : Options) (j : Job) (s : Lent) (yes′ : rewriting o j s .answer �
 
   -- Checking has passed
   pub accepted-checks : checking o j s ≡ Accepted
-  accepted-checks = ran o j s Accepted yes′ (inl refl)
+  accepted-checks = ran o j s Accepted yes′ refl
 
   answers : answerOf (limitOf o) (runOf o j) ≡ Accepted
   answers = sym (run-answer o j s accepted-checks) ∙ yes′

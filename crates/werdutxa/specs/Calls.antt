@@ -6,9 +6,12 @@ use Prim.Native.Nat.{ℕ}
 use Rattle.model.specs.declared.Answer.{Answer}
 use Rattle.model.specs.declared.Counters.{Counters}
 use Rattle.model.specs.declared.Counts.{Counts}
+use Rattle.model.specs.declared.Lazy.{Lazy}
+use Rattle.model.specs.declared.Lazy.the-variants.{Off, On, From}
 use Rattle.model.specs.declared.Options.{Options}
 use Rattle.model.specs.declared.Strategy.{Strategy}
 use Rattle.model.specs.declared.Strategy.the-variants.{Merge, Litinski}
+use Rattle.model.specs.Lists.{if_then_else_}
 use Rattle.model.specs.Interface.{numberOf}
 use Rattle.model.specs.Program.{Job}
 use Rattle.model.specs.Checking.{Lent, checking}
@@ -28,10 +31,15 @@ unfoldable pub strategyOf : Bool → Strategy
 strategyOf true = Litinski
 strategyOf false = Merge
 
--- the options: lookback, window, candidates, rounds, absorption, exchanges at no loss, second exchange first, lazy, Litinski's strategy,
--- T-depth, word limit
-abbrev pub optionsOf : ℕ → ℕ → ℕ → ℕ → Bool → Bool → Bool → Bool → Bool → Bool → ℕ → Options
-optionsOf k w c r f e x z s d m = record {
+-- whether even rotations wait, whether an operation is named, and its place; 02, M-112: "in place of the lazy setting"
+unfoldable pub lazyOf : Bool → Bool → ℕ → Lazy
+lazyOf z true n = From n
+lazyOf z false n = if z then On else Off
+
+-- the options: lookback, window, candidates, rounds, absorption, exchanges at no loss, second exchange first, lazy, whether an operation is
+-- named and its place, Litinski's strategy, T-depth, word limit
+abbrev pub optionsOf : ℕ → ℕ → ℕ → ℕ → Bool → Bool → Bool → Bool → Bool → ℕ → Bool → Bool → ℕ → Options
+optionsOf k w c r f e x z b n s d m = record {
   lookback = k;
   window = w;
   candidates = c;
@@ -39,7 +47,7 @@ optionsOf k w c r f e x z s d m = record {
   «clifford_to_frame» = f;
   «eager_swaps» = e;
   «second_exchange_first» = x;
-  «lazy_cliffords» = z;
+  «lazy_cliffords» = lazyOf z b n;
   strategy = strategyOf s;
   «measure_depth» = d;
   «max_packed_words» = m;

@@ -4,9 +4,10 @@ ghost use mathlib.Core.Path.{_≡_};
 ghost use Rattle.model.specs.Interface.{numberOf};
 ghost use Rattle.model.specs.Checking.{checking};
 ghost use Rattle.checking.specs.Call.{jobOf, lentOf};
-ghost use Rattle.werdutxa.specs.Calls.{countsOf, strategyOf, optionsOf, countedBy, ExportedCall, ExportedListing};
+ghost use Rattle.werdutxa.specs.Calls.{countsOf, strategyOf, lazyOf, optionsOf, countedBy, ExportedCall, ExportedListing};
 use model::Counters;
 use model::Counts;
+use model::Lazy;
 use model::Options;
 use model::Strategy;
 
@@ -24,6 +25,8 @@ pub extern "C" fn werdutxa_check(
     eager_swaps: bool,
     second_exchange_first: bool,
     lazy_cliffords: bool,
+    named: bool,
+    place: usize,
     litinski: bool,
     measure_depth: bool,
     limit: usize,
@@ -36,8 +39,8 @@ pub extern "C" fn werdutxa_check(
     result_rows: &[u32],
 ) -> u32
     ensures { λ r. ⌜ r ≡ numberOf (checking
-        (optionsOf lookback window candidates rounds «clifford_to_frame» «eager_swaps» «second_exchange_first» «lazy_cliffords» litinski
-        «measure_depth» limit)
+        (optionsOf lookback window candidates rounds «clifford_to_frame» «eager_swaps» «second_exchange_first» «lazy_cliffords» named place
+        litinski «measure_depth» limit)
         (jobOf (countsOf qubits «node_count» «operation_count») (now (nodes .entry)) (now (operations .entry)) (now (rows .entry)))
         (lentOf (now (words .entry)) (now (numbers .entry)) (now («result_operations» .entry)) (now («result_rows» .entry)))) ⌝ }
 {
@@ -52,6 +55,8 @@ pub extern "C" fn werdutxa_check(
             eager_swaps,
             second_exchange_first,
             lazy_cliffords,
+            named,
+            place,
             litinski,
             measure_depth,
             limit,
@@ -81,6 +86,8 @@ pub extern "C" fn werdutxa_rewrite(
     eager_swaps: bool,
     second_exchange_first: bool,
     lazy_cliffords: bool,
+    named: bool,
+    place: usize,
     litinski: bool,
     measure_depth: bool,
     limit: usize,
@@ -94,8 +101,8 @@ pub extern "C" fn werdutxa_rewrite(
     counted: &mut [usize; 14],
 ) -> u32
     ensures { λ r. ⌜ ExportedCall
-        (optionsOf lookback window candidates rounds «clifford_to_frame» «eager_swaps» «second_exchange_first» «lazy_cliffords» litinski
-        «measure_depth» limit)
+        (optionsOf lookback window candidates rounds «clifford_to_frame» «eager_swaps» «second_exchange_first» «lazy_cliffords» named place
+        litinski «measure_depth» limit)
         (jobOf (countsOf qubits «node_count» «operation_count») (now (nodes .entry)) (now (operations .entry)) (now (rows .entry)))
         (lentOf (now (words .entry)) (now (numbers .entry)) (now («result_operations» .entry)) (now («result_rows» .entry)))
         r (now (counted .exit))
@@ -112,6 +119,8 @@ pub extern "C" fn werdutxa_rewrite(
             eager_swaps,
             second_exchange_first,
             lazy_cliffords,
+            named,
+            place,
             litinski,
             measure_depth,
             limit,
@@ -176,6 +185,19 @@ fn strategy(litinski: bool) -> Strategy
     Strategy::Merge
 }
 
+// A named place stands in place of the lazy setting.
+fn lazy(lazy_cliffords: bool, named: bool, place: usize) -> Lazy
+    ensures { λ r. ⌜ r ≡ lazyOf «lazy_cliffords» named place ⌝ }
+{
+    if named {
+        return Lazy::From(place);
+    }
+    if lazy_cliffords {
+        return Lazy::On;
+    }
+    Lazy::Off
+}
+
 // The options that a call hands in.
 fn options(
     lookback: usize,
@@ -186,13 +208,15 @@ fn options(
     eager_swaps: bool,
     second_exchange_first: bool,
     lazy_cliffords: bool,
+    named: bool,
+    place: usize,
     litinski: bool,
     measure_depth: bool,
     limit: usize,
 ) -> Options
     ensures { λ r. ⌜ r
-        ≡ optionsOf lookback window candidates rounds «clifford_to_frame» «eager_swaps» «second_exchange_first» «lazy_cliffords» litinski
-        «measure_depth» limit ⌝ }
+        ≡ optionsOf lookback window candidates rounds «clifford_to_frame» «eager_swaps» «second_exchange_first» «lazy_cliffords» named place
+        litinski «measure_depth» limit ⌝ }
 {
     Options {
         lookback,
@@ -202,7 +226,7 @@ fn options(
         clifford_to_frame,
         eager_swaps,
         second_exchange_first,
-        lazy_cliffords,
+        lazy_cliffords: lazy(lazy_cliffords, named, place),
         strategy: strategy(litinski),
         measure_depth,
         max_packed_words: limit,

@@ -9,14 +9,16 @@ use lib.Dec.{eqb}
 use lib.ListN.{length}
 use borrow.Author.Tests.{eqb-false}
 use Rattle.model.specs.Lists.{isEven, isOdd}
-use Rattle.model.specs.Rules.{Absorption, off, atOnce, lazy, isAtOnce, Rules}
+use Rattle.model.specs.declared.Absorption.{Absorption}
+use Rattle.model.specs.declared.Absorption.the-variants.{Off as off, AtOnce as atOnce, Lazy as lazy}
+use Rattle.model.specs.Rules.{isAtOnce, Rules}
 use Rattle.model.specs.Words.{wordOf, Store}
 use Rattle.model.specs.Packing.{SignedAxis}
 use Rattle.model.specs.Items.{rot, Item, rotation, barrier, withSign, isClifford}
 use Rattle.model.specs.Stream.{Place, nowhere, at, Pass, withLast, countMerge, setAngle, putOut, leaveZero, Rowed, axisImage}
 use Rattle.model.specs.Stream.{imageId, carryAxis, absorb, absorbWaitingAt, absorbWaiting, absorbAllWaiting, absorbBlocking, carryRotation}
 use Rattle.model.specs.Stream.{mergeAt}
-use Rattle.model.specs.Stream.{putOutRotation, mergeOrPutOut, takeRotation, streamItem, stream, carryRowsFrom, carryRows, begin}
+use Rattle.model.specs.Stream.{putOutRotation, mergeOrPutOut, takeRotation, rulesAfter, streamItem, stream, carryRowsFrom, carryRows, begin}
 use Rattle.theory.specs.Cases.{by-if, on-if}
 use Rattle.theory.specs.Every.{Every, every-one, every-set, every-weaken}
 use Rattle.theory.specs.Ids.{intern-grows}
@@ -86,17 +88,22 @@ clifford-quarters k h b =
 
 -- ---- a pass
 
-module _ (l : ℕ) (r : Rules) (merging : Bool) where
-  -- the stream's state after some items
-  unfoldable pub afterItems : Pass → List Item → Pass
-  afterItems p [] = p
-  afterItems p (i ∷ is) = afterItems (streamItem l r merging p i) is
+-- the rules behind some items
+unfoldable pub rulesBehind : Rules → List Item → Rules
+rulesBehind r [] = r
+rulesBehind r (i ∷ is) = rulesBehind (rulesAfter r i) is
 
-  -- after all of them, what still waits is absorbed
-  pub stream-after : (p : Pass) (is : List Item) → stream l r merging p is ≡ absorbAllWaiting l (r .absorption) (afterItems p is)
-  unfolding stream afterItems
-  stream-after p [] = refl
-  stream-after p (i ∷ is) = stream-after (streamItem l r merging p i) is
+-- the stream's state after some items
+unfoldable pub afterItems : ℕ → Rules → Bool → Pass → List Item → Pass
+afterItems l r merging p [] = p
+afterItems l r merging p (i ∷ is) = afterItems l (rulesAfter r i) merging (streamItem l r merging p i) is
+
+-- after all of them, what still waits is absorbed
+pub stream-after : (l : ℕ) (r : Rules) (merging : Bool) (p : Pass) (is : List Item)
+    → stream l r merging p is ≡ absorbAllWaiting l (rulesBehind r is .absorption) (afterItems l r merging p is)
+unfolding stream rulesBehind afterItems
+stream-after l r merging p [] = refl
+stream-after l r merging p (i ∷ is) = stream-after l (rulesAfter r i) merging (streamItem l r merging p i) is
 
 -- axes are words, each stored once; images are words with signs; the output's ids are in range
 pub record WellPass (l : ℕ) (Angles : Type 0) (p : Pass) : Type 0 where
@@ -295,14 +302,15 @@ module _ (l : ℕ) (Angles : Type 0) where
   afterItems-well r merging p (i ∷ is) w h =
       let q = streamItem l r merging p i in
       let g = streamItem-well r merging p i w (h .0) in
-      goes-trans p q _ g (λ v. afterItems-well r merging q is v (items-more Angles _ _ is (g .longer) (h .1)))
+      goes-trans p q _ g (λ v. afterItems-well (rulesAfter r i) merging q is v (items-more Angles _ _ is (g .longer) (h .1)))
 
   -- and at its end
   pub stream-well : (r : Rules) (merging : Bool) (p : Pass) (is : List Item) → Well p → Every (WellItem Angles (length (p .store .axes))) is
       → Goes p (stream l r merging p is)
   stream-well r merging p is w h =
       let q = afterItems l r merging p is in
-      rw (stream-after l r merging p is) (goes-trans p q _ (afterItems-well r merging p is w h) (absorbAllWaiting-well (r .absorption) q))
+      rw (stream-after l r merging p is) (goes-trans p q _ (afterItems-well r merging p is w h)
+      (absorbAllWaiting-well (rulesBehind r is .absorption) q))
 
   -- ---- rows
 

@@ -2,7 +2,6 @@
 -- `AnglesStay`, that exchange and layering leave angles 1 to 7, is asked for the signs only. Assumes nothing.
 use mathlib.Core.Path.{_≡_, refl}
 use mathlib.Core.Bool.{false}
-use mathlib.Core.Logic.{inl}
 use Prim.Native.Nat.{ℕ, _<_}
 use lib.ListN.{length}
 use Rattle.pauli.specs.Word.{width, IsWord}
@@ -100,4 +99,4 @@ module _ (r : Rules) (rounds : ℕ) (p : Program) (fine : Fine p) (hermitian : p
 pub accepted-well : (o : Options) (j : Job) (s : Lent) → rewriting o j s .answer ≡ Accepted
     → WellWork (width (programOf j .qubits)) (AnglesStay (width (programOf j .qubits)) (rulesOf o)) (endOf (rulesOf o) (o .rounds) (programOf j))
 accepted-well o j s h =
-    end-well (rulesOf o) (o .rounds) (programOf j) (checked-fine o j s (ran o j s Accepted h (inl refl))) (accepted-hermitian o j s h)
+    end-well (rulesOf o) (o .rounds) (programOf j) (checked-fine o j s (ran o j s Accepted h refl)) (accepted-hermitian o j s h)

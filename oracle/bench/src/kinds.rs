@@ -1,7 +1,7 @@
 //! The jobs of `bench --kinds`, one kind of work each, at word limits that fit.
 
 use generator::timed::{Axes, long_groups, repeated, rotations};
-use jobs::{Job, MAX_LIMIT, Options};
+use jobs::{Job, Lazy, MAX_LIMIT, Options};
 
 /// A name and a job.
 pub type Kind = (&'static str, Job);
@@ -19,7 +19,7 @@ pub fn kinds() -> Vec<Kind> {
     vec![
         ("weight 3", narrow.clone()),
         ("dense", rotations(2, 64, 20_000, Axes::Dense)),
-        ("lazy", with(&narrow, |o| o.lazy_cliffords = true)),
+        ("lazy", with(&narrow, |o| o.lazy_cliffords = Lazy::On)),
         (
             "absorption off",
             with(&narrow, |o| o.clifford_to_frame = false),
@@ -35,7 +35,10 @@ pub fn kinds() -> Vec<Kind> {
             repeated(5, 64, 60_000, &[Axes::Weight(3); 30_000], 5),
         ),
         ("sparse", sparse.clone()),
-        ("sparse lazy", with(&sparse, |o| o.lazy_cliffords = true)),
+        (
+            "sparse lazy",
+            with(&sparse, |o| o.lazy_cliffords = Lazy::On),
+        ),
         ("1,000 qubits exchanges", exchanges(7, 1_000, 5_000, 300, 2)),
         ("4,096 qubits exchanges", exchanges(8, 4_096, 4_000, 400, 3)),
     ]

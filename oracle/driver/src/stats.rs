@@ -3,7 +3,7 @@
 use std::collections::BTreeMap;
 use std::fmt;
 
-use jobs::{Job, Refusal, Seen};
+use jobs::{Job, Lazy, Refusal, Seen};
 use record::Record;
 
 #[derive(Default)]
@@ -39,7 +39,12 @@ impl Stats {
         self.raise("job: conditional rotation", kind(3));
         self.raise("job: product nodes", job.nodes.iter().any(|n| n[0] == 2));
         self.raise("job: Litinski", job.options.litinski);
-        self.raise("job: lazy", job.options.lazy_cliffords);
+        let lazy = job.options.lazy_cliffords;
+        self.raise("job: lazy", lazy == Lazy::On);
+        self.raise(
+            "job: lazy from a named place on",
+            matches!(lazy, Lazy::From(_)),
+        );
         self.raise("job: absorption off", !job.options.clifford_to_frame);
         self.raise("job: T-depth measured", job.options.measure_depth);
     }

@@ -2,7 +2,7 @@
 //! that Checking accepts are for the driver; to those that it refuses 01's answer is written down here: the Rust has no
 //! counterpart.
 
-use jobs::{Job, Lengths, MAX_LIMIT, NO_TARGET};
+use jobs::{Job, Lazy, Lengths, MAX_LIMIT, NO_TARGET};
 
 use super::notation;
 
@@ -113,6 +113,7 @@ fn refusals() -> impl Iterator<Item = &'static Case> {
         OPERATIONS,
         OUTCOMES,
         ROWS,
+        PLACES,
         ORDER,
         PAGE_REFUSED,
     ]
@@ -168,6 +169,11 @@ impl Handed {
 const ACCEPTED: &[Case] = &[
     case!(0, "the job that the others change", |_h| {}),
     case!(0, "rounds 255", |h| h.job.options.rounds = 255),
+    case!(0, "the measurement is named", |h| name(h, 1)),
+    case!(0, "the last operation is named, absorption off", |h| {
+        name(h, 2);
+        h.job.options.clifford_to_frame = false;
+    }),
     case!(0, "lookback, window and candidates 1048576", |h| {
         h.job.options.lookback = MAX_LIMIT;
         h.job.options.window = MAX_LIMIT;
@@ -378,6 +384,53 @@ const ROWS: &[Case] = &[
     case!(6, "phase 4 in the last row", |h| h.job.rows[1][3] = 4),
 ];
 
+/// A place that is outside the program, or holds a plain rotation (M-112): also where it would change nothing.
+const PLACES: &[Case] = &[
+    case!(16, "operation 0, a rotation, is named", |h| name(h, 0)),
+    case!(16, "operation 3 of 3 is named", |h| name(h, 3)),
+    case!(16, "operation 4294967293 is named", |h| name(
+        h,
+        4_294_967_293
+    )),
+    case!(16, "a rotation is named, absorption off", |h| {
+        name(h, 0);
+        h.job.options.clifford_to_frame = false;
+    }),
+    case!(16, "operation 3 of 3 is named, rounds 0", |h| {
+        name(h, 3);
+        h.job.options.rounds = 0;
+    }),
+    case!(16, "a rotation by 0 is named, Litinski", |h| {
+        name(h, 0);
+        h.job.operations[0][3] = 0;
+        h.job.options.litinski = true;
+    }),
+    case!(16, "Checking before packing: 16 and an odd phase", |h| {
+        name(h, 3);
+        h.job.operations[0][2] = 1;
+    }),
+    case!(6, "the last row before 16", |h| {
+        name(h, 3);
+        h.job.rows[1][3] = 4;
+    }),
+    case!(8, "8 before 16", |h| {
+        name(h, 0);
+        h.job.operations[2][4] = 1;
+    }),
+    case!(3, "3 before 16", |h| {
+        name(h, 0);
+        h.job.slack[3] = 999;
+    }),
+    case!(2, "2 before 16", |h| {
+        name(h, 3);
+        h.job.options.rounds = 256;
+    }),
+];
+
+fn name(handed: &mut Handed, place: usize) {
+    handed.job.options.lazy_cliffords = Lazy::From(place);
+}
+
 /// Two faults: the first in 01's order is answered.
 const ORDER: &[Case] = &[
     case!(1, "1 before 2 and 3", |h| {
@@ -504,6 +557,18 @@ const PAGE_REFUSED: &[Case] = &[
         8,
         "docs/REFUSALS.md's job for 8: a condition never measured",
         |h| *h = smallest(Some([3, 0, 0, 1, 0, -1]))
+    ),
+    case!(16, "docs/REFUSALS.md's job for 16: no operation 0", |h| {
+        *h = smallest(None);
+        name(h, 0);
+    }),
+    case!(
+        16,
+        "docs/REFUSALS.md's other job for 16: operation 0 is a rotation",
+        |h| {
+            *h = smallest(Some([1, 0, 0, 1, -1, -1]));
+            name(h, 0);
+        }
     ),
 ];
 

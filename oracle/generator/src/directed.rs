@@ -1,9 +1,9 @@
 //! Directed cases: small jobs, each for one rule that random jobs seldom or never tell apart, for an example that
 //! document 01 stars, or for a small input that shows much.
 
-use jobs::Job;
+use jobs::{Job, Lazy};
 
-use super::{notation, pinned};
+use super::{named, notation, pinned};
 
 pub struct Case {
     /// The rule or example, printed as a comment.
@@ -31,9 +31,16 @@ pub fn text() -> String {
 }
 
 pub fn cases() -> impl Iterator<Item = &'static Case> {
-    [SELDOM, SHOW_MUCH, STARRED, RULES, pinned::CASES]
-        .into_iter()
-        .flatten()
+    [
+        SELDOM,
+        SHOW_MUCH,
+        STARRED,
+        RULES,
+        pinned::CASES,
+        named::CASES,
+    ]
+    .into_iter()
+    .flatten()
 }
 
 fn as_is(_: &mut Job) {}
@@ -51,7 +58,7 @@ const SELDOM: &[Case] = &[
     Case {
         rule: "lazy: absorbing a waiting rotation clears `last` of its axis even where it names a newer place",
         operations: "ZII:2 IZI:1 IIZ:1 ZII:1 XII:1 XII:7 ZII:1",
-        change: options!(lookback = 1, lazy_cliffords = true, rounds = 1),
+        change: options!(lookback = 1, lazy_cliffords = Lazy::On, rounds = 1),
         begins: "0 6 4 1 0 1 4 7",
     },
     Case {
@@ -144,7 +151,7 @@ const SHOW_MUCH: &[Case] = &[
     Case {
         rule: "lazy: T 2",
         operations: "XI:7 XY:4 XI:7",
-        change: options!(lookback = 0, rounds = 1, lazy_cliffords = true),
+        change: options!(lookback = 0, rounds = 1, lazy_cliffords = Lazy::On),
         begins: "0 2 2 0 0 1 2 5",
     },
 ];
@@ -318,13 +325,13 @@ const RULES: &[Case] = &[
     Case {
         rule: "lazy: waiting rotations are absorbed at a barrier",
         operations: "YI:6 mXX:3",
-        change: options!(lazy_cliffords = true, rounds = 1),
+        change: options!(lazy_cliffords = Lazy::On, rounds = 1),
         begins: "0 0 0 0 0 1 1 7",
     },
     Case {
         rule: "lazy: a rotation is carried again from its original axis",
         operations: "Y:4 X:1 Y:4 X:1",
-        change: options!(lazy_cliffords = true, rounds = 1),
+        change: options!(lazy_cliffords = Lazy::On, rounds = 1),
         begins: "0 2 0 1 0 2 0 3",
     },
     Case {
@@ -336,7 +343,12 @@ const RULES: &[Case] = &[
     Case {
         rule: "the images' words are freed when a pass ends: two rounds, each touching",
         operations: "X:1 -Y:3 Y:7 X:7 X:1 X:7 X:3 X:1",
-        change: options!(lookback = 0, rounds = 2, lazy_cliffords = true, limit = 12),
+        change: options!(
+            lookback = 0,
+            rounds = 2,
+            lazy_cliffords = Lazy::On,
+            limit = 12
+        ),
         begins: "0 8 0 5 0 2 0 3",
     },
     Case {

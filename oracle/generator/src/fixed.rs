@@ -1,6 +1,6 @@
 //! The fixed list: small jobs and a few wide ones, at most a few of each class so that every kind of run is there.
 
-use jobs::Job;
+use jobs::{Job, Lazy};
 
 use super::classes::{self, List, Recipe};
 use super::random::{self, Shape};
@@ -40,7 +40,7 @@ fn class(job: &Job) -> (String, usize) {
     let o = &job.options;
     let chosen = [
         o.litinski,
-        o.lazy_cliffords,
+        o.lazy_cliffords == Lazy::On,
         o.clifford_to_frame,
         o.eager_swaps,
         o.lookback < 4,

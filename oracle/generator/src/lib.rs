@@ -9,6 +9,7 @@ pub mod large;
 pub mod limit;
 pub mod listings;
 mod listings_refused;
+pub mod named;
 mod notation;
 mod operations;
 mod options;

@@ -17,7 +17,9 @@ use std::io::Write;
 
 use generator::random::{self, Shape};
 use generator::rng::Rng;
-use generator::{checked, directed, fixed, large, limit, listings, packing, rewriting, tie_order};
+use generator::{
+    checked, directed, fixed, large, limit, listings, named, packing, rewriting, tie_order,
+};
 use jobs::Job;
 
 fn main() {
@@ -51,6 +53,11 @@ fn main() {
                 print!("{job}");
             }
         }
+        ["--places", seed, count] => {
+            for job in had(named::list(number(seed), number(count) as usize)) {
+                print!("{job}");
+            }
+        }
         ["--fixed", seed, count] => {
             for job in had(fixed::list(number(seed), number(count) as usize)) {
                 print!("{job}");
@@ -62,14 +69,15 @@ fn main() {
             print!("{}", large::job(number(seed), qubits, nodes, operations));
         }
         ["--second-first", "--limits", seed, count] => limits(random::second_first, seed, count),
+        ["--named", "--limits", seed, count] => limits(random::named, seed, count),
         ["--limits", seed, count] => limits(random::job, seed, count),
         ["--second-first", seed, count] => full(random::second_first, seed, count),
+        ["--named", seed, count] => full(random::named, seed, count),
         [seed, count] => full(random::job, seed, count),
         _ => {
-            eprintln!("generator [--second-first] [--limits] SEED COUNT");
-            eprintln!(
-                "generator --fixed | --packing | --rewriting | --tie-order | --listings SEED COUNT"
-            );
+            eprintln!("generator [--second-first | --named] [--limits] SEED COUNT");
+            eprintln!("generator --fixed | --packing | --rewriting SEED COUNT");
+            eprintln!("generator --tie-order | --places | --listings SEED COUNT");
             eprintln!("generator --large SEED QUBITS NODES OPERATIONS");
             eprintln!("generator --directed | --accepted | --refused | --answers");
             eprintln!("generator --refused-listings | --listing-answers");

@@ -1,6 +1,6 @@
 //! A job's options.
 
-use jobs::{MAX_LIMIT, Options};
+use jobs::{Lazy, MAX_LIMIT, Options};
 
 use super::rng::Rng;
 
@@ -18,6 +18,17 @@ pub fn second_first(rng: &mut Rng) -> Options {
     Options {
         window: rng.between(1, 6),
         second_exchange_first: true,
+        ..random(rng)
+    }
+}
+
+/// A named place, and what lets it show: absorption, and a short lookback.
+pub fn named(rng: &mut Rng, place: usize) -> Options {
+    Options {
+        lookback: rng.pick(&[0, 0, 1, 2, 3, 1 << 20]),
+        clifford_to_frame: rng.chance(95),
+        second_exchange_first: rng.chance(20),
+        lazy_cliffords: Lazy::From(place),
         ..random(rng)
     }
 }
@@ -46,7 +57,7 @@ fn any(rng: &mut Rng) -> Options {
         clifford_to_frame: rng.chance(75),
         eager_swaps: rng.chance(60),
         second_exchange_first: false,
-        lazy_cliffords: rng.chance(40),
+        lazy_cliffords: rng.chance(40).into(),
         litinski: rng.chance(25),
         measure_depth: rng.chance(50),
     }

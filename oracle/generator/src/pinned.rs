@@ -1,7 +1,7 @@
 //! Directed cases for rules that random jobs and the model's own runs leave open: when rounds end, what a conditional's target
 //! becomes, and what a touch counts where a plane has more than one word.
 
-use jobs::Job;
+use jobs::{Job, Lazy};
 
 use super::directed::{Case, options};
 use super::frame;
@@ -66,19 +66,19 @@ pub const CASES: &[Case] = &[
     Case {
         rule: "Litinski: eight rounds",
         operations: "Y:1 -X:3 -X:5 Y:5",
-        change: options!(litinski = true, lazy_cliffords = true),
+        change: options!(litinski = true, lazy_cliffords = Lazy::On),
         begins: "0 4 0 2 0 1 0 3",
     },
     Case {
         rule: "Litinski: one round",
         operations: "Y:1 -X:3 -X:5 Y:5",
-        change: options!(litinski = true, lazy_cliffords = true, rounds = 1),
+        change: options!(litinski = true, lazy_cliffords = Lazy::On, rounds = 1),
         begins: "0 4 2 1 0 0 2 3",
     },
     Case {
         rule: "Litinski: later streams do not merge either",
         operations: "Z:1 X:1 X:1 -Y:1 -Y:1",
-        change: options!(litinski = true, lazy_cliffords = true),
+        change: options!(litinski = true, lazy_cliffords = Lazy::On),
         begins: "0 5 1 2 0 2 1 3",
     },
     Case {

@@ -49,6 +49,21 @@ pub fn second_first(rng: &mut Rng, shape: &Shape) -> Job {
     job_by(rng, shape, options::second_first)
 }
 
+/// One that names a measurement or conditional rotation (M-112), now and then in the new order of ties.
+pub fn named(rng: &mut Rng, shape: &Shape) -> Job {
+    loop {
+        let mut job = unlimited(rng, shape);
+        let barriers = job.operations.iter().enumerate().filter(|(_, o)| o[0] != 1);
+        let barriers: Vec<usize> = barriers.map(|(at, _)| at).collect();
+        if barriers.is_empty() {
+            continue;
+        }
+        let place = rng.pick(&barriers);
+        job.options = options::named(rng, place);
+        return finished(rng, job);
+    }
+}
+
 /// The same with options of a kind.
 pub fn job_by(rng: &mut Rng, shape: &Shape, options: fn(&mut Rng) -> Options) -> Job {
     let options = options(rng);

@@ -1,7 +1,7 @@
 //! The gate's jobs for the passes: small ones and some on 0, 64, 65 and 130 qubits, at most a few of each class, with every
 //! option at its first values and at large ones.
 
-use jobs::{Accepted, Job, MAX_LIMIT, Options};
+use jobs::{Accepted, Job, Lazy, MAX_LIMIT, Options};
 
 use super::classes::{self, List, Recipe};
 use super::packing;
@@ -37,7 +37,7 @@ fn options(rng: &mut Rng) -> Options {
         clifford_to_frame: rng.chance(70),
         eager_swaps: rng.chance(50),
         second_exchange_first: false,
-        lazy_cliffords: rng.chance(50),
+        lazy_cliffords: rng.chance(50).into(),
         litinski: rng.chance(30),
         measure_depth: rng.chance(50),
     }
@@ -49,8 +49,8 @@ fn class(job: &Job) -> String {
     let o = &job.options;
     let absorption = match (o.clifford_to_frame, o.lazy_cliffords) {
         (false, _) => "off",
-        (true, false) => "at once",
-        (true, true) => "lazy",
+        (true, Lazy::On) => "lazy",
+        (true, _) => "at once",
     };
     let wide = packing::width(job);
     let accepted = match seen {
@@ -76,7 +76,7 @@ fn decided(job: &Job, accepted: &Accepted) -> [bool; 5] {
         |o| o.candidates = 0,
         |o| o.candidates = 16,
         |o| o.eager_swaps = !o.eager_swaps,
-        |o| o.lazy_cliffords = !o.lazy_cliffords,
+        |o| o.lazy_cliffords = (o.lazy_cliffords != Lazy::On).into(),
     ];
     changes.map(|change| {
         let mut other = job.clone();

@@ -56,7 +56,7 @@ fn options(rng: &mut Rng) -> Options {
         clifford_to_frame: rng.chance(50),
         eager_swaps: rng.chance(50),
         second_exchange_first: true,
-        lazy_cliffords: rng.chance(50),
+        lazy_cliffords: rng.chance(50).into(),
         litinski: false,
         measure_depth: rng.chance(50),
     }

@@ -8,6 +8,32 @@ pub const NO_TARGET: i64 = 65_535;
 /// The largest word limit of the domain.
 pub const MAX_LIMIT: usize = 1_048_576;
 
+/// Whether even rotations wait.
+#[derive(Clone, Copy, Debug, PartialEq, Eq)]
+pub enum Lazy {
+    Off,
+    On,
+    /// M-112: from the operation behind this place on.
+    From(usize),
+}
+
+impl From<bool> for Lazy {
+    fn from(all: bool) -> Self {
+        if all { Self::On } else { Self::Off }
+    }
+}
+
+/// The original's setting.
+impl From<Lazy> for bool {
+    fn from(lazy: Lazy) -> Self {
+        match lazy {
+            Lazy::Off => false,
+            Lazy::On => true,
+            Lazy::From(_) => unreachable!("the original names no operation"),
+        }
+    }
+}
+
 #[derive(Clone, Debug, PartialEq, Eq)]
 pub struct Options {
     pub limit: usize,
@@ -19,7 +45,7 @@ pub struct Options {
     pub eager_swaps: bool,
     /// M-107: second with third before first with second.
     pub second_exchange_first: bool,
-    pub lazy_cliffords: bool,
+    pub lazy_cliffords: Lazy,
     /// Strategy 1; merge is strategy 0.
     pub litinski: bool,
     pub measure_depth: bool,
@@ -37,10 +63,15 @@ impl Options {
             clifford_to_frame: true,
             eager_swaps: true,
             second_exchange_first: false,
-            lazy_cliffords: false,
+            lazy_cliffords: Lazy::Off,
             litinski: false,
             measure_depth: false,
         }
+    }
+
+    /// Whether they ask for a setting of document 02 that the original does not have.
+    pub fn of_a_request(&self) -> bool {
+        self.second_exchange_first || matches!(self.lazy_cliffords, Lazy::From(_))
     }
 }
 
@@ -92,7 +123,11 @@ impl fmt::Display for Job {
             flag(o.clifford_to_frame),
             flag(o.eager_swaps),
             flag(o.second_exchange_first),
-            flag(o.lazy_cliffords),
+            match o.lazy_cliffords {
+                Lazy::Off => 0,
+                Lazy::On => 1,
+                Lazy::From(place) => place + 2,
+            },
             flag(o.litinski),
             flag(o.measure_depth),
         ];

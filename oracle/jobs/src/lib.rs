@@ -9,7 +9,7 @@ mod seen;
 mod word;
 
 pub use answer::{answer, answer_as_called, listing};
-pub use job::{Job, MAX_LIMIT, NO_TARGET, Options};
+pub use job::{Job, Lazy, MAX_LIMIT, NO_TARGET, Options};
 pub use listings::{
     LARGEST_OUTPUT, Lent, handed, listed, listing_text, read_listings, refused_listing,
 };

@@ -1,6 +1,6 @@
 //! Jobs from text: decimal numbers between blanks and newlines; lines that begin with # are passed over.
 
-use super::job::{Job, Options};
+use super::job::{Job, Lazy, Options};
 
 struct Numbers<'a> {
     words: Box<dyn Iterator<Item = &'a str> + 'a>,
@@ -35,6 +35,15 @@ impl<'a> Numbers<'a> {
         }
     }
 
+    /// 0 off, 1 on, else the place of a named operation and 2.
+    fn lazy(&mut self) -> Lazy {
+        match self.count() {
+            0 => Lazy::Off,
+            1 => Lazy::On,
+            place => Lazy::From(place - 2),
+        }
+    }
+
     fn records<const N: usize>(&mut self, count: usize) -> Vec<[i64; N]> {
         (0..count)
             .map(|_| std::array::from_fn(|_| self.next()))
@@ -66,7 +75,7 @@ fn job(numbers: &mut Numbers, qubits: usize) -> Job {
         clifford_to_frame: numbers.flag(),
         eager_swaps: numbers.flag(),
         second_exchange_first: numbers.flag(),
-        lazy_cliffords: numbers.flag(),
+        lazy_cliffords: numbers.lazy(),
         litinski: numbers.flag(),
         measure_depth: numbers.flag(),
     };

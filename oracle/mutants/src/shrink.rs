@@ -1,6 +1,6 @@
 //! A job made smaller as long as it still shows what it shows.
 
-use jobs::Job;
+use jobs::{Job, Lazy};
 
 /// No single step below makes the result smaller.
 pub fn smallest(mut job: Job, shows: impl Fn(&Job) -> bool) -> Job {
@@ -91,7 +91,7 @@ fn options(job: &Job) -> Vec<Job> {
         j.options.candidates = o.candidates.saturating_sub(1)
     }));
     steps.push(changed(job, |j| j.options.measure_depth = false));
-    steps.push(changed(job, |j| j.options.lazy_cliffords = false));
+    steps.push(changed(job, |j| j.options.lazy_cliffords = Lazy::Off));
     steps.push(changed(job, |j| j.options.litinski = false));
     steps.push(changed(job, |j| j.slack = [1000; 4]));
     steps.retain(|smaller| smaller != job);

@@ -3,7 +3,7 @@
 mod guarded;
 
 use guarded::Guarded;
-use jobs::{Job, Memory, NO_TARGET};
+use jobs::{Job, Lazy, Memory, NO_TARGET};
 
 /// T before and after, merges, swaps, absorbed, operations, axes, rotations, T-depth and weight before and after, and the
 /// largest word sum that was tested, which libraries before M-103 do not write.
@@ -30,6 +30,8 @@ macro_rules! rewriting {
                 eager_swaps: bool,
                 second_exchange_first: bool,
                 lazy_cliffords: bool,
+                named: bool,
+                place: usize,
                 litinski: bool,
                 measure_depth: bool,
                 limit: usize,
@@ -106,6 +108,10 @@ impl<'a> Call<'a> {
             Library::Before => panic!("built without BEFORE"),
         };
         let o = &self.job.options;
+        let named = match o.lazy_cliffords {
+            Lazy::From(place) => Some(place),
+            _ => None,
+        };
         let mut counted = [usize::MAX; COUNTS];
         // SAFETY: each pointer comes with the length of what it points into; no slice that is written overlaps another.
         let answer = unsafe {
@@ -120,7 +126,9 @@ impl<'a> Call<'a> {
                 o.clifford_to_frame,
                 o.eager_swaps,
                 o.second_exchange_first,
-                o.lazy_cliffords,
+                o.lazy_cliffords == Lazy::On,
+                named.is_some(),
+                named.unwrap_or(0),
                 o.litinski,
                 o.measure_depth,
                 o.limit,

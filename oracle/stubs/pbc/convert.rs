@@ -92,7 +92,7 @@ fn options(given: &Options) -> OptimizeOptions {
         rounds: given.rounds,
         clifford_to_frame: given.clifford_to_frame,
         eager_swaps: given.eager_swaps,
-        lazy_cliffords: given.lazy_cliffords,
+        lazy_cliffords: given.lazy_cliffords.into(),
         strategy: if given.litinski {
             Strategy::Litinski
         } else {

@@ -2,7 +2,7 @@
 use mathlib.Core.Path.{sym, _∙_}
 use Rattle.theory.specs.Cases.{neither}
 use Rattle.theory.specs.Checked.{limit-fits}
-use Rattle.checking.specs.Refusals.{count-refused, option-refused, slice-refused, program-decides}
+use Rattle.checking.specs.Refusals.{count-refused, option-refused, slice-refused, records-decide}
 use borrow.Author.Needs.{needs}
 use Rattle.checking.proofs.checking.Statement.{statement}
 use Rattle.checking.proofs.checking.Tie as tie
@@ -39,17 +39,17 @@ returns-3 c =
     slice-refused _ _ _ (counts .before .bad-count .ensures) (counts .if1 .left) (options .before .bad-option .ensures) (options .if2 .left)
     (c .before .before .program-short .ensures) (c .before .lent-short .ensures) (c .if3 .taken)
 
-check-program-requires : tie.Need-check-program-requires
-check-program-requires c κs = sym (c .before .before .program-short .ensures) ∙ neither _ (c .before .lent-short .result) (c .if3 .left) .0
+check-records-requires : tie.Need-check-records-requires
+check-records-requires c κs = sym (c .before .before .program-short .ensures) ∙ neither _ (c .before .lent-short .result) (c .if3 .left) .0
 
 returns-4 : tie.Need-returns-4
 returns-4 c =
     let slices = c .before in
     let options = slices .before .before .before in
     let counts = options .before .before in
-    program-decides _ _ _ (counts .before .bad-count .ensures) (counts .if1 .left) (options .before .bad-option .ensures)
+    records-decide _ _ _ (counts .before .bad-count .ensures) (counts .if1 .left) (options .before .bad-option .ensures)
     (options .if2 .left) (slices .before .before .program-short .ensures) (slices .before .lent-short .ensures) (slices .if3 .left)
-    (c .check-program .ensures)
+    (c .check-records .ensures)
 
 pub checking-spec : {M : Type 1} → statement M
 checking-spec =
@@ -62,5 +62,5 @@ checking-spec =
     program-short-requires
     lent-short-requires
     returns-3
-    check-program-requires
+    check-records-requires
     returns-4)

@@ -1,23 +1,21 @@
--- Absorption is on, it waits, and the angle is even. Assumes nothing.
+-- Even rotations wait, and the angle is even. Assumes nothing.
+use mathlib.Core.Bool.{true, false}
 use borrow.Author.Tests.{not-true, not-false}
-use Rattle.merging.specs.Steps.{later-off, later-once, later-even}
+use Rattle.merging.specs.Steps.{test-and, isLater}
+use borrow.Author.Needs.{needs}
 use Rattle.merging.proofs.later.Statement.{statement}
 use Rattle.merging.proofs.later.Tie as tie
 
+is-lazy-requires : tie.Need-is-lazy-requires
+is-lazy-requires c κs = search needs
+
 returns : tie.Need-returns
-returns c = later-off (c .before .before .args .rules) (c .before .before .args .k) (not-true _ (c .if1 .taken))
+unfolding isLater
+returns c = test-and false (c .before .before .args .k) (c .before .is-lazy .ensures) (not-true _ (c .if1 .taken))
 
 returns-2 : tie.Need-returns-2
-returns-2 c =
-    let test = c .before .before in
-    let start = test .before .before in
-    later-once (start .args .rules) (start .args .k) (not-false _ (test .if1 .left)) (not-true _ (c .if2 .taken))
-
-returns-3 : tie.Need-returns-3
-returns-3 c =
-    let test = c .before .before in
-    let start = test .before .before in
-    later-even (start .args .rules) (start .args .k) (not-false _ (test .if1 .left)) (not-false _ (c .if2 .left))
+unfolding isLater
+returns-2 c = test-and true (c .before .before .args .k) (c .before .is-lazy .ensures) (not-false _ (c .if1 .left))
 
 pub later-spec : {M : Type 1} → statement M
-later-spec = tie.close (tie.spec returns returns-2 returns-3)
+later-spec = tie.close (tie.spec is-lazy-requires returns returns-2)

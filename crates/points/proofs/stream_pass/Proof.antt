@@ -5,13 +5,17 @@ use borrow.Author.Needs.{needs}
 use Rattle.points.proofs.stream_pass.Statement.{statement}
 use Rattle.points.proofs.stream_pass.Tie as tie
 
+absorption-of-requires : tie.Need-absorption-of-requires
+absorption-of-requires c κs = search needs
+
 counters-of-requires : tie.Need-counters-of-requires
 counters-of-requires c κs = search needs
 
 stream-requires : tie.Need-stream-requires
 stream-requires c κs =
-    let start = c .before .before .before .before .before in (
-      stream-pre (start .args .options) (start .args .merging) (start .args .run) (start .pre .0),
+    let absorption-of = c .before .before .before in
+    let start = absorption-of .before .before .before in (
+      stream-pre (start .args .options) (start .args .merging) (start .args .run) (absorption-of .absorption-of .ensures) (start .pre .0),
       stream-room (start .pre .0) (c .counters-of .ensures),
     )
 
@@ -31,10 +35,11 @@ returns : tie.Need-returns
 returns c =
     let stream = c .before .before .before .before .before .before in
     let counters-of = stream .before in
-    let start = counters-of .before .before .before .before .before in (
+    let absorption-of = counters-of .before .before .before in
+    let start = absorption-of .before .before .before in (
       stream-long (stream .stream .ensures .left),
-      stream-limit (start .args .options) (start .args .merging) (start .args .run) (counters-of .counters-of .ensures) (stream .stream .ensures)
-          (c .enum-told .given .1),
+      stream-limit (start .args .options) (start .args .merging) (start .args .run)
+          (absorption-of .absorption-of .ensures) (counters-of .counters-of .ensures) (stream .stream .ensures) (c .enum-told .given .1),
     )
 
 with-counts-requires : tie.Need-with-counts-requires
@@ -51,16 +56,19 @@ returns-2 c =
     let outcome = c .before .before in
     let stream = outcome .before .before .before .before .before .before in
     let counters-of = stream .before in
-    let start = counters-of .before .before .before .before .before in (
+    let absorption-of = counters-of .before .before .before in
+    let start = absorption-of .before .before .before in (
       stream-long (stream .stream .ensures .left),
-      stream-done (start .args .options) (start .args .merging) (start .args .run) (counters-of .counters-of .ensures) (stream .stream .ensures)
-          (outcome .outcome .given .1) (c .with-counts .ensures),
+      stream-done (start .args .options) (start .args .merging) (start .args .run)
+          (absorption-of .absorption-of .ensures) (counters-of .counters-of .ensures) (stream .stream .ensures) (outcome .outcome .given .1)
+          (c .with-counts .ensures),
     )
 
 pub stream-pass-spec : {M : Type 1} → statement M
 stream-pass-spec =
     tie.close
     (tie.spec
+    absorption-of-requires
     counters-of-requires
     stream-requires
     enum-known-outcome

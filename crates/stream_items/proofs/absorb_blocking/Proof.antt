@@ -1,5 +1,5 @@
 -- The axis is carried to see which block it. Assumes nothing.
-use Rattle.model.specs.Rules.{lazy}
+use Rattle.model.specs.declared.Absorption.the-variants.{Lazy as lazy}
 use Rattle.stream_states.specs.States.{heldOf, left-then}
 use Rattle.stream_states.specs.Carrying.{carry-pre, carry-left}
 use Rattle.stream_items.specs.Items.{blocked-limit, wait-there, blocked-as}

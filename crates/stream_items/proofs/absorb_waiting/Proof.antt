@@ -1,5 +1,5 @@
 -- The list is gone over from its start, with no place kept. Assumes nothing.
-use Rattle.model.specs.Rules.{off}
+use Rattle.model.specs.declared.Absorption.the-variants.{Off as off}
 use Rattle.stream_items.specs.WaitingList.{listed, listed-as}
 use borrow.Author.Needs.{needs}
 use Rattle.stream_items.proofs.absorb_waiting.Statement.{statement}

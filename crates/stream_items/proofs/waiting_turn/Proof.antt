@@ -1,6 +1,6 @@
 -- Three cases: it does not wait, it is left to wait, it is absorbed. Assumes nothing.
 use borrow.Author.Tests.{not-true, not-false}
-use Rattle.model.specs.Rules.{off}
+use Rattle.model.specs.declared.Absorption.the-variants.{Off as off}
 use Rattle.stream_states.specs.States.{left-none}
 use Rattle.merging.specs.Steps.{absorbed-left}
 use Rattle.stream_items.specs.Waiting.{turn-read, turn-entry, turn-small, turned-over, turn-picks, turned-left, left-kept}
