@@ -79,13 +79,16 @@ toLazy off = off
 toLazy atOnce = lazy
 toLazy lazy = lazy
 
--- the rules behind operation o, a barrier
-unfoldable pub afterBarrier : ℕ → Rules → Rules
-afterBarrier o r = record {
+abbrev pub withAbsorption : Absorption → Rules → Rules
+withAbsorption m r = record {
   lookback = r .lookback;
   exchange = r .exchange;
-  absorption = if names (r .lazy) o then toLazy (r .absorption) else r .absorption;
+  absorption = m;
   lazy = r .lazy;
   strategy = r .strategy;
   depth = r .depth;
 }
+
+-- the rules behind operation o, a barrier
+unfoldable pub afterBarrier : ℕ → Rules → Rules
+afterBarrier o r = withAbsorption (if names (r .lazy) o then toLazy (r .absorption) else r .absorption) r

@@ -11,7 +11,7 @@ use Rattle.model.specs.declared.Absorption.the-variants.{Off as off}
 use Rattle.model.specs.declared.Options.{Options}
 use Rattle.model.specs.declared.Answer.the-variants.{Accepted, CountOutside, OptionOutside, SliceShort}
 use Rattle.model.specs.Lists.{if_then_else_}
-use Rattle.model.specs.Rules.{names, toLazy, Rules, absorptionOf, rulesOf, afterBarrier}
+use Rattle.model.specs.Rules.{Rules, absorptionOf, rulesOf, names, toLazy, withAbsorption, afterBarrier}
 use Rattle.model.specs.Program.{Job, programOf}
 use Rattle.model.specs.Items.{Item, rotation, barrier}
 use Rattle.model.specs.Stream.{Pass, rulesAfter, streamItem, stream, begin}
@@ -39,14 +39,8 @@ stays-off : (r : Rules) (i : Item) → r .absorption ≡ off → rulesAfter r i 
 unfolding afterBarrier
 stays-off r (rotation t) e = refl
 stays-off r (barrier o a s) e =
-    ap (λ (m : Absorption). record {
-      lookback = r .lookback;
-      exchange = r .exchange;
-      absorption = m;
-      lazy = r .lazy;
-      strategy = r .strategy;
-      depth = r .depth;
-    }) (by-if (λ (m : Absorption). m ≡ r .absorption) (names (r .lazy) o) (toLazy (r .absorption)) (r .absorption) (ap toLazy e ∙ sym e) refl)
+    ap (λ (m : Absorption). withAbsorption m r)
+    (by-if (λ (m : Absorption). m ≡ r .absorption) (names (r .lazy) o) (toLazy (r .absorption)) (r .absorption) (ap toLazy e ∙ sym e) refl)
 
 module _ (l : ℕ) (setting : Lazy) (r : Rules) (is-off : r .absorption ≡ off) where
   stream-same : (merging : Bool) (p : Pass) (is : List Item) → stream l (withLazy setting r) merging p is ≡ stream l r merging p is

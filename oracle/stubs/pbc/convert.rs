@@ -84,6 +84,8 @@ fn operation(owner: u64, record: &[i64; 6]) -> PbcOp {
     }
 }
 
+// The original's setting is a flag; that of the copies in requests/ is `Lazy` itself.
+#[allow(clippy::useless_conversion)]
 fn options(given: &Options) -> OptimizeOptions {
     OptimizeOptions {
         lookback: given.lookback,

@@ -63,8 +63,9 @@ returns-2 c =
     let is-lazy′ = test .before in
     let start = is-lazy′ .before .before .before in (
       absorb-blocking .absorb-blocking .ensures .0,
-      λ g n p rules h. let is-lazy = told-lazy h (is-lazy′ .is-lazy .ensures) (test .if1 .left)
-          in rotation-limit (start .args .shape) (start .args .rules) g (start .args .st) (start .args .a) (start .args .angle) p is-lazy
+      λ g n p rules h.
+          let is-lazy = told-lazy h (is-lazy′ .is-lazy .ensures) (test .if1 .left) in
+          rotation-limit (start .args .shape) (start .args .rules) g (start .args .st) (start .args .a) (start .args .angle) p is-lazy
           (absorb-blocking .absorb-blocking .ensures .1 n p (blocking-there h is-lazy)) (c .enum-told .given .1),
     )
 
@@ -75,13 +76,13 @@ carry-and-take-requires-2 c κs =
     let test = absorb-blocking .before .before .before in
     let is-lazy′ = test .before in
     let start = is-lazy′ .before .before .before in
+    let is-lazy = told-lazy (start .pre .it) (is-lazy′ .is-lazy .ensures) (test .if1 .left) in
     record {
       absorption = start .pre .absorption;
       items = start .pre .items;
       pass = _;
-      it = let is-lazy = told-lazy (start .pre .it)
-          (is-lazy′ .is-lazy .ensures) (test .if1 .left) in blocked-carrying (start .pre .it) is-lazy
-          (absorb-blocking .absorb-blocking .ensures .0)
+      it =
+          blocked-carrying (start .pre .it) is-lazy (absorb-blocking .absorb-blocking .ensures .0)
           (absorb-blocking .absorb-blocking .ensures .1 _ _ (blocking-there (start .pre .it) is-lazy)) (t .t .given .1);
     }
 
@@ -100,10 +101,12 @@ returns-3 c =
     let is-lazy′ = test .before in
     let start = is-lazy′ .before .before .before in (
       left-then (absorb-blocking .absorb-blocking .ensures .0) (carry-and-take2 .carry-and-take2 .ensures .0),
-      λ g n p rules h. let is-lazy =
-          told-lazy h (is-lazy′ .is-lazy .ensures) (test .if1 .left) in let first = absorb-blocking .absorb-blocking .ensures .1 n p
-          (blocking-there h is-lazy) in rotation-lazy (start .args .shape) (start .args .rules) g (start .args .st) (start .args .a)
-          (start .args .angle) p is-lazy first (t .t .given .1) (carry-and-take2 .carry-and-take2 .ensures .1 g n _ rules
+      λ g n p rules h.
+          let is-lazy = told-lazy h (is-lazy′ .is-lazy .ensures) (test .if1 .left) in
+          let first = absorb-blocking .absorb-blocking .ensures .1 n p (blocking-there h is-lazy) in
+          rotation-lazy (start .args .shape) (start .args .rules) g (start .args .st) (start .args .a) (start .args .angle) p is-lazy first
+          (t .t .given .1)
+          (carry-and-take2 .carry-and-take2 .ensures .1 g n _ rules
           (blocked-carrying h is-lazy (absorb-blocking .absorb-blocking .ensures .0) first (t .t .given .1))),
     )
 
