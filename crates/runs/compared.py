@@ -20,15 +20,15 @@ def jobs(path):
             comment = comment or line[1:].strip()
             continue
         numbers += [int(x) for x in line.split()]
-        if len(numbers) < 17:
+        if len(numbers) < 18:
             continue
         qubits, nodes, operations = numbers[:3]
-        if len(numbers) == 17 + 5 * nodes + 6 * operations + 8 * qubits:
-            at, parts = 17, []
+        if len(numbers) == 18 + 5 * nodes + 6 * operations + 8 * qubits:
+            at, parts = 18, []
             for width, count in ((5, nodes), (6, operations), (4, 2 * qubits)):
                 parts.append([numbers[at + width * i : at + width * (i + 1)] for i in range(count)])
                 at += width * count
-            yield comment, numbers[:13], parts
+            yield comment, numbers[:14], parts
             comment, numbers = "", []
 
 
@@ -127,7 +127,7 @@ def broken(line):
 
 
 def theorem(name, comment, head, parts, answer):
-    qubits, _, _, limit, lookback, window, candidates, rounds, absorb, eager, lazy, strategy, depth = head
+    qubits, _, _, limit, lookback, window, candidates, rounds, absorb, eager, _, lazy, strategy, depth = head
     absorption = "off" if not absorb else "lazy" if lazy else "atOnce"
     flag = lambda b: "true" if b else "false"
     lines = [
@@ -150,7 +150,7 @@ use mathlib.Core.List.{[], _∷_}
 """
 USED = [
     ("Rattle.model.specs.declared.Strategy.the-variants", "Merge Litinski"),
-    ("Rattle.model.specs.Rules", "off atOnce lazy"),
+    ("Rattle.model.specs.declared.Absorption.the-variants", "off atOnce lazy"),
     ("Rattle.model.specs.Everything", "everything"),
     ("Rattle.runs.specs.Shown", "I X Y Z product rotate measure conditional row program rules rotated measured+ measured-"),
     ("Rattle.runs.specs.Shown", "conditioned kept given+ given- nonHermitianAt shows"),
@@ -158,12 +158,16 @@ USED = [
 ]
 
 
+# the enum's cases in 01's words
+CASES = {"off": "Off as off", "atOnce": "AtOnce as atOnce", "lazy": "Lazy as lazy"}
+
+
 # the names of each module that the text uses
 def imports(text):
     words = set(re.findall(r"[^\s()]+", text))
     lines = []
     for module, names in USED:
-        used = [n for n in names.split() if n in words]
+        used = [CASES.get(n, n) for n in names.split() if n in words]
         lines += ["use %s.{%s}\n" % (module, ", ".join(used))] if used else []
     return "".join(lines)
 
@@ -179,6 +183,8 @@ def write(name, title, theorems):
 
 def theorems(folder, name, wanted):
     pairs = zip(jobs(folder / (name + ".jobs")), answers(folder / (name + ".out")))
+    # settings of document 02 have runs of their own
+    pairs = [(job, answer) for job, answer in pairs if not re.match("M-1", job[0])]
     return [theorem("job-%d" % i, *job, answer) for i, (job, answer) in enumerate(pairs) if wanted(i, *job)]
 
 
