@@ -180,8 +180,10 @@ module _ {o : Options} {j : Job} {s : Lent} {r : ℕ} {k : List ℕ} {t : Lent} 
 
 module _ {o : Options} {j : Job} {s : Lent} {r : ℕ} {k : List ℕ} {t : Lent} (call : ExportedCall o j s r k t) where
   -- "16 the place is outside the program or holds a plain rotation, tested last among the checks"
-  pub refused-place : r ≡ 16 → PlaceRefused o j
-  refused-place e = rewriting-promises.refused-place (rewriting-called call) (sym (call .answer) ∙ e)
+  pub refused-place : (r ≡ 16) ↔ PlaceRefused o j s
+  refused-place =
+      let exactly = rewriting-promises.refused-place (rewriting-called call) in
+      (λ e. exactly .0 (sym (call .answer) ∙ e), λ h. call .answer ∙ exactly .1 h)
 
   -- "Even rotations before it are absorbed at their turn; from the next operation on they wait"; "All streams of a run use the same named place"
   pub each-stream-of-a-call : r ≡ 0 → (place : ℕ) → o .«lazy_cliffords» ≡ From place → o .«clifford_to_frame» ≡ true → {v : Work}

@@ -110,7 +110,7 @@ module _ {text out : List ℕ} {s : Lent} {a : Answer} {size : ℕ} {out′ : Li
     where
       go : (numberOf a ≤ 10) ⊎ (numberOf a ≡ 16) → numberOf a ≤ 10
       go (inl h) = h
-      go (inr h) = let e = rewriting-promises.refused-place c h .named in let z : _≡_ {A = ℕ} 0 1 = cc in absurd (omega arith)
+      go (inr h) = let e = rewriting-promises.refused-place c .0 h .named in let z : _≡_ {A = ℕ} 0 1 = cc in absurd (omega arith)
 
   -- a call answers 0 to 11.
   -- Rules out: a number of its own for an output that is short; 12 for a text without lines

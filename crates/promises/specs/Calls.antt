@@ -16,14 +16,16 @@ use Rattle.model.specs.Interface.{numberOf, accepts, ofChecking}
 use Rattle.model.specs.Program.{Job, operationRecords, programOf}
 use Rattle.model.specs.Rules.{rulesOf}
 use Rattle.model.specs.Run.{Ending, nonHermitian, finished, endAnswer}
-use Rattle.model.specs.Checking.{Lent, andThen, checkProgram, badPlace, checkPlace, checkRecords, checking}
+use Rattle.model.specs.Checking.{Lent, andThen, badCount, badOption, programShort, lentShort, checkProgram, badPlace, checkPlace, checkRecords}
+use Rattle.model.specs.Checking.{checking}
 use Rattle.model.specs.Rewriting.{Reply, refused, stopped, afterEnding, rewriting, Called}
-use Rattle.theory.specs.Cases.{by-if, on-if, and-right}
-use Rattle.theory.specs.Checked.{accepts-only}
+use Rattle.theory.specs.Cases.{on-if, if-true, if-false, and-right}
+use Rattle.theory.specs.Checked.{accepts-only, not-refused, unnamed-records}
 use Rattle.theory.specs.Called.{answer-is}
 use Rattle.theory.specs.Replies.{runOf, limitOf, refused-reply, beyond-limit, within-limit, stopped-answer, refused-answer, ending-answer}
 use Rattle.theory.specs.Replies.{run-answer, Checks, program-low, checking-checks, ran}
 use Rattle.theory.specs.Limit.{within, within-answer}
+use Rattle.theory.specs.WithoutAbsorption.{lazily}
 use Rattle.theory.specs.Hermitian.{Hermitian, accepted-exactly}
 
 -- ---- the four ways to reply
@@ -142,29 +144,46 @@ nine-exactly o j s c = (there, λ h. back (h .0) (h .1))
             absurd (odd (accepted-exactly o j s c .0
             (run-answer o j s c ∙ within-answer (limitOf o) (runOf o j) le ∙ ap endAnswer f) .1))
 
--- ---- 02, M-112: 16 comes from a named place alone, after all other checks
+-- ---- 02, M-112: 16 comes from a named place alone, exactly where it is bad and all other checks pass
 
-pub record PlaceRefused (o : Options) (j : Job) : Type 0 where
+pub record PlaceRefused (o : Options) (j : Job) (s : Lent) : Type 0 where
   pub place : ℕ
   pub named : o .«lazy_cliffords» ≡ From place
   pub bad : badPlace place (operationRecords j) ≡ true
-  pub program : checkProgram j ≡ Accepted
+  -- without the name Checking passes the call
+  pub others : checking (lazily Off o) j s ≡ Accepted
 
-pub sixteen-where : (o : Options) (j : Job) (s : Lent) → numberOf (checking o j s) ≡ 16 → PlaceRefused o j
-unfolding checking checkRecords andThen checkPlace
-sixteen-where o j s =
-    by-if P _ CountOutside _ (λ h. absurd (omega (arith, h)))
-    (by-if P _ OptionOutside _ (λ h. absurd (omega (arith, h)))
-    (by-if P _ SliceShort _ (λ h. absurd (omega (arith, h)))
-    (on-if P (accepts (checkProgram j)) (checkPlace (o .«lazy_cliffords») (operationRecords j)) (checkProgram j)
-    (λ e. place (o .«lazy_cliffords») refl (accepts-only (checkProgram j) e)) (λ e h. absurd (omega (arith, h, program-low j))))))
-  where
-    P : Answer → Type 0
-    P a = numberOf a ≡ 16 → PlaceRefused o j
+module _ (o : Options) (j : Job) (s : Lent) where
+  abbrev short : Bool
+  short = programShort j || lentShort (j .counts) s (o .«max_packed_words»)
 
-    place : (setting : Lazy) → o .«lazy_cliffords» ≡ setting → checkProgram j ≡ Accepted → P (checkPlace setting (operationRecords j))
-    place Off e f h = absurd (omega (arith, h))
-    place On e f h = absurd (omega (arith, h))
-    place (From n) e f h =
-        on-if P (badPlace n (operationRecords j)) BadPlace Accepted
-        (λ b g. record { place = n; named = e; bad = b; program = f }) (λ b g. absurd (omega (arith, g))) h
+  pub sixteen-where : numberOf (checking o j s) ≡ 16 → PlaceRefused o j s
+  unfolding checking badOption checkRecords andThen checkPlace
+  sixteen-where =
+      on-if P (badCount (j .counts)) CountOutside _ (λ e h. absurd (omega (arith, h)))
+      (λ a. on-if P (badOption o) OptionOutside _ (λ e h. absurd (omega (arith, h)))
+      (λ b. on-if P short SliceShort _ (λ e h. absurd (omega (arith, h)))
+      (λ c. on-if P (accepts (checkProgram j)) (checkPlace (o .«lazy_cliffords») (operationRecords j)) (checkProgram j)
+      (λ e. place (o .«lazy_cliffords») refl
+      (if-false _ _ a ∙ if-false _ _ b ∙ if-false _ _ c ∙ unnamed-records j ∙ accepts-only (checkProgram j) e))
+      (λ e h. absurd (omega (arith, h, program-low j))))))
+    where
+      P : Answer → Type 0
+      P a = numberOf a ≡ 16 → PlaceRefused o j s
+
+      place : (setting : Lazy) → o .«lazy_cliffords» ≡ setting → checking (lazily Off o) j s ≡ Accepted
+          → P (checkPlace setting (operationRecords j))
+      place Off e f h = absurd (omega (arith, h))
+      place On e f h = absurd (omega (arith, h))
+      place (From n) e f h =
+          on-if P (badPlace n (operationRecords j)) BadPlace Accepted
+          (λ b g. record { place = n; named = e; bad = b; others = f }) (λ b g. absurd (omega (arith, g))) h
+
+  pub refused-where : PlaceRefused o j s → checking o j s ≡ BadPlace
+  unfolding checking badOption checkRecords andThen checkPlace
+  refused-where h =
+      let a = not-refused (badCount (j .counts)) CountOutside _ refl (h .others) in
+      let b = not-refused (badOption o) OptionOutside _ refl (a .1) in
+      let c = not-refused short SliceShort (checkRecords Off j) refl (b .1) in
+      if-false _ _ (a .0) ∙ if-false _ _ (b .0) ∙ if-false _ _ (c .0) ∙ ap (λ (setting : Lazy). checkRecords setting j) (h .named)
+      ∙ if-true _ _ (ap accepts (sym (unnamed-records j) ∙ c .1)) ∙ if-true _ _ (h .bad)

@@ -2,12 +2,12 @@
 -- it, and changes there. Assumes nothing.
 use mathlib.Core.Path.{_≡_, refl, sym, ap, _∙_, subst}
 use mathlib.Core.Logic.{_⊎_, inl, inr}
-use mathlib.Core.Bool.{Bool, true, false, true≢false, _||_}
+use mathlib.Core.Bool.{true, false, true≢false, _||_}
 use mathlib.Core.List.{List, [], _∷_, _++_}
 use Prim.Native.Nat.{ℕ, zero, suc, _+_, _<_}
 use native.Mathlib.Decide.{ℕ-discrete}
 use native.Mathlib.Omega.{arith}
-use lib.Dec.{eqb, leb}
+use lib.Dec.{eqb, ltb, leb}
 use lib.ListN.{length, length-map, getD, take, List·getD-map}
 use borrow.Author.Tests.{eq-eqb, ne-eqb, leb-false}
 use Rattle.pauli.specs.Word.{width}
@@ -161,11 +161,8 @@ kinds-checked n seen [] h = tt
 kinds-checked n seen (r ∷ rs) h =
     let a = both-accepted (checkOperation n seen r) (checkOperations n (measured seen r) rs) h in
     let b = not-refused (badOperation r) BadOperation _ refl (a .0) .0 in
-    (first-false (eqb (fieldOf r 0) 0) _ (first-false _ _ (first-false _ _ (first-false _ _ b))), kinds-checked n (measured seen r) rs (a .1))
-  where
-    first-false : (x y : Bool) → x || y ≡ false → x ≡ false
-    first-false true y e = e
-    first-false false y e = refl
+    let c = neither (eqb (fieldOf r 0) 0 || ltb 3 (fieldOf r 0) || ltb 7 (fieldOf r 3)) _ (neither _ _ b .0) .0 in
+    (neither _ _ (neither (eqb (fieldOf r 0) 0 || ltb 3 (fieldOf r 0)) _ c .0) .0, kinds-checked n (measured seen r) rs (a .1))
 
 -- so one that is not a plain rotation is a barrier
 kind-of : (k : ℕ) → eqb k 0 ≡ false → eqb k 1 ≡ false → kindOf k ≡ rotate → ⊥

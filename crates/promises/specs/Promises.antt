@@ -44,6 +44,7 @@ use Rattle.run_effect.specs.RunEffect.{Effects, sourceEffect, resultEffect, run
 use Rattle.promises.specs.Slices.{Agree, agree-then, agree-zeros}
 use Rattle.promises.specs.Calls.{Replied, byChecking, byLimit, byRoot, done, called-of, passed-checking, nine-exactly}
 use Rattle.promises.specs.Calls.{number-low, number-checking, number-stopped, PlaceRefused, sixteen-where}
+use Rattle.promises.specs.Calls.{refused-where}
 use Rattle.promises.specs.Named.{ChangesAt, stream-changes}
 use Rattle.promises.specs.Strategies.{endWork, merge-end, litinski-end, no-rounds-end}
 use Rattle.promises.specs.Left.{operationsIn, rowsIn, wordsIn, operations-left, effect-left}
@@ -388,10 +389,13 @@ module _ {o : Options} {j : Job} {s : Lent} {a : Answer} {c : Counters} {m n : �
 -- the lazy setting is among what is alike, with its place
 
 module _ {o : Options} {j : Job} {s : Lent} {a : Answer} {c : Counters} {m n : ℕ} {t : Lent} (call : Called o j s a c m n t) where
-  -- "16 the place is outside the program or holds a plain rotation, tested last among the checks": what refusals-1-to-8-and-16 leaves as it was.
-  -- Rules out: 16 for a program whose frame rows 6 refuses; 16 where no place is named
-  pub refused-place : numberOf a ≡ 16 → PlaceRefused o j
-  refused-place e = sixteen-where o j s (ap numberOf (sym (only-checking call (ap ofChecking e))) ∙ e)
+  -- "16 the place is outside the program or holds a plain rotation, tested last among the checks": exactly there; what it leaves is above.
+  -- Rules out: 16 for a program whose frame rows 6 refuses; a place equal to the count taken for none
+  pub refused-place : (numberOf a ≡ 16) ↔ PlaceRefused o j s
+  refused-place = (
+    λ e. sixteen-where o j s (ap numberOf (sym (only-checking call (ap ofChecking e))) ∙ e),
+    λ h. let e = refused-where o j s h in ap numberOf (checks-itself call (ap accepts e) ∙ e),
+  )
 
   -- "Even rotations before it are absorbed at their turn; from the next operation on they wait, as the lazy setting has it."; "All streams of a
   -- run use the same named place": a stream from any point of the run. "If the named operation drops out in packing": it never does.
