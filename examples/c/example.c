@@ -78,6 +78,16 @@ static void rewrite(size_t limit) {
         printf("axis %zu: x %" PRIu64 ", z %" PRIu64 "\n", id, words[2 * id], words[2 * id + 1]);
 }
 
+/* memory for either of the two programs below, with any limit up to this */
+enum { SMALL_LIMIT = 64, SMALL_QUBITS = 2, SMALL_NODES = 5, SMALL_OPERATIONS = 7 };
+static uint64_t small_words[SMALL_LIMIT + 16];
+static uint32_t small_numbers[24 * (SMALL_NODES + SMALL_OPERATIONS + 2 * SMALL_QUBITS + SMALL_LIMIT / 2 + 1)];
+static uint32_t small_operations[SMALL_OPERATIONS * WERDUTXA_OPERATION_FIELDS], small_rows[2 * SMALL_QUBITS * WERDUTXA_ROW_FIELDS];
+static const struct werdutxa_memory small_memory = {
+    small_words, LENGTH(small_words), small_numbers, LENGTH(small_numbers),
+    small_operations, LENGTH(small_operations), small_rows, LENGTH(small_rows),
+};
+
 /* the identity, X and Z of qubit 0, X and Z of qubit 1 */
 static const uint32_t tie_nodes[] = {
     WERDUTXA_IDENTITY, 0, 0, 0, 0,
@@ -99,25 +109,17 @@ static const uint32_t tie_operations[] = {
 static const uint32_t tie_rows[] = {0, 0, 1, 0, 0, 1, 2, 0, 1, 0, 3, 0, 1, 1, 4, 0};
 
 static void rewrite_in_order(bool second_exchange_first) {
-    enum { TIE_QUBITS = 2, TIE_NODES = 5, TIE_OPERATIONS = 5, TIE_LIMIT = 16 };
-    static uint64_t tie_words[TIE_LIMIT + 16];
-    static uint32_t tie_numbers[24 * (TIE_NODES + TIE_OPERATIONS + 2 * TIE_QUBITS + TIE_LIMIT / 2 + 1)];
-    static uint32_t left[LENGTH(tie_operations)], left_rows[LENGTH(tie_rows)];
     const struct werdutxa_program ties = {
-        TIE_QUBITS, TIE_NODES, TIE_OPERATIONS, tie_nodes, LENGTH(tie_nodes),
-        tie_operations, LENGTH(tie_operations), tie_rows, LENGTH(tie_rows),
-    };
-    const struct werdutxa_memory lent = {
-        tie_words, LENGTH(tie_words), tie_numbers, LENGTH(tie_numbers), left, LENGTH(left), left_rows, LENGTH(left_rows),
+        2, 5, 5, tie_nodes, LENGTH(tie_nodes), tie_operations, LENGTH(tie_operations), tie_rows, LENGTH(tie_rows),
     };
     struct werdutxa_options options = WERDUTXA_DEFAULTS;
     options.lookback = 0;
     options.window = 1;
     options.clifford_to_frame = false;
     options.second_exchange_first = second_exchange_first;
-    options.limit = TIE_LIMIT;
+    options.limit = SMALL_LIMIT;
     struct werdutxa_counted counted;
-    uint32_t answer = werdutxa_rewrite_program(&ties, &options, &lent, &counted);
+    uint32_t answer = werdutxa_rewrite_program(&ties, &options, &small_memory, &counted);
     printf("second exchange first %d: rewriting %" PRIu32 ", T-count %zu before, %zu after, %zu exchanges\n",
            second_exchange_first, answer, counted.t_before, counted.t_after, counted.swaps);
 }
@@ -142,16 +144,8 @@ static const uint32_t lazy_operations[] = {
 };
 
 static void rewrite_lazily(const char *name, bool lazy_cliffords, bool named, size_t place) {
-    enum { LAZY_NODES = 4, LAZY_OPERATIONS = 7, LAZY_LIMIT = 64 };
-    static uint64_t lazy_words[LAZY_LIMIT + 16];
-    static uint32_t lazy_numbers[24 * (LAZY_NODES + LAZY_OPERATIONS + 2 * QUBITS + LAZY_LIMIT / 2 + 1)];
-    static uint32_t left[LENGTH(lazy_operations)], left_rows[LENGTH(rows)];
     const struct werdutxa_program lazy = {
-        QUBITS, LAZY_NODES, LAZY_OPERATIONS, lazy_nodes, LENGTH(lazy_nodes),
-        lazy_operations, LENGTH(lazy_operations), rows, LENGTH(rows),
-    };
-    const struct werdutxa_memory lent = {
-        lazy_words, LENGTH(lazy_words), lazy_numbers, LENGTH(lazy_numbers), left, LENGTH(left), left_rows, LENGTH(left_rows),
+        1, 4, 7, lazy_nodes, LENGTH(lazy_nodes), lazy_operations, LENGTH(lazy_operations), rows, LENGTH(rows),
     };
     struct werdutxa_options options = WERDUTXA_DEFAULTS;
     options.lookback = 0;
@@ -159,10 +153,10 @@ static void rewrite_lazily(const char *name, bool lazy_cliffords, bool named, si
     options.lazy_cliffords = lazy_cliffords;
     options.named = named;
     options.place = place;
-    options.limit = LAZY_LIMIT;
+    options.limit = SMALL_LIMIT;
     struct werdutxa_counted counted;
-    uint32_t checked = werdutxa_check_program(&lazy, &options, &lent);
-    uint32_t answer = werdutxa_rewrite_program(&lazy, &options, &lent, &counted);
+    uint32_t checked = werdutxa_check_program(&lazy, &options, &small_memory);
+    uint32_t answer = werdutxa_rewrite_program(&lazy, &options, &small_memory, &counted);
     printf("%s: checking %" PRIu32 ", rewriting %" PRIu32 ", T-count %zu before, %zu after\n",
            name, checked, answer, counted.t_before, counted.t_after);
 }
