@@ -2,10 +2,10 @@
 -- all arguments is `ExportedCall o j s r k t`: with options o, job j and slices s lent a call returned r, counted the fourteen numbers k and left
 -- the slices t. By `rewriting-called` (Calls) it is a call that `promises` speaks of, so all that is promised there holds of it, and the wrong
 -- programs named there are ruled out; here stand the mission's sentences, and those of requests that promise something. Assumes nothing.
-use mathlib.Core.Path.{_≡_, refl, sym, ap, _∙_}
+use mathlib.Core.Path.{_≡_, refl, sym, ap, ap₂, _∙_}
 use mathlib.Core.Logic.{_⊎_, inl, inr, _↔_, ⊎-elim}
 use mathlib.Core.Bool.{Bool, true, false, true≢false}
-use mathlib.Core.List.{List}
+use mathlib.Core.List.{List, _++_}
 use Prim.Native.Nat.{ℕ, _+_, _-_, _≤_}
 use native.Mathlib.Omega.{arith}
 use lib.ListN.{length, getD}
@@ -32,7 +32,8 @@ use Rattle.promises.specs.Calls.{PlaceRefused}
 use Rattle.promises.specs.Named.{ChangesAt}
 use Rattle.promises.specs.Left.{operationsIn, rowsIn, wordsIn}
 use Rattle.promises.specs.Strategies.{endWork}
-use Rattle.promises.specs.Alike.{AlikeButRoundsAndLimit, AlikeButLimit}
+use Rattle.promises.specs.Alike.{SameOptionsButLimit, AlikeButRoundsAndLimit, AlikeButLimit}
+use Rattle.promises.specs.Cut.{OneRound, CutAtMeasurement, wordedIn, CallsAddUp, calls-add-up}
 use Rattle.promises.specs.Promises.{Cleared, AcceptanceLeaves, SameLeft, tCountHanded, tCountLeft}
 use Rattle.promises.specs.Promises as rewriting-promises
 use Rattle.werdutxa.specs.Calls.{countedBy, ExportedCall}
@@ -193,3 +194,43 @@ module _ {o : Options} {j : Job} {s : Lent} {r : ℕ} {k : List ℕ} {t : Lent} 
   -- "Absorption off: even angles stay": then a place that Checking passes changes nothing
   pub named-without-absorption : checking o j s ≡ Accepted → o .«clifford_to_frame» ≡ false → ExportedCall (lazily Off o) j s r k t
   named-without-absorption passed e = exported-as (sym (reply-unnamed o j s e passed)) call
+
+-- ==== Request M-113. "Cut a job at a measurement"
+
+-- the third and the fourth number that a call counts
+abbrev pub mergesCounted : List ℕ → ℕ
+mergesCounted k = getD k 2 0
+
+abbrev pub swapsCounted : List ℕ → ℕ
+swapsCounted k = getD k 3 0
+
+module _ {o : Options} {j : Job} {s : Lent} {r : ℕ} {k : List ℕ} {t : Lent} (call : ExportedCall o j s r k t) where
+  merges-are : mergesCounted k ≡ rewriting o j s .counters .merges
+  unfolding countedBy
+  merges-are = ap mergesCounted (call .counts)
+
+  swaps-are : swapsCounted k ≡ rewriting o j s .counters .swaps
+  unfolding countedBy
+  swaps-are = ap swapsCounted (call .counts)
+
+-- "With absorption off, merge strategy, one round .., cut directly after a measurement ..; both keep nodes and rows. If the whole and both parts
+-- are accepted with all options alike but the word limit": for both tie orders, and stronger than the request as `promises` says
+module _ {o oₑ oₗ : Options} {j earlier later : Job} {s sₑ sₗ t tₑ tₗ : Lent} {r rₑ rₗ : ℕ} {k kₑ kₗ : List ℕ}
+    (x : ExportedCall o j s r k t) (y : ExportedCall oₑ earlier sₑ rₑ kₑ tₑ) (z : ExportedCall oₗ later sₗ rₗ kₗ tₗ)
+    (done : r ≡ 0) (doneₑ : rₑ ≡ 0) (doneₗ : rₗ ≡ 0)
+    (same : SameOptionsButLimit o oₑ) (alike : SameOptionsButLimit o oₗ) (one : OneRound o) (cut : CutAtMeasurement j earlier later) where
+  adds-up : CallsAddUp j earlier later t tₑ tₗ (rewriting o j s .counters) (rewriting oₑ earlier sₑ .counters) (rewriting oₗ later sₗ .counters)
+  adds-up =
+      calls-add-up (rewriting-called-as x Accepted done) (rewriting-called-as y Accepted doneₑ) (rewriting-called-as z Accepted doneₗ)
+      same alike one cut
+
+  -- "the two results' operations written one behind the other must be the whole's in every field, words compared in place of ids"
+  pub cut-results : wordedIn j t ≡ wordedIn earlier tₑ ++ wordedIn later tₗ
+  cut-results = adds-up .operations
+
+  -- "the parts' swaps add up to the whole's": always, and so do their merges
+  pub cut-swaps : swapsCounted k ≡ swapsCounted kₑ + swapsCounted kₗ
+  cut-swaps = swaps-are x ∙ adds-up .swaps ∙ sym (ap₂ _+_ (swaps-are y) (swaps-are z))
+
+  pub cut-merges : mergesCounted k ≡ mergesCounted kₑ + mergesCounted kₗ
+  cut-merges = merges-are x ∙ adds-up .merges ∙ sym (ap₂ _+_ (merges-are y) (merges-are z))

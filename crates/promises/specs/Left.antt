@@ -27,7 +27,7 @@ use Rattle.model.specs.Results.{rowResultsFrom, rowResults}
 use Rattle.model.specs.Checking.{Lent, wordsAsked}
 use Rattle.model.specs.Rewriting.{thenZeros, accepted, Called}
 use Rattle.theory.specs.Cases.{by-if}
-use Rattle.theory.specs.Every.{Every}
+use Rattle.theory.specs.Every.{Every, map-every}
 use Rattle.theory.specs.StreamState.{axisOf}
 use Rattle.theory.specs.AcceptedRun.{hermitian-peak}
 use Rattle.theory.specs.Called.{answer-is, lent-is}
@@ -78,7 +78,7 @@ items-kind ops (barrier o a s ∷ is) h = (barrier-kind (operationAt ops o) (ope
 
 -- ---- ids in records are in range
 
-abbrev IdIn : ℕ → List ℕ → Type 0
+abbrev pub IdIn : ℕ → List ℕ → Type 0
 IdIn n r = fieldOf r 1 < n
 
 barrier-id : (op : Operation) (kind : Kind) (a s n : ℕ) → Stops kind → a < n → IdIn n (barrierRecord op kind a s)
@@ -135,8 +135,7 @@ module _ {W : Type 0} (word : List ℕ → W) (A B : List (List ℕ)) (same : (a
 
   ops-same : (rs : List (List ℕ)) → Every (IdIn (length A)) rs → resultOps word B rs ≡ resultOps word A rs
   unfolding resultOps resultOp
-  ops-same [] h = refl
-  ops-same (r ∷ rs) h = ap₂ (λ (x : Op W) (xs : List (Op W)). x ∷ xs) (op-same (fieldOf r 0) r (h .0)) (ops-same rs (h .1))
+  ops-same rs h = map-every (IdIn (length A)) (resultOp word B) (resultOp word A) (λ r. op-same (fieldOf r 0) r) rs h
 
   row-same : (p : Program) (r : List ℕ) → RowIdIn (length A) r → resultRow word p B r ≡ resultRow word p A r
   unfolding resultRow if_then_else_
@@ -145,8 +144,7 @@ module _ {W : Type 0} (word : List ℕ → W) (A B : List (List ℕ)) (same : (a
 
   rows-same : (p : Program) (rs : List (List ℕ)) → Every (RowIdIn (length A)) rs → resultRows word p B rs ≡ resultRows word p A rs
   unfolding resultRows
-  rows-same p [] h = refl
-  rows-same p (r ∷ rs) h = ap₂ (λ (x : Quarter × W) (xs : List (Quarter × W)). x ∷ xs) (row-same p r (h .0)) (rows-same p rs (h .1))
+  rows-same p rs h = map-every (RowIdIn (length A)) (resultRow word p B) (resultRow word p A) (row-same p) rs h
 
 -- ---- an accepted call
 
@@ -209,13 +207,18 @@ module _ {o : Options} {j : Job} {s : Lent} {c : Counters} {m n : ℕ} {t : Lent
   ids : IdsInRange end
   ids = end-ids (rulesOf o) (o .rounds) p (call-fine o j s (answer-is call)) (call-hermitian o j s (answer-is call))
 
+  -- every operation's id is in range
+  pub records-in : Every (IdIn (length (endOf (rulesOf o) (o .rounds) (programOf j) .store .axes)))
+      (operationResults (programOf j) (endOf (rulesOf o) (o .rounds) (programOf j)))
+  unfolding operationResults
+  records-in = items-id (p .operations) (length (end .store .axes)) (end .items) stand (ids .items)
+
   module _ {W : Type 0} (word : List ℕ → W) where
     -- read with the words of the word store, operations and rows mean what they mean with the run's axes
     pub operations-mean : resultOps word (wordsIn j t) (operationsIn j t) ≡ resultOps word (end .store .axes) (operationResults p end)
     operations-mean =
         ap (resultOps word (wordsIn j t)) operations-left
-        ∙ ops-same word (end .store .axes) (wordsIn j t) words-left (operationResults p end)
-        (unfold operationResults in (items-id (p .operations) (length (end .store .axes)) (end .items) stand (ids .items)))
+        ∙ ops-same word (end .store .axes) (wordsIn j t) words-left (operationResults p end) records-in
 
     pub rows-mean : resultRows word p (wordsIn j t) (rowsIn j t) ≡ resultRows word p (end .store .axes) (rowResults p end)
     rows-mean =

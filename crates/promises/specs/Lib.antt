@@ -4,4 +4,5 @@ pub mod Left
 pub mod Alike
 pub mod Strategies
 pub mod Named
+pub mod Cut
 pub mod Promises

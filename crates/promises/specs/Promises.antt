@@ -5,7 +5,7 @@
 use mathlib.Core.Path.{_≡_, refl, sym, ap, ap₂, _∙_, subst}
 use mathlib.Core.Logic.{_⊎_, inl, inr, _↔_, ⊎-elim}
 use mathlib.Core.Bool.{Bool, true, false}
-use mathlib.Core.List.{List, flatten}
+use mathlib.Core.List.{List, _++_, flatten}
 use Prim.Native.Nat.{ℕ, _+_, _-_, _≤_, _<_}
 use native.Mathlib.Omega.{arith}
 use lib.ListN.{length, length-map}
@@ -48,7 +48,8 @@ use Rattle.promises.specs.Calls.{refused-where}
 use Rattle.promises.specs.Named.{ChangesAt, stream-changes}
 use Rattle.promises.specs.Strategies.{endWork, merge-end, litinski-end, no-rounds-end}
 use Rattle.promises.specs.Left.{operationsIn, rowsIn, wordsIn, operations-left, effect-left}
-use Rattle.promises.specs.Alike.{AlikeButRoundsAndLimit, AlikeButLimit, alike-rules, but-limit, not-two}
+use Rattle.promises.specs.Alike.{SameOptionsButLimit, AlikeButRoundsAndLimit, AlikeButLimit, alike-rules, but-limit, not-two}
+use Rattle.promises.specs.Cut.{OneRound, CutAtMeasurement, wordedIn, calls-add-up}
 
 -- ==== what the sentences speak of
 
@@ -250,7 +251,7 @@ module _ {o o′ : Options} {j j′ : Job} {s s′ : Lent} {c c′ : Counters} {
       let e = t-counts-told x in
       let e′ = t-counts-told y in
       let k : c′ .«t_after» ≤ c .«t_after» = rw (← counters-are x, ← counters-are y)
-      (no-more-with-more-rounds o o′ j j′ s s′ (alike .job) (alike-rules alike) h (answer-is x) (answer-is y)) in
+      (no-more-with-more-rounds o o′ j j′ s s′ (alike .job) (alike-rules (alike .options)) h (answer-is x) (answer-is y)) in
       omega arith
 
   -- "equal rounds give equal results and counters".
@@ -260,7 +261,7 @@ module _ {o o′ : Options} {j j′ : Job} {s s′ : Lent} {c c′ : Counters} {
   equal-rounds-equal-results x y alike =
       let one = acceptance x in
       let other : AcceptanceLeaves (programOf j) (endWork o j) s′ t′
-      = rw (← alike-rules (alike .others), ← alike .rounds, ← alike-program j j′ (alike .others .job)) (acceptance y) in (
+      = rw (← alike-rules (alike .options .others), ← alike .options .rounds, ← alike-program j j′ (alike .job)) (acceptance y) in (
         record {
           operations = agree-then _ _ _ (one .operations) (other .operations);
           rows = agree-then _ _ _ (one .rows) (other .rows);
@@ -268,7 +269,7 @@ module _ {o o′ : Options} {j j′ : Job} {s s′ : Lent} {c c′ : Counters} {
           numbers = agree-zeros _ _ (one .numbers) (other .numbers);
         },
         rw (← counters-are x, ← counters-are y)
-            (results-counters (equal-rounds o o′ j j′ s s′ (alike .others .job) (but-limit alike) (answer-is x) (answer-is y))),
+            (results-counters (equal-rounds o o′ j j′ s s′ (alike .job) (but-limit (alike .options)) (answer-is x) (answer-is y))),
       )
 
   -- and as many operations and axes.
@@ -277,7 +278,7 @@ module _ {o o′ : Options} {j j′ : Job} {s s′ : Lent} {c c′ : Counters} {
       → (m′ ≡ m) × (n′ ≡ n)
   equal-rounds-equal-numbers x y alike =
       let end : endWork o′ j′ ≡ endWork o j
-      = rw (alike-rules (alike .others), alike .rounds, alike-program j j′ (alike .others .job)) refl in (
+      = rw (alike-rules (alike .options .others), alike .options .rounds, alike-program j j′ (alike .job)) refl in (
         sym (operations-are y) ∙ accepted-operations o′ j′ s′ (answer-is y) ∙ ap (λ (w : Work). length (w .items)) end
             ∙ sym (sym (operations-are x) ∙ accepted-operations o j s (answer-is x)),
         sym (axes-are y) ∙ accepted-axes o′ j′ s′ (answer-is y) ∙ ap (λ (w : Work). length (w .store .axes)) end
@@ -295,7 +296,7 @@ module _ {o o′ : Options} {j j′ : Job} {s s′ : Lent} {a a′ : Answer} {c 
       let passed = passed-checking x e in
       let not-2 : rewriting o′ j′ s′ .answer ≡ OptionOutside → ⊥ = λ f. let m = ap numberOf (sym (answer-is y) ∙ f) in
       not-two s s′ alike passed k (sym (only-checking y (ap ofChecking m)) ∙ sym (answer-is y) ∙ f) in
-      let same = same-at-larger-limit o o′ j j′ s s′ (alike .others .job) (but-limit alike) h
+      let same = same-at-larger-limit o o′ j j′ s s′ (alike .job) (but-limit (alike .options)) h
       (⊎-elim (λ f. inl (answer-is x ∙ f)) (λ f. inr (answer-is x ∙ f)) e) not-2 (λ f. n (sym (answer-is y) ∙ f)) in
       (rw (← answer-is x, ← answer-is y) (results-answer same), rw (← counters-are x, ← counters-are y) (results-counters same))
 
@@ -337,7 +338,7 @@ module _ {o o′ : Options} {j j′ : Job} {s s′ : Lent} {a′ : Answer} {c c�
   -- the number that the first call returned is the sum that the second one's run tests
   words-again : runOf o′ j′ .peak ≡ c .«packed_words»
   words-again =
-      ap (λ (r : Run). r .peak) (run-same o o′ j j′ s s′ (alike .others .job) (but-limit alike)) ∙ sym (words-told x refl)
+      ap (λ (r : Run). r .peak) (run-same o o′ j j′ s s′ (alike .job) (but-limit (alike .options))) ∙ sym (words-told x refl)
 
   -- the first passed the checks, and so does the second
   passed : checking o j s ≡ Accepted
@@ -345,7 +346,7 @@ module _ {o o′ : Options} {j j′ : Job} {s s′ : Lent} {a′ : Answer} {c c�
 
   passed-again : limitOf o′ ≤ 1048576 → checking o′ j′ s′ ≡ Accepted
   passed-again k =
-      checks-again o o′ j j′ s s′ (alike .others .job) (but-limit alike) passed (not-two s s′ alike passed k)
+      checks-again o o′ j j′ s s′ (alike .job) (but-limit (alike .options)) passed (not-two s s′ alike passed k)
       (λ f. long (checks-itself y (ap accepts f) ∙ f))
 
   -- it is accepted exactly if its limit is no smaller than the number that the first call returned.
@@ -353,7 +354,7 @@ module _ {o o′ : Options} {j j′ : Job} {s s′ : Lent} {a′ : Answer} {c c�
   pub accepted-by-the-number : limitOf o′ ≤ 1048576 → (a′ ≡ Accepted) ↔ (c .«packed_words» ≤ limitOf o′)
   accepted-by-the-number k =
       let even : Hermitian (programOf j′)
-      = rw (alike-program j j′ (alike .others .job)) (accepted-where x passed .0 refl .1) in
+      = rw (alike-program j j′ (alike .job)) (accepted-where x passed .0 refl .1) in
       let exactly = accepted-by-the-words y even (passed-again k) in
       (λ e. rw (← words-again) (exactly .0 e), λ h. exactly .1 (rw words-again h))
 
@@ -409,3 +410,27 @@ module _ {o : Options} {j : Job} {s : Lent} {a : Answer} {c : Counters} {m n : �
   -- Rules out: rotations that begin to wait in spite of it; a place that is looked at before the setting of absorption
   pub named-without-absorption : checking o j s ≡ Accepted → o .«clifford_to_frame» ≡ false → Called (lazily Off o) j s a c m n t
   named-without-absorption passed e = record { replied = call .replied ∙ sym (reply-unnamed o j s e passed) }
+
+-- ==== Request M-113. "Cut a job at a measurement"
+
+-- "With absorption off, merge strategy, one round .., cut directly after a measurement ..; both keep nodes and rows. If the whole and both parts
+-- are accepted with all options alike but the word limit". This is stronger than the request: that "the later part names no outcome of the
+-- earlier", that "the parts' swaps add up" and "no named change of setting" are not asked. "This must hold for both tie orders": the order is
+-- among the options that are alike, whichever it is
+module _ {o oₑ oₗ : Options} {j earlier later : Job} {s sₑ sₗ t tₑ tₗ : Lent} {c cₑ cₗ : Counters} {m n mₑ nₑ mₗ nₗ : ℕ}
+    (x : Called o j s Accepted c m n t) (y : Called oₑ earlier sₑ Accepted cₑ mₑ nₑ tₑ) (z : Called oₗ later sₗ Accepted cₗ mₗ nₗ tₗ)
+    (same : SameOptionsButLimit o oₑ) (alike : SameOptionsButLimit o oₗ) (one : OneRound o) (cut : CutAtMeasurement j earlier later) where
+  -- "the two results' operations written one behind the other must be the whole's in every field, words compared in place of ids".
+  -- Rules out: a rotation merged into one before the measurement; an exchange of groups from both sides of it
+  pub cut-results : wordedIn j t ≡ wordedIn earlier tₑ ++ wordedIn later tₗ
+  cut-results = calls-add-up x y z same alike one cut .operations
+
+  -- "the parts' swaps add up to the whole's": always.
+  -- Rules out: a swap counted for each triple that was tried; the swaps of the last segment only
+  pub cut-swaps : c .swaps ≡ cₑ .swaps + cₗ .swaps
+  cut-swaps = calls-add-up x y z same alike one cut .swaps
+
+  -- and so do their merges.
+  -- Rules out: a merge counted where `last` named a place before the measurement; the merges inside an exchange's trial
+  pub cut-merges : c .merges ≡ cₑ .merges + cₗ .merges
+  cut-merges = calls-add-up x y z same alike one cut .merges

@@ -35,6 +35,12 @@ pub if-false : {A : Type 0} {b : Bool} (x y : A) → b ≡ false → (if b then 
 unfolding if_then_else_
 if-false x y e = rw e refl
 
+-- a function of a choice
+pub of-if : {A B : Type 0} (g : A → B) (b : Bool) (x y : A) → g (if b then x else y) ≡ (if b then g x else g y)
+unfolding if_then_else_
+of-if g true x y = refl
+of-if g false x y = refl
+
 -- neither of two tests holds
 pub neither : (x y : Bool) → x || y ≡ false → (x ≡ false) × (y ≡ false)
 neither true y h = absurd (true≢false h)
@@ -58,6 +64,12 @@ pub by-else : {A : Type 0} (P : Option A → Type 0) (x y : Option A) → P x �
 unfolding orElse
 by-else P none y hx hy = hy
 by-else P (some x) y hx hy = hx
+
+-- a function of the first of two that is there
+pub of-else : {A B : Type 0} (g : A → B) (x y : Option A) → Option·map g (orElse x y) ≡ orElse (Option·map g x) (Option·map g y)
+unfolding orElse
+of-else g none y = refl
+of-else g (some x) y = refl
 
 -- ---- an option that is there
 

@@ -1,5 +1,5 @@
 -- What holds of every element of a list. Assumes nothing.
-use mathlib.Core.Path.{_≡_}
+use mathlib.Core.Path.{_≡_, refl, ap₂}
 use mathlib.Core.Bool.{Bool}
 use mathlib.Core.List.{List, [], _∷_, _++_, reverse, reverseAux, map, flatten}
 use Prim.Native.Nat.{ℕ, zero, suc, _+_, _≤_, _<_}
@@ -55,6 +55,11 @@ pub every-map : {A B : Type 0} (P : A → Type 0) (Q : B → Type 0) (f : A → 
     → (xs : List A) → Every P xs → Every Q (map f xs)
 every-map P Q f g [] h = tt
 every-map P Q f g (x ∷ xs) h = (g x (h .0), every-map P Q f g xs (h .1))
+
+-- functions that agree where it holds
+pub map-every : {A B : Type 0} (P : A → Type 0) (f g : A → B) → ((x : A) → P x → f x ≡ g x) → (xs : List A) → Every P xs → map f xs ≡ map g xs
+map-every P f g same [] h = refl
+map-every {B = B} P f g same (x ∷ xs) h = ap₂ (λ (y : B) (ys : List B). y ∷ ys) (same x (h .0)) (map-every P f g same xs (h .1))
 
 -- and so of the one at place i
 pub every-at : {A : Type 0} (P : A → Type 0) (xs : List A) (d : A) (i : ℕ) → Every P xs → i < length xs → P (getD xs i d)

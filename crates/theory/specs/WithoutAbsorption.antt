@@ -35,7 +35,7 @@ withLazy setting r = record {
 }
 
 -- no barrier changes rules by which even angles stay
-stays-off : (r : Rules) (i : Item) → r .absorption ≡ off → rulesAfter r i ≡ r
+pub stays-off : (r : Rules) (i : Item) → r .absorption ≡ off → rulesAfter r i ≡ r
 unfolding afterBarrier
 stays-off r (rotation t) e = refl
 stays-off r (barrier o a s) e =

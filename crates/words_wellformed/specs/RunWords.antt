@@ -246,8 +246,8 @@ module _ (Angles : Type 0) (axes : List (List ℕ)) (vs : List Value) where
       (itemOf-well o (op .kind) (signedAxis axes vs (operationRoot op)) (op .angle) (signedAxis-well (operationRoot op) (h .0)) (small .0))
       (itemsFrom-well (suc o) ops (h .1) (small .1))
 
--- a fact about each element, by membership
-roots-rooted : (p : Program) → Fine p → packed p .refused ≡ false → Every (RootIn (packed p .store .axes) (valuesOf p)) (roots p)
+-- every root is stored, and its total phase is even
+pub roots-rooted : (p : Program) → Fine p → packed p .refused ≡ false → Every (RootIn (packed p .store .axes) (valuesOf p)) (roots p)
 roots-rooted p f h =
     in-every (RootIn (packed p .store .axes) (valuesOf p)) (roots p)
     (λ r k. packed-rooted p (f .ordered) h r k (every-in (λ (x : PauliRef). x .node < length (p .nodes)) (roots p) (roots-in p f) r k))
