@@ -1,5 +1,6 @@
 -- 02, M-113: a job cut at a measurement, its parts, and what three calls leave. Assumes nothing.
 use mathlib.Core.Path.{_≡_, refl, sym, ap, ap₂, _∙_, subst}
+use mathlib.Core.Logic.{inl}
 use mathlib.Core.Bool.{false}
 use mathlib.Core.List.{List, [], _∷_, _++_, map, map-append}
 use Prim.Native.Nat.{ℕ, _+_}
@@ -14,14 +15,17 @@ use Rattle.model.specs.Program.{Program, programOf}
 use Rattle.model.specs.Rules.{Rules, absorptionOf, rulesOf}
 use Rattle.model.specs.Run.{endOf}
 use Rattle.model.specs.Results.{operationResults, countersOf}
-use Rattle.model.specs.Checking.{Lent}
+use Rattle.model.specs.Checking.{Lent, checkOperations, checkProgram}
 use Rattle.model.specs.Rewriting.{Called}
 use Rattle.theory.specs.Every.{map-every}
 use Rattle.theory.specs.Called.{answer-is, counters-are}
+use Rattle.theory.specs.Checked.{both-accepted, checking-program}
 use Rattle.theory.specs.TCountCalls.{accepted-counters}
 use Rattle.result_effect.specs.Calls.{call-fine, call-hermitian}
-use Rattle.cutting.specs.Worded.{WordedOperation, worded, wordedAll}
+use Rattle.cutting.specs.Worded.{WordedOperation, withWord, worded, wordedAll}
 use Rattle.cutting.specs.CutRun.{withOperations, MergesOnly, Runs, wordedEnd, AddsUp, run-cut}
+use Rattle.cutting.specs.Outcomes.{NamesNone, names-none}
+use Rattle.promises.specs.Calls.{passed-checking}
 use Rattle.promises.specs.Strategies.{endWork}
 use Rattle.promises.specs.Left.{operationsIn, wordsIn, IdIn, operations-left, words-left, records-in}
 use Rattle.promises.specs.Alike.{SameOptionsButLimit, but-limit}
@@ -66,7 +70,8 @@ module _ {o : Options} {j : Job} {s : Lent} {c : Counters} {m n : ℕ} {t : Lent
     worded-left =
         ap (wordedAll (wordsIn j t)) (operations-left call)
         ∙ map-every (IdIn (length axes)) (worded (wordsIn j t)) (worded axes)
-        (λ fields h. unfold worded in (rw (words-left call (fieldOf fields 1) h) refl)) (operationResults (programOf j) (endWork o j)) (records-in call)
+        (λ fields h. ap (λ (w : List ℕ). withWord w fields) (words-left call (fieldOf fields 1) h))
+        (operationResults (programOf j) (endWork o j)) (records-in call)
         ∙ ap₂ (λ (r : Rules) (n : ℕ). wordedAll (endOf r n (programOf j) .store .axes) (operationResults (programOf j) (endOf r n (programOf j))))
         rules rounds
 
@@ -158,3 +163,18 @@ module _ {o oₑ oₗ : Options} {j earlier later : Job} {s sₑ sₗ t tₑ t�
         swaps = whole .0 ∙ ends .swaps ∙ ap₂ _+_ (sym (part .0)) (sym (rest′ .0));
         merges = whole .1 ∙ ends .merges ∙ ap₂ _+_ (sym (part .1)) (sym (rest′ .1));
       }
+
+-- ---- outcomes
+
+operations-passed : {o : Options} {j : Job} {s : Lent} {c : Counters} {m n : ℕ} {t : Lent} → Called o j s Accepted c m n t
+    → checkOperations (j .counts .nodes) [] (operationRecords j) ≡ Accepted
+unfolding checkProgram
+operations-passed {o} {j} {s} call =
+    both-accepted _ _ (both-accepted _ _ (checking-program o j s (passed-checking call (inl refl))) .1) .0
+
+pub cut-outcomes : {o oₗ : Options} {j earlier later : Job} {s sₗ t tₗ : Lent} {c cₗ : Counters} {m n mₗ nₗ : ℕ}
+    → Called o j s Accepted c m n t → Called oₗ later sₗ Accepted cₗ mₗ nₗ tₗ → CutAtMeasurement j earlier later
+    → NamesNone (operationRecords earlier) (operationRecords later)
+cut-outcomes {j = j} {earlier = earlier} {later = later} x z cut =
+    names-none (j .counts .nodes) (later .counts .nodes) (operationRecords earlier) (operationRecords later)
+    (rw (← cut .joined) (operations-passed x)) (operations-passed z)

@@ -6,3 +6,4 @@ pub mod Strategies
 pub mod Named
 pub mod Cut
 pub mod Promises
+pub mod CutExamples

@@ -18,7 +18,7 @@ use Rattle.model.specs.declared.Answer.{Answer}
 use Rattle.model.specs.declared.Answer.the-variants.{Accepted, SliceShort, OptionOutside, NonHermitianAxis, ExpansionLimit}
 use Rattle.model.specs.declared.Counters.{Counters}
 use Rattle.model.specs.Interface.{numberOf, accepts, ofChecking, noCounters}
-use Rattle.model.specs.Program.{Job, Program, programOf}
+use Rattle.model.specs.Program.{Job, operationRecords, Program, programOf}
 use Rattle.model.specs.Rules.{rulesOf}
 use Rattle.model.specs.Rounds.{Work, mergeRounds, litinskiRounds}
 use Rattle.model.specs.Run.{Run, startOf, answerOf}
@@ -41,6 +41,7 @@ use Rattle.run_wellformed.specs.Points.{Reached}
 use Rattle.run_wellformed.specs.Lengths.{SameLengths, same-lengths}
 use Rattle.result_effect.specs.Calls.{call-fine, call-hermitian}
 use Rattle.run_effect.specs.RunEffect.{Effects, sourceEffect, resultEffect, run-keeps-effect}
+use Rattle.cutting.specs.Outcomes.{NamesNone}
 use Rattle.promises.specs.Slices.{Agree, agree-then, agree-zeros}
 use Rattle.promises.specs.Calls.{Replied, byChecking, byLimit, byRoot, done, called-of, passed-checking, nine-exactly}
 use Rattle.promises.specs.Calls.{number-low, number-checking, number-stopped, PlaceRefused, sixteen-where}
@@ -49,7 +50,7 @@ use Rattle.promises.specs.Named.{ChangesAt, stream-changes}
 use Rattle.promises.specs.Strategies.{endWork, merge-end, litinski-end, no-rounds-end}
 use Rattle.promises.specs.Left.{operationsIn, rowsIn, wordsIn, operations-left, effect-left}
 use Rattle.promises.specs.Alike.{SameOptionsButLimit, AlikeButRoundsAndLimit, AlikeButLimit, alike-rules, but-limit, not-two}
-use Rattle.promises.specs.Cut.{OneRound, CutAtMeasurement, wordedIn, calls-add-up}
+use Rattle.promises.specs.Cut.{OneRound, CutAtMeasurement, wordedIn, calls-add-up, cut-outcomes}
 
 -- ==== what the sentences speak of
 
@@ -413,10 +414,18 @@ module _ {o : Options} {j : Job} {s : Lent} {a : Answer} {c : Counters} {m n : �
 
 -- ==== Request M-113. "Cut a job at a measurement"
 
+-- "where the later part names no outcome of the earlier": where the whole and the later part are accepted it names none, by a measurement or a
+-- condition, since 8 refuses neither.
+-- Rules out: a table of outcomes that one call leaves to the next; 8 for conditions alone, with an outcome measured twice let through
+pub cut-names-none : {o oₗ : Options} {j earlier later : Job} {s sₗ t tₗ : Lent} {c cₗ : Counters} {m n mₗ nₗ : ℕ}
+    → Called o j s Accepted c m n t → Called oₗ later sₗ Accepted cₗ mₗ nₗ tₗ → CutAtMeasurement j earlier later
+    → NamesNone (operationRecords earlier) (operationRecords later)
+cut-names-none = cut-outcomes
+
 -- "With absorption off, merge strategy, one round .., cut directly after a measurement ..; both keep nodes and rows. If the whole and both parts
--- are accepted with all options alike but the word limit". This is stronger than the request: that "the later part names no outcome of the
--- earlier", that "the parts' swaps add up" and "no named change of setting" are not asked. "This must hold for both tie orders": the order is
--- among the options that are alike, whichever it is
+-- are accepted with all options alike but the word limit". This is stronger than the request: "no named change of setting", that the later part
+-- names no outcome of the earlier, and that "the parts' swaps add up" are not asked. "This must hold for both tie orders": the order is among
+-- the options that are alike, whichever it is
 module _ {o oₑ oₗ : Options} {j earlier later : Job} {s sₑ sₗ t tₑ tₗ : Lent} {c cₑ cₗ : Counters} {m n mₑ nₑ mₗ nₗ : ℕ}
     (x : Called o j s Accepted c m n t) (y : Called oₑ earlier sₑ Accepted cₑ mₑ nₑ tₑ) (z : Called oₗ later sₗ Accepted cₗ mₗ nₗ tₗ)
     (same : SameOptionsButLimit o oₑ) (alike : SameOptionsButLimit o oₗ) (one : OneRound o) (cut : CutAtMeasurement j earlier later) where
