@@ -168,7 +168,8 @@ uint32_t werdutxa_check(
     const uint32_t *result_operations, size_t result_operations_length,
     const uint32_t *result_rows, size_t result_rows_length);
 
-/* Rewriting: 0, or a refusal 1 to 10 or 16. */
+/* Rewriting: 0, or a refusal 1 to 10 or 16. A program may be cut behind a measurement and rewritten in two calls: docs/CUTTING.md says
+ * when these leave the whole's operations. */
 uint32_t werdutxa_rewrite(
     size_t qubits, size_t node_count, size_t operation_count,
     size_t lookback, size_t window, size_t candidates, size_t rounds,

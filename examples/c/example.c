@@ -1,5 +1,5 @@
-/* 01's example twice: as records through Rewriting, and as a listing through Listing; then a program in both orders of ties, and one whose
- * even rotations are absorbed at once, lazily, and lazily behind a named operation. */
+/* 01's example twice: as records through Rewriting, and as a listing through Listing; then a program in both orders of ties, one whose even
+ * rotations are absorbed at once, lazily, and lazily behind a named operation, and one that is cut at a measurement. */
 #include <inttypes.h>
 #include <stdio.h>
 #include <string.h>
@@ -78,7 +78,7 @@ static void rewrite(size_t limit) {
         printf("axis %zu: x %" PRIu64 ", z %" PRIu64 "\n", id, words[2 * id], words[2 * id + 1]);
 }
 
-/* memory for either of the two programs below, with any limit up to this */
+/* memory for each of the programs below, with any limit up to this */
 enum { SMALL_LIMIT = 64, SMALL_QUBITS = 2, SMALL_NODES = 5, SMALL_OPERATIONS = 7 };
 static uint64_t small_words[SMALL_LIMIT + 16];
 static uint32_t small_numbers[24 * (SMALL_NODES + SMALL_OPERATIONS + 2 * SMALL_QUBITS + SMALL_LIMIT / 2 + 1)];
@@ -161,6 +161,70 @@ static void rewrite_lazily(const char *name, bool lazy_cliffords, bool named, si
            name, checked, answer, counted.t_before, counted.t_after);
 }
 
+/* T rotations about X0, X1, X0, a measurement of Z0, and T rotations about X1, Z1, Z1; nodes and rows are those of the ties */
+static const uint32_t cut_operations[] = {
+    WERDUTXA_ROTATE, 1, 0, 1, WERDUTXA_NONE, WERDUTXA_NONE,
+    WERDUTXA_ROTATE, 3, 0, 1, WERDUTXA_NONE, WERDUTXA_NONE,
+    WERDUTXA_ROTATE, 1, 0, 1, WERDUTXA_NONE, WERDUTXA_NONE,
+    WERDUTXA_MEASURE, 2, 0, 0, 0, WERDUTXA_NONE,
+    WERDUTXA_ROTATE, 3, 0, 1, WERDUTXA_NONE, WERDUTXA_NONE,
+    WERDUTXA_ROTATE, 4, 0, 1, WERDUTXA_NONE, WERDUTXA_NONE,
+    WERDUTXA_ROTATE, 4, 0, 1, WERDUTXA_NONE, WERDUTXA_NONE,
+};
+
+/* what a call left, kept while the next one writes */
+struct result {
+    struct werdutxa_counted counted;
+    uint64_t words[LENGTH(small_words)];
+    uint32_t operations[LENGTH(small_operations)];
+};
+
+/* so many operations from a place on, without absorption, in one round */
+static struct result rewrite_part(const char *name, size_t place, size_t count) {
+    const struct werdutxa_program part = {
+        2, 5, count, tie_nodes, LENGTH(tie_nodes), cut_operations + WERDUTXA_OPERATION_FIELDS * place,
+        WERDUTXA_OPERATION_FIELDS * count, tie_rows, LENGTH(tie_rows),
+    };
+    struct werdutxa_options options = WERDUTXA_DEFAULTS;
+    options.lookback = 0;
+    options.window = 1;
+    options.rounds = 1;
+    options.clifford_to_frame = false;
+    options.limit = SMALL_LIMIT;
+    struct result result;
+    uint32_t answer = werdutxa_rewrite_program(&part, &options, &small_memory, &result.counted);
+    memcpy(result.words, small_words, sizeof result.words);
+    memcpy(result.operations, small_operations, sizeof result.operations);
+    printf("%s: rewriting %" PRIu32 ", %zu merges, %zu exchanges, %zu words\n",
+           name, answer, result.counted.merges, result.counted.swaps, result.counted.packed_words);
+    if (answer == WERDUTXA_ACCEPTED)
+        print_records(result.operations, result.counted.operations, WERDUTXA_OPERATION_FIELDS);
+    return result;
+}
+
+/* whether a part's operations are the whole's from a place on, in every field, with words in place of ids */
+static bool stands_at(const struct result *whole, size_t place, const struct result *part) {
+    for (size_t behind = 0; behind < part->counted.operations; behind++) {
+        const uint32_t *left = whole->operations + WERDUTXA_OPERATION_FIELDS * (place + behind);
+        const uint32_t *right = part->operations + WERDUTXA_OPERATION_FIELDS * behind;
+        /* on two qubits an axis has two words, x and z */
+        bool same_axis = memcmp(whole->words + 2 * left[1], part->words + 2 * right[1], 2 * sizeof(uint64_t)) == 0;
+        if (left[0] != right[0] || !same_axis || memcmp(left + 2, right + 2, 4 * sizeof(uint32_t)) != 0)
+            return false;
+    }
+    return true;
+}
+
+/* docs/CUTTING.md: directly behind the measurement, which has place 3 */
+static void cut(void) {
+    const struct result whole = rewrite_part("whole", 0, 7);
+    const struct result earlier = rewrite_part("earlier part", 0, 4);
+    const struct result later = rewrite_part("later part", 4, 3);
+    bool as_many = earlier.counted.operations + later.counted.operations == whole.counted.operations;
+    bool same = as_many && stands_at(&whole, 0, &earlier) && stands_at(&whole, earlier.counted.operations, &later);
+    printf("the parts' operations are the whole's: %s\n", same ? "yes" : "no");
+}
+
 int main(void) {
     rewrite(LIMIT);
     rewrite(LIMIT - 1);
@@ -174,5 +238,6 @@ int main(void) {
     rewrite_lazily("lazy", true, false, 0);
     rewrite_lazily("lazy behind the measurement", false, true, 3);
     rewrite_lazily("lazy behind a plain rotation", false, true, 2);
+    cut();
     return 0;
 }

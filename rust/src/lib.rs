@@ -7,6 +7,7 @@
 //! What is proved is the library that this crate links; what is here reads and writes its records.
 
 mod calls;
+mod cut;
 mod lent;
 mod listing;
 mod options;
@@ -18,6 +19,7 @@ mod show;
 mod values;
 
 pub use calls::{check, list_into, rewrite};
+pub use cut::NoCut;
 pub use lent::{Counted, LISTING_BYTES, MINUS_ONE, Memory, NONE, Records, Sizes, width};
 pub use listing::{Listing, list};
 pub use options::{LARGEST, Lazy, Options, Strategy};
@@ -31,3 +33,8 @@ pub use show::show;
 #[cfg(doctest)]
 #[doc = include_str!("../../docs/REFUSALS.md")]
 struct Refusals;
+
+/// The job of docs/CUTTING.md.
+#[cfg(doctest)]
+#[doc = include_str!("../../docs/CUTTING.md")]
+struct Cutting;

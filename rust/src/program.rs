@@ -183,6 +183,17 @@ impl Program {
         }
     }
 
+    /// Other operations on the same qubits, nodes and rows.
+    pub(crate) fn with_operations(&self, operations: &[OperationRecord]) -> Self {
+        Self {
+            qubits: self.qubits,
+            nodes: self.nodes.clone(),
+            operations: operations.to_vec(),
+            rows: self.rows.clone(),
+            places: self.places.clone(),
+        }
+    }
+
     pub(crate) fn node_records(&self) -> &[NodeRecord] {
         &self.nodes
     }

@@ -2,6 +2,7 @@
 
 pub mod checked;
 mod classes;
+pub mod cuts;
 pub mod directed;
 pub mod fixed;
 mod frame;

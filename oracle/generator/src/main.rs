@@ -5,6 +5,10 @@
 //! generator --packing SEED COUNT: small jobs, at most a few of each class of packing.
 //! generator --rewriting SEED COUNT: small jobs, at most a few of each class of runs and options.
 //! generator --tie-order SEED COUNT: small jobs whose result hangs on the order of ties, each in both orders.
+//! generator --places SEED COUNT: small jobs that name a place (M-112) and end as by neither setting.
+//! generator --cuts SEED COUNT: so many jobs cut behind a measurement (M-113): the whole, the earlier and the later part of each.
+//! generator --cuts --between-rotations SEED COUNT: the same cut where M-113 does not allow it.
+//! generator --small-cuts SEED COUNT: small jobs cut behind a measurement, one of each class.
 //! generator --large SEED QUBITS NODES OPERATIONS: one large job, with Rust's default options.
 //! generator --directed: the directed cases, each with a comment.
 //! generator --accepted, --refused: jobs at Checking's bounds, each with a comment.
@@ -18,7 +22,7 @@ use std::io::Write;
 use generator::random::{self, Shape};
 use generator::rng::Rng;
 use generator::{
-    checked, directed, fixed, large, limit, listings, named, packing, rewriting, tie_order,
+    checked, cuts, directed, fixed, large, limit, listings, named, packing, rewriting, tie_order,
 };
 use jobs::Job;
 
@@ -30,43 +34,23 @@ fn main() {
         ["--accepted"] => print!("{}", checked::accepted()),
         ["--refused"] => print!("{}", checked::refused()),
         ["--answers"] => print!("{}", checked::refusal_answers()),
-        ["--listings", seed, count] => {
-            write(had(listings::answered(
-                number(seed),
-                number(count) as usize,
-            )));
-        }
+        ["--listings", seed, count] => answered_listings(seed, count),
         ["--refused-listings"] => write(listings::refused()),
         ["--listing-answers"] => print!("{}", listings::refusal_answers()),
-        ["--packing", seed, count] => {
-            for job in had(packing::list(number(seed), number(count) as usize)) {
-                print!("{job}");
-            }
-        }
-        ["--rewriting", seed, count] => {
-            for job in had(rewriting::list(number(seed), number(count) as usize)) {
-                print!("{job}");
-            }
-        }
-        ["--tie-order", seed, count] => {
-            for job in had(tie_order::list(number(seed), number(count) as usize)) {
-                print!("{job}");
-            }
-        }
-        ["--places", seed, count] => {
-            for job in had(named::list(number(seed), number(count) as usize)) {
-                print!("{job}");
-            }
-        }
-        ["--fixed", seed, count] => {
-            for job in had(fixed::list(number(seed), number(count) as usize)) {
-                print!("{job}");
-            }
-        }
+        ["--packing", seed, count] => listed(packing::list, seed, count),
+        ["--rewriting", seed, count] => listed(rewriting::list, seed, count),
+        ["--tie-order", seed, count] => listed(tie_order::list, seed, count),
+        ["--places", seed, count] => listed(named::list, seed, count),
+        ["--small-cuts", seed, count] => listed(cuts::list, seed, count),
+        ["--fixed", seed, count] => listed(fixed::list, seed, count),
         ["--large", seed, qubits, nodes, operations] => {
             let [qubits, nodes, operations] =
                 [qubits, nodes, operations].map(|n| number(n) as usize);
             print!("{}", large::job(number(seed), qubits, nodes, operations));
+        }
+        ["--cuts", seed, count] => threes(cuts::at_a_measurement, seed, count),
+        ["--cuts", "--between-rotations", seed, count] => {
+            threes(cuts::between_rotations, seed, count);
         }
         ["--second-first", "--limits", seed, count] => limits(random::second_first, seed, count),
         ["--named", "--limits", seed, count] => limits(random::named, seed, count),
@@ -74,16 +58,19 @@ fn main() {
         ["--second-first", seed, count] => full(random::second_first, seed, count),
         ["--named", seed, count] => full(random::named, seed, count),
         [seed, count] => full(random::job, seed, count),
-        _ => {
-            eprintln!("generator [--second-first | --named] [--limits] SEED COUNT");
-            eprintln!("generator --fixed | --packing | --rewriting SEED COUNT");
-            eprintln!("generator --tie-order | --places | --listings SEED COUNT");
-            eprintln!("generator --large SEED QUBITS NODES OPERATIONS");
-            eprintln!("generator --directed | --accepted | --refused | --answers");
-            eprintln!("generator --refused-listings | --listing-answers");
-            std::process::exit(2);
-        }
+        _ => usage(),
     }
+}
+
+fn usage() {
+    eprintln!("generator [--second-first | --named] [--limits] SEED COUNT");
+    eprintln!("generator --fixed | --packing | --rewriting SEED COUNT");
+    eprintln!("generator --tie-order | --places | --small-cuts | --listings SEED COUNT");
+    eprintln!("generator --cuts [--between-rotations] SEED COUNT");
+    eprintln!("generator --large SEED QUBITS NODES OPERATIONS");
+    eprintln!("generator --directed | --accepted | --refused | --answers");
+    eprintln!("generator --refused-listings | --listing-answers");
+    std::process::exit(2);
 }
 
 /// What was asked for; where it cannot be had, nothing is printed but why.
@@ -92,6 +79,29 @@ fn had<T>(list: Result<T, String>) -> T {
         eprintln!("{why}");
         std::process::exit(1)
     })
+}
+
+fn answered_listings(seed: &str, count: &str) {
+    let listings = listings::answered(number(seed), number(count) as usize);
+    write(had(listings));
+}
+
+/// A list of jobs, or why it cannot be had.
+type List = fn(u64, usize) -> Result<Vec<Job>, String>;
+
+fn listed(list: List, seed: &str, count: &str) {
+    for job in had(list(number(seed), number(count) as usize)) {
+        print!("{job}");
+    }
+}
+
+/// Random cuts, each as three jobs.
+fn threes(cut: cuts::Cut, seed: &str, count: &str) {
+    let mut rng = Rng::new(number(seed));
+    for _ in 0..number(count) {
+        let three = cuts::random(&mut rng, &Shape::CUT, cut);
+        three.iter().for_each(|job| print!("{job}"));
+    }
 }
 
 /// Listings may have any bytes.

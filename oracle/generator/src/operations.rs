@@ -12,6 +12,8 @@ pub struct Operations<'a> {
     /// Percent of measurements and of conditional rotations.
     barriers: usize,
     measured: Vec<i64>,
+    /// How many of these no later operation may name.
+    sealed: usize,
     pub records: Vec<[i64; 6]>,
 }
 
@@ -34,6 +36,7 @@ impl<'a> Operations<'a> {
             angles,
             barriers,
             measured: Vec::new(),
+            sealed: 0,
             records: Vec::new(),
         }
     }
@@ -41,6 +44,10 @@ impl<'a> Operations<'a> {
     /// Up to `most` operations, or a few more, in bursts.
     pub fn fill(&mut self, acted: &[usize], most: usize) {
         let count = self.rng.between(0, most);
+        self.up_to(acted, count);
+    }
+
+    fn up_to(&mut self, acted: &[usize], count: usize) {
         while self.records.len() < count {
             match self.rng.below(10) {
                 0 => self.echo(),
@@ -50,10 +57,53 @@ impl<'a> Operations<'a> {
         }
     }
 
+    /// Two sides with a measurement between them (M-113): the later names no outcome of the earlier, and has axes of its own.
+    pub fn two_sides(&mut self, acted: &[usize], most: usize) {
+        self.barriers = self.rng.pick(&[0, 10, 20]);
+        self.side(acted, most);
+        let before = self.measured.len();
+        while self.measured.len() == before {
+            self.measure();
+        }
+        self.sealed = self.measured.len();
+        let own = pool::random(self.rng, self.program, acted, 3);
+        self.pool.extend(own);
+        self.side(acted, most);
+    }
+
+    /// As `fill`, now and then with an exchange in front, something to merge and a conditional rotation behind it.
+    fn side(&mut self, acted: &[usize], most: usize) {
+        if acted.len() > 1 && self.rng.chance(40) {
+            self.exchange(acted);
+        }
+        if self.rng.chance(40) {
+            self.echo();
+        }
+        if self.rng.chance(30) {
+            self.measure_and_name(acted);
+        }
+        let count = self.records.len() + self.rng.between(0, most);
+        self.up_to(acted, count);
+    }
+
+    /// A measurement, and behind a few others a conditional rotation.
+    fn measure_and_name(&mut self, acted: &[usize]) {
+        self.measure();
+        let few = self.records.len() + self.rng.between(0, 4);
+        self.up_to(acted, few);
+        if self.can_name() {
+            self.conditional();
+        }
+    }
+
+    fn can_name(&self) -> bool {
+        self.measured.len() > self.sealed
+    }
+
     fn one(&mut self) {
         if self.rng.chance(self.barriers) {
             self.measure();
-        } else if self.rng.chance(self.barriers) && !self.measured.is_empty() {
+        } else if self.rng.chance(self.barriers) && self.can_name() {
             self.conditional();
         } else {
             let axis = self.axis();
@@ -104,7 +154,7 @@ impl<'a> Operations<'a> {
     fn conditional(&mut self) {
         let axis = self.axis();
         let angle = self.rng.below(8) as i64;
-        let outcome = self.rng.pick(&self.measured);
+        let outcome = self.rng.pick(&self.measured[self.sealed..]);
         let target = self.unused();
         self.records
             .push([3, axis.0, axis.1, angle, outcome, target]);

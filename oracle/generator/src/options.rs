@@ -33,6 +33,18 @@ pub fn named(rng: &mut Rng, place: usize) -> Options {
     }
 }
 
+/// What M-113 asks: merge, absorption off, one round, no named place. Windows and both orders of ties, so that much is exchanged.
+pub fn cut(rng: &mut Rng) -> Options {
+    Options {
+        window: if rng.chance(10) { 0 } else { rng.between(1, 6) },
+        rounds: 1,
+        clifford_to_frame: false,
+        second_exchange_first: rng.chance(50),
+        litinski: false,
+        ..random(rng)
+    }
+}
+
 /// Little is merged by streams, so that exchanges do the work, in many rounds.
 fn many_rounds(rng: &mut Rng) -> Options {
     Options {

@@ -24,6 +24,14 @@ impl Shape {
         wide: &[0, 64, 64, 65, 65, 130, 130, 1000],
     };
 
+    /// For cuts: operations are counted for each side.
+    pub const CUT: Self = Self {
+        most_qubits: 6,
+        most_operations: 32,
+        wide_percent: 8,
+        wide: &[0, 64, 64, 65, 65, 130, 130],
+    };
+
     pub const SMALL: Self = Self {
         most_qubits: 3,
         most_operations: 24,
@@ -64,6 +72,16 @@ pub fn named(rng: &mut Rng, shape: &Shape) -> Job {
     }
 }
 
+/// One to be cut at a measurement (M-113), with the largest limit and no spoilt phase.
+pub fn to_be_cut(rng: &mut Rng, shape: &Shape) -> Job {
+    let mut job = unlimited_by(rng, shape, |operations, acted, most| {
+        operations.two_sides(acted, most)
+    });
+    job.options = options::cut(rng);
+    litter(rng, &mut job);
+    job
+}
+
 /// The same with options of a kind.
 pub fn job_by(rng: &mut Rng, shape: &Shape, options: fn(&mut Rng) -> Options) -> Job {
     let options = options(rng);
@@ -88,6 +106,16 @@ fn finished(rng: &mut Rng, mut job: Job) -> Job {
 
 /// A job without a spoilt phase, with the largest limit.
 pub fn unlimited(rng: &mut Rng, shape: &Shape) -> Job {
+    unlimited_by(rng, shape, |operations, acted, most| {
+        operations.fill(acted, most)
+    })
+}
+
+/// Puts up to so many operations on these qubits.
+type Fill = fn(&mut Operations, &[usize], usize);
+
+/// The same with its operations from `fill`.
+fn unlimited_by(rng: &mut Rng, shape: &Shape, fill: Fill) -> Job {
     let qubits = if rng.chance(shape.wide_percent) {
         rng.pick(shape.wide)
     } else {
@@ -110,7 +138,7 @@ pub fn unlimited(rng: &mut Rng, shape: &Shape) -> Job {
         shape.most_operations
     };
     let mut operations = Operations::new(rng, &mut program, pool.clone());
-    operations.fill(&acted, most);
+    fill(&mut operations, &acted, most);
     let operations = operations.records;
     let rows = rows_first.unwrap_or_else(|| frame::random(rng, &mut program, &pool));
     Job {

@@ -11,6 +11,8 @@ pub type Counted = [usize; COUNTS];
 
 const COUNTS: usize = 14;
 
+pub const MERGES: usize = 2;
+pub const SWAPS: usize = 3;
 pub const OPERATIONS: usize = 5;
 pub const AXES: usize = 6;
 

@@ -1,6 +1,10 @@
 //! Reads jobs, rewrites each through the static library, and prints what `driver --as-called` prints, or `driver --memory`.
+//! With `--cuts` it compares jobs in threes, a whole and its two parts (M-113); `--count` counts differences in place of stopping.
 //!
 //! ours [--memory] < jobs
+//! ours --cuts [--count] < jobs
+
+mod cuts;
 
 use std::io::{self, Read, Write};
 
@@ -9,15 +13,27 @@ use ours::{AXES, Call, Counted, OPERATIONS};
 
 fn main() -> io::Result<()> {
     let args: Vec<String> = std::env::args().skip(1).collect();
-    let answer = match args.iter().map(String::as_str).collect::<Vec<_>>()[..] {
-        [] => answer,
-        ["--memory"] => memory,
-        _ => panic!("ours [--memory] < jobs"),
-    };
     let mut text = String::new();
     io::stdin().read_to_string(&mut text)?;
+    let jobs = jobs::read_jobs(&text);
+    match args.iter().map(String::as_str).collect::<Vec<_>>()[..] {
+        [] => print(jobs, answer),
+        ["--memory"] => print(jobs, memory),
+        ["--cuts"] => {
+            cuts::check(&jobs.collect::<Vec<_>>());
+            Ok(())
+        }
+        ["--cuts", "--count"] => {
+            cuts::count(&jobs.collect::<Vec<_>>());
+            Ok(())
+        }
+        _ => panic!("ours [--memory | --cuts [--count]] < jobs"),
+    }
+}
+
+fn print(jobs: impl Iterator<Item = Job>, answer: fn(&Job) -> String) -> io::Result<()> {
     let mut out = io::BufWriter::new(io::stdout().lock());
-    for job in jobs::read_jobs(&text) {
+    for job in jobs {
         write!(out, "{}", answer(&job))?;
     }
     out.flush()
