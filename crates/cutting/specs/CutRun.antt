@@ -1,6 +1,6 @@
 -- 02, M-113, about runs: with absorption off, the merge strategy and one round, a program cut directly after a measurement. Assumes nothing.
 use mathlib.Core.Path.{_≡_, refl, sym, ap, ap₂, _∙_}
-use mathlib.Core.Bool.{Bool, true, false}
+use mathlib.Core.Bool.{false}
 use mathlib.Core.List.{List, [], _∷_, _++_, map, map-append}
 use Prim.Native.Nat.{ℕ, _+_, _<_}
 use native.Mathlib.Nat.{zero-add}
@@ -18,19 +18,19 @@ use Rattle.model.specs.Lists.{if_then_else_}
 use Rattle.model.specs.Program.{measure, Operation, Program}
 use Rattle.model.specs.Rules.{Rules}
 use Rattle.model.specs.Words.{Value, wordOf}
-use Rattle.model.specs.Roots.{roots, rootRows, operationRoot}
+use Rattle.model.specs.Roots.{operationRoot}
 use Rattle.model.specs.Packing.{packed, valuesOf, signedAxis}
 use Rattle.model.specs.Items.{Item, barrier}
 use Rattle.model.specs.Rounds.{Work, passes}
 use Rattle.model.specs.Run.{itemsFrom, startOf, endOf}
 use Rattle.model.specs.Results.{noOperation, operationAt, itemRecord, operationResults}
 use Rattle.theory.specs.Cases.{if-true, if-false}
-use Rattle.theory.specs.Every.{Every, every-left, every-unmap, every-weaken}
+use Rattle.theory.specs.Every.{Every, every-weaken}
 use Rattle.theory.specs.Checked.{Fine}
 use Rattle.words_wellformed.specs.StoredWords.{StoredWords}
 use Rattle.words_wellformed.specs.PackedWords.{packed-stored}
 use Rattle.words_wellformed.specs.Wellformed.{work-ids}
-use Rattle.words_wellformed.specs.RunWords.{RootIn, roots-rooted, start-well}
+use Rattle.words_wellformed.specs.RunWords.{RootIn, operations-rooted, start-well}
 use Rattle.run_wellformed.specs.Points.{passes-reached}
 use Rattle.result_effect.specs.Records.{ItemStands, point-stands}
 use Rattle.cutting.specs.Renaming.{Renames, renamed, Within, into, into-renames, stored-front, stored-behind, within-self}
@@ -111,12 +111,10 @@ module _ (r : Rules) (rules : MergesOnly r) (p : Program) (runs : Runs p) where
 
   -- every operation's axis is stored
   operations-stored : Every (OperationStored axesOf (valuesOf p)) (p .operations)
-  unfolding roots operationRoot
+  unfolding operationRoot
   operations-stored =
       every-weaken (λ (op : Operation). RootIn axesOf (valuesOf p) (operationRoot op)) (OperationStored axesOf (valuesOf p)) (λ op h. h .stored)
-      (p .operations)
-      (every-unmap (RootIn axesOf (valuesOf p)) operationRoot (p .operations)
-      (every-left (RootIn axesOf (valuesOf p)) (map operationRoot (p .operations)) (rootRows p) (roots-rooted p (runs .fine) (runs .hermitian))))
+      (p .operations) (operations-rooted p (runs .fine) (runs .hermitian))
 
   stands : Every (ItemStands (p .operations)) (ended .items)
   stands =
@@ -139,7 +137,7 @@ module _ (r : Rules) (rules : MergesOnly r) (p : Program) (runs : Runs p) where
 
 -- ---- indices of operations in the whole
 
--- those of the first part stay; an index outside it goes to one outside the whole
+-- those of the earlier part stay; an index outside it goes to one outside the whole, so that records agree at every index
 firstIndex : List Operation → List Operation → ℕ → ℕ
 firstIndex xs ys o = if ltb o (length xs) then o else length xs + length ys + o
 

@@ -8,7 +8,7 @@ use Prim.Native.Nat.{ℕ}
 use lib.Dec.{eqb}
 use borrow.Author.Tests.{eqb-true, eq-eqb, ne-eqb}
 use Rattle.model.specs.declared.Answer.the-variants.{Accepted, BadOperation, BadReference, BadOutcome}
-use Rattle.model.specs.Lists.{if_then_else_, anyOf, member}
+use Rattle.model.specs.Lists.{anyOf, member}
 use Rattle.model.specs.Program.{fieldOf}
 use Rattle.model.specs.Checking.{badOutcome, measured, checkOperation, checkOperations}
 use Rattle.theory.specs.Cases.{by-if, on-if, neither, or-right, and-left, and-right}

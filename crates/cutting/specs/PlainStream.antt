@@ -110,7 +110,7 @@ module _ (l : ℕ) (st : Store) (stored : StoredWords l (st .axes)) where
       ∙ ap (λ (v : Value). record { pass = passOf st x; axis = idOf (st .axes) (v .word); turns = v .turns }) (image-same x a h)
       ∙ ap (λ (n : ℕ). record { pass = passOf st x; axis = n; turns = 0 }) (stored .distinct a h)
 
-  module _ (r : Rules) (none : r .absorption ≡ off) where
+  module _ (r : Rules) (is-off : r .absorption ≡ off) where
     merge-same : (x : Puts) (j a k : ℕ) → mergeAt l off (countMerge (passOf st x)) j a k ≡ passOf st (mergeRot x j a k)
     unfolding mergeAt countMerge mergeRot leaveZero setAngle withLast if_then_else_
     merge-same x j a k = sym (of-if (passOf st) (eqb k 0) _ _)
@@ -121,7 +121,7 @@ module _ (l : ℕ) (st : Store) (stored : StoredWords l (st .axes)) where
     take-same x a k nowhere = refl
     take-same x a k (at j) =
         ap (λ (y : Pass). if canReach l (r .lookback) (st .axes) (x .out) j a then y else passOf st (putRot x a k))
-        (ap (λ (m : Absorption). mergeAt l m (countMerge (passOf st x)) j a ((angleAt (x .out) j + k) % 8)) none
+        (ap (λ (m : Absorption). mergeAt l m (countMerge (passOf st x)) j a ((angleAt (x .out) j + k) % 8)) is-off
         ∙ merge-same x j a ((angleAt (x .out) j + k) % 8))
         ∙ sym (of-if (passOf st) (canReach l (r .lookback) (st .axes) (x .out) j a) _ _)
 
@@ -129,20 +129,20 @@ module _ (l : ℕ) (st : Store) (stored : StoredWords l (st .axes)) where
     rotation-carried : (x : Puts) (a : ℕ) → a < length (st .axes)
         → carryRotation l (r .absorption) (passOf st x) a ≡ record { pass = passOf st x; axis = a; turns = 0 }
     unfolding carryRotation
-    rotation-carried x a h = ap (λ (m : Absorption). carryRotation l m (passOf st x) a) none ∙ carried-same x a h
+    rotation-carried x a h = ap (λ (m : Absorption). carryRotation l m (passOf st x) a) is-off ∙ carried-same x a h
 
     -- so is a barrier, for which nothing waits
     barrier-carried : (x : Puts) (a : ℕ) → a < length (st .axes)
         → carried l (absorbAllWaiting l (r .absorption) (passOf st x)) a ≡ record { pass = passOf st x; axis = a; turns = 0 }
     unfolding absorbAllWaiting
-    barrier-carried x a h = ap (λ (m : Absorption). carried l (absorbAllWaiting l m (passOf st x)) a) none ∙ carried-same x a h
+    barrier-carried x a h = ap (λ (m : Absorption). carried l (absorbAllWaiting l m (passOf st x)) a) is-off ∙ carried-same x a h
 
     took-same : (x : Puts) (a k : ℕ)
         → takeRotation l r true (passOf st x) a (withSign 0 k) ≡ passOf st (mergeOrPut l (r .lookback) (st .axes) x a k (x .last a))
     unfolding takeRotation withSign if_then_else_
     took-same x a k =
         ap (λ (m : Absorption). if isAtOnce m && isEven k then absorb l (passOf st x) a k else mergeOrPutOut l r (passOf st x) a k (x .last a))
-        none
+        is-off
         ∙ take-same x a k (x .last a)
 
     item-same : (x : Puts) (i : Item) → axisOf i < length (st .axes)
@@ -159,7 +159,7 @@ module _ (l : ℕ) (st : Store) (stored : StoredWords l (st .axes)) where
     pub stream-same : (x : Puts) (is : List Item) → Every (λ i. axisOf i < length (st .axes)) is
         → stream l r true (passOf st x) is ≡ passOf st (putItems l (r .lookback) (st .axes) x is)
     unfolding stream putItems
-    stream-same x [] h = unfold absorbAllWaiting in (rw none refl)
+    stream-same x [] h = unfold absorbAllWaiting in (rw is-off refl)
     stream-same x (i ∷ is) h =
-        ap₂ (λ (s : Rules) (p : Pass). stream l s true p is) (stays-off r i none) (item-same x i (h .0))
+        ap₂ (λ (s : Rules) (p : Pass). stream l s true p is) (stays-off r i is-off) (item-same x i (h .0))
         ∙ stream-same (putItem l (r .lookback) (st .axes) x i) is (h .1)

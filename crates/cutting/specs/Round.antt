@@ -13,7 +13,7 @@ use Rattle.model.specs.Lists.{if_then_else_, anyOf}
 use Rattle.model.specs.Rules.{isOn, Rules}
 use Rattle.model.specs.Items.{Rot, Item, isEvenRotation, dropZeros, Segment, Rewritten, rewriteFrom, rewriteSegments}
 use Rattle.model.specs.Exchange.{swapsFrom, swaps}
-use Rattle.model.specs.Stream.{Pass, carryRows, begin}
+use Rattle.model.specs.Stream.{carryRows, begin, stream}
 use Rattle.model.specs.Rounds.{Work, streamPass, exchangePass, mergeRound, roundsFrom, closingStream, mergeRounds}
 use Rattle.theory.specs.Cases.{of-if}
 use Rattle.theory.specs.Every.{Every}
@@ -21,7 +21,7 @@ use Rattle.theory.specs.StreamState.{axisOf}
 use Rattle.words_wellformed.specs.StoredWords.{StoredWords}
 use Rattle.cutting.specs.Renaming.{Renames, renamed}
 use Rattle.cutting.specs.RenamedExchange.{swaps-same}
-use Rattle.cutting.specs.PlainStream.{Puts, putItems, nothingOut, stream-same}
+use Rattle.cutting.specs.PlainStream.{Puts, putItems, nothingOut, passOf, stream-same}
 use Rattle.cutting.specs.RenamedStream.{Follows, items-follow}
 use Rattle.cutting.specs.RenamedSegments.{dropZeros-same, rewriteFrom-same}
 
@@ -85,7 +85,7 @@ module _ (l : ℕ) (r : Rules) where
       ∙ sym (of-if (withRewritten v) (eqb (r .exchange .window) 0) (record { items = v .items; changes = 0 })
       (rewriteSegments (exchanged (v .store .axes)) (v .items)))
 
-  module _ (none : r .absorption ≡ off) (w : Work) (stored : StoredWords l (w .store .axes))
+  module _ (is-off : r .absorption ≡ off) (w : Work) (stored : StoredWords l (w .store .axes))
       (ids : Every (λ i. axisOf i < length (w .store .axes)) (w .items)) where
     abbrev after : Puts
     after = streamed (w .store .axes) (w .items)
@@ -103,15 +103,9 @@ module _ (l : ℕ) (r : Rules) where
     stream-is : streamPass l r true w ≡ streamedWork
     unfolding streamPass carryRows begin if_then_else_
     stream-is =
-        ap (λ (p : Pass). let c = carryRows l p (w .rows) in record {
-          store = c .pass .store;
-          items = dropZeros (p .out);
-          rows = c .rows;
-          merges = w .merges + p .merges;
-          swaps = w .swaps;
-          absorbed = w .absorbed + p .absorbed;
-        })
-        (stream-same l (w .store) stored r none nothingOut (w .items) ids)
+        let e : stream l r true (begin (w .store)) (w .items) ≡ passOf (w .store) after
+        = stream-same l (w .store) stored r is-off nothingOut (w .items) ids in
+        rw e refl
 
     -- "rounds of stream and exchange": one of them, and no closing stream, since absorption is off
     pub one-round : mergeRounds l r 1 w
@@ -126,7 +120,7 @@ module _ (l : ℕ) (r : Rules) where
     unfolding mergeRounds roundsFrom mergeRound closingStream if_then_else_ roundOf
     one-round =
         let v = exchangePass l r (streamPass l r true w) in
-        ap (λ (m : Absorption). if isOn m && anyOf isEvenRotation (v .items) then streamPass l r true v else v) none
+        ap (λ (m : Absorption). if isOn m && anyOf isEvenRotation (v .items) then streamPass l r true v else v) is-off
         ∙ ap (exchangePass l r) stream-is ∙ exchange-is streamedWork
 
   -- ---- renamed, behind a part that is done

@@ -17,7 +17,7 @@ use Rattle.model.specs.declared.Answer.{Answer}
 use Rattle.model.specs.declared.Answer.the-variants.{Accepted, SliceShort, NonHermitianAxis}
 use Rattle.model.specs.declared.Strategy.the-variants.{Litinski}
 use Rattle.model.specs.Interface.{numberOf, ofChecking, noCounters}
-use Rattle.model.specs.Program.{Job, programOf}
+use Rattle.model.specs.Program.{Job, operationRecords, programOf}
 use Rattle.model.specs.Rules.{rulesOf}
 use Rattle.model.specs.Rounds.{Work}
 use Rattle.model.specs.Run.{startOf}
@@ -28,6 +28,7 @@ use Rattle.theory.specs.WithoutExchange.{inOrder, reply-in-order}
 use Rattle.theory.specs.WithoutAbsorption.{lazily, reply-unnamed}
 use Rattle.run_wellformed.specs.Points.{Reached}
 use Rattle.run_effect.specs.RunEffect.{Effects, sourceEffect, resultEffect}
+use Rattle.cutting.specs.Outcomes.{NamesNone}
 use Rattle.promises.specs.Calls.{PlaceRefused}
 use Rattle.promises.specs.Named.{ChangesAt}
 use Rattle.promises.specs.Left.{operationsIn, rowsIn, wordsIn}
@@ -212,6 +213,12 @@ module _ {o : Options} {j : Job} {s : Lent} {r : ℕ} {k : List ℕ} {t : Lent} 
   swaps-are : swapsCounted k ≡ rewriting o j s .counters .swaps
   unfolding countedBy
   swaps-are = ap swapsCounted (call .counts)
+
+-- "where the later part names no outcome of the earlier": an accepted later part of an accepted whole names none
+pub cut-names-none : {o oₗ : Options} {j earlier later : Job} {s sₗ t tₗ : Lent} {r rₗ : ℕ} {k kₗ : List ℕ} → ExportedCall o j s r k t
+    → ExportedCall oₗ later sₗ rₗ kₗ tₗ → r ≡ 0 → rₗ ≡ 0 → CutAtMeasurement j earlier later
+    → NamesNone (operationRecords earlier) (operationRecords later)
+cut-names-none x z done doneₗ = rewriting-promises.cut-names-none (rewriting-called-as x Accepted done) (rewriting-called-as z Accepted doneₗ)
 
 -- "With absorption off, merge strategy, one round .., cut directly after a measurement ..; both keep nodes and rows. If the whole and both parts
 -- are accepted with all options alike but the word limit": for both tie orders, and stronger than the request as `promises` says

@@ -18,7 +18,7 @@ use Rattle.theory.specs.WithoutExchange.{inOrder}
 use Rattle.cutting.specs.Worded.{WordedOperation, withWord}
 use Rattle.promises.specs.Slices.{kindsRead}
 use Rattle.promises.specs.Left.{operationsIn}
-use Rattle.promises.specs.Alike.{SameOptionsButLimit}
+use Rattle.promises.specs.Alike.{same-with-limit}
 use Rattle.promises.specs.Cut.{wordedIn}
 use Rattle.promises.specs.Promises.{cut-results}
 
@@ -137,28 +137,12 @@ called o operations e = record {
       ap (λ (a : Answer). record { answer = a; counters = x .counters; operations = x .operations; axes = x .axes; lent = x .lent }) (sym e);
 }
 
-same : (limit : ℕ) → SameOptionsButLimit (at 32) (at limit)
-same limit = record {
-  others = record {
-    lookback = refl;
-    window = refl;
-    candidates = refl;
-    absorption = refl;
-    eager = refl;
-    secondFirst = refl;
-    lazy = refl;
-    strategy = refl;
-    depth = refl;
-  };
-  rounds = refl;
-}
-
 -- at three limits
 pub promised : left (at 32) (earlier ++ later) ≡ left (at 24) earlier ++ left (at 20) later
 unfolding everything
 promised =
     cut-results (called (at 32) (earlier ++ later) refl) (called (at 24) earlier refl) (called (at 20) later refl)
-    (same 24) (same 20) (record { absorption = refl; strategy = refl; rounds = refl })
+    (same-with-limit (at 32) 24) (same-with-limit (at 32) 20) (record { absorption = refl; strategy = refl; rounds = refl })
     (record {
       earlier-keeps = record { qubits = refl; nodes = refl; rows = refl };
       later-keeps = record { qubits = refl; nodes = refl; rows = refl };

@@ -37,8 +37,7 @@ use Rattle.run_wellformed.specs.Memory.{axes-within, width-positive}
 use Rattle.run_wellformed.specs.Points.{passes-reached}
 use Rattle.run_wellformed.specs.RunWellFormed.{end-formed}
 use Rattle.run_wellformed.specs.Lengths.{operations-fit, long-enough, same-lengths}
-use Rattle.effect.specs.Phase.{Quarter}
-use Rattle.effect.specs.Effect.{Op, effectFrom}
+use Rattle.effect.specs.Effect.{effectFrom}
 use Rattle.effect.specs.Packed as PackedWords
 use Rattle.stream_effect.specs.PackedAxes.{packedWord}
 use Rattle.result_effect.specs.Definitions.{resultOpOfKind, resultOp, resultOps, resultRow, resultRows}

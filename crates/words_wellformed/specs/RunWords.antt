@@ -247,20 +247,27 @@ module _ (Angles : Type 0) (axes : List (List ℕ)) (vs : List Value) where
       (itemsFrom-well (suc o) ops (h .1) (small .1))
 
 -- every root is stored, and its total phase is even
-pub roots-rooted : (p : Program) → Fine p → packed p .refused ≡ false → Every (RootIn (packed p .store .axes) (valuesOf p)) (roots p)
+roots-rooted : (p : Program) → Fine p → packed p .refused ≡ false → Every (RootIn (packed p .store .axes) (valuesOf p)) (roots p)
 roots-rooted p f h =
     in-every (RootIn (packed p .store .axes) (valuesOf p)) (roots p)
     (λ r k. packed-rooted p (f .ordered) h r k (every-in (λ (x : PauliRef). x .node < length (p .nodes)) (roots p) (roots-in p f) r k))
+
+-- every operation's, for one
+pub operations-rooted : (p : Program) → Fine p → packed p .refused ≡ false
+    → Every (λ (x : Operation). RootIn (packed p .store .axes) (valuesOf p) (operationRoot x)) (p .operations)
+unfolding roots
+operations-rooted p f h =
+    let Rooted = RootIn (packed p .store .axes) (valuesOf p) in
+    every-unmap Rooted operationRoot (p .operations) (every-left Rooted (map operationRoot (p .operations)) (rootRows p) (roots-rooted p f h))
 
 -- the work that a run starts with
 pub start-well : (p : Program) (Angles : Type 0) → Fine p → packed p .refused ≡ false → WellWork (width (p .qubits)) Angles (startOf p)
 unfolding startOf
 start-well p Angles f h = record {
   stored = packed-stored p f;
-  items = itemsFrom-well Angles axes vs 0 (p .operations) (every-unmap (RootIn axes vs) operationRoot (p .operations)
-      (every-left (RootIn axes vs) (map operationRoot (p .operations)) (rootRows p) both)) (f .angles);
+  items = itemsFrom-well Angles axes vs 0 (p .operations) (operations-rooted p f h) (f .angles);
   rows = every-map (RootIn axes vs) (WellRow Angles (length axes)) (signedAxis axes vs) (signedAxis-well Angles axes vs) (rootRows p)
-      (every-right (RootIn axes vs) (map operationRoot (p .operations)) (rootRows p) both);
+      (every-right (RootIn axes vs) (map operationRoot (p .operations)) (rootRows p) (unfold roots in (roots-rooted p f h)));
 }
   where
     axes : List (List ℕ)
@@ -268,6 +275,3 @@ start-well p Angles f h = record {
 
     vs : List Value
     vs = valuesOf p
-
-    both : Every (RootIn (packed p .store .axes) (valuesOf p)) (map operationRoot (p .operations) ++ rootRows p)
-    both = unfold roots in (roots-rooted p f h)
