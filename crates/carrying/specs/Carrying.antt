@@ -8,7 +8,7 @@ use Rattle.bits.specs.Bit.{bit}
 use Rattle.model.specs.Words.{Value, wordOf, asValue, Store, idOf, intern}
 use Rattle.model.specs.Clifford.{Touched, imageWords, wordImage}
 use Rattle.model.specs.Lists.{anyOf, member}
-use Rattle.theory.specs.Ids.{id-stored, id-in}
+use Rattle.theory.specs.Ids.{id-stored, intern-old, id-in}
 use Rattle.layout.specs.declared.Shape.{Shape}
 use Rattle.layout.specs.Rows.{fSlot, fPhase, imageSignature, axesRows}
 use Rattle.layout.specs.Only.{Only, only-none}
@@ -21,7 +21,7 @@ use Rattle.interning.specs.declared.Interned.{Interned}
 use Rattle.interning.specs.declared.Interned.the-variants.{Axis, Full}
 use Rattle.interning.specs.declared.StoredAxis.{StoredAxis}
 use Rattle.axes.specs.declared.Sizes.{Sizes}
-use Rattle.interning.specs.Intern.{InternPre, Stores, intern-old}
+use Rattle.interning.specs.Intern.{InternPre, Stores}
 use Rattle.interning.specs.Stored.{HasAxis, NoRoom, InternedAs, interned-is}
 use Rattle.steps.specs.declared.State.{State}
 use Rattle.steps.specs.declared.Step.{Step}

@@ -18,14 +18,10 @@ use Rattle.cutting.specs.RenamedSegments.{dropZeros-same, rewriteFrom-cu
 use Rattle.cutting.specs.Round.{Rounded, roundedBy, renamedRewritten, renamedRound, streamed, exchanged, exchangedItems, roundOf}
 use Rattle.cutting.specs.Round.{none-exchanged, streamed-same, merges-same, exchanged-behind, exchanged-same}
 
--- zeros are removed in each part
-drop-append : (is js : List Item) → dropZeros (is ++ js) ≡ dropZeros is ++ dropZeros js
-unfolding dropZeros
-drop-append is js = keep-append stays is js
-
+-- zeros before a barrier are removed
 drop-barrier : (is : List Item) (o a s : ℕ) → dropZeros (is ++ (barrier o a s ∷ [])) ≡ dropZeros is ++ (barrier o a s ∷ [])
-drop-barrier is o a s =
-    drop-append is (barrier o a s ∷ []) ∙ ap (λ (b : List Item). dropZeros is ++ b) (unfold dropZeros keep if_then_else_ in refl)
+unfolding dropZeros keep if_then_else_
+drop-barrier is o a s = keep-append stays is (barrier o a s ∷ [])
 
 -- one behind the other
 abbrev bothRewritten : Rewritten → Rewritten → Rewritten
@@ -97,9 +93,10 @@ module _ (l : ℕ) (r : Rules) where
     first-out = ap (λ (x : Puts). dropZeros (x .out)) (barrier-last A is o a s) ∙ drop-barrier (streamed l r A is .out) o a (s % 4)
 
     zeros-cut : dropZeros (streamed l r C (firstRenamed ++ laterRenamed) .out) ≡ map (renamed ρ τ) firstOut ++ map (renamed σ υ) laterOut
+    unfolding dropZeros
     zeros-cut =
         ap dropZeros out-cut
-        ∙ drop-append (map (renamed ρ τ) (streamed l r A first .out)) (map (renamed σ υ) (streamed l r B js .out))
+        ∙ keep-append stays (map (renamed ρ τ) (streamed l r A first .out)) (map (renamed σ υ) (streamed l r B js .out))
         ∙ ap₂ (λ (x y : List Item). x ++ y)
         (dropZeros-same ρ τ (streamed l r A first .out) ∙ ap (map (renamed ρ τ)) first-out)
         (dropZeros-same σ υ (streamed l r B js .out))

@@ -15,16 +15,16 @@ use Rattle.theory.specs.Cases.{by-if, on-if, neither, or-right, and-left, and-r
 use Rattle.theory.specs.Checked.{both-accepted, not-refused}
 
 -- an operation record measures outcome x
-abbrev pub measures : ℕ → List ℕ → Bool
-measures x r = eqb (fieldOf r 0) 2 && eqb (fieldOf r 4) x
+abbrev pub measuresOutcome : ℕ → List ℕ → Bool
+measuresOutcome x r = eqb (fieldOf r 0) 2 && eqb (fieldOf r 4) x
 
 -- .. or names it, in a measurement or a condition
-abbrev pub names : ℕ → List ℕ → Bool
-names x r = (eqb (fieldOf r 0) 2 || eqb (fieldOf r 0) 3) && eqb (fieldOf r 4) x
+abbrev pub namesOutcome : ℕ → List ℕ → Bool
+namesOutcome x r = (eqb (fieldOf r 0) 2 || eqb (fieldOf r 0) 3) && eqb (fieldOf r 4) x
 
 -- "the later part names no outcome of the earlier"
 abbrev pub NamesNone : List (List ℕ) → List (List ℕ) → Type 0
-NamesNone earlier later = (x : ℕ) → anyOf (measures x) earlier ≡ true → anyOf (names x) later ≡ false
+NamesNone earlier later = (x : ℕ) → anyOf (measuresOutcome x) earlier ≡ true → anyOf (namesOutcome x) later ≡ false
 
 -- what 8 lets through: a measurement of a new outcome, a condition on one that was measured
 outcome-right : (n : ℕ) (seen r : List ℕ) → checkOperation n seen r ≡ Accepted
@@ -46,7 +46,7 @@ module _ (n k x : ℕ) where
   unfolding measured member anyOf
   still-measured seen r h = by-if (λ (s : List ℕ). member x s ≡ true) _ _ seen (or-right (eqb x (fieldOf r 4)) (member x seen) h) h
 
-  now-measured : (seen r : List ℕ) → measures x r ≡ true → member x (measured seen r) ≡ true
+  now-measured : (seen r : List ℕ) → measuresOutcome x r ≡ true → member x (measured seen r) ≡ true
   unfolding measured member anyOf
   now-measured seen r h =
       let kind = and-left (eqb (fieldOf r 0) 2) (eqb (fieldOf r 4) x) h in
@@ -57,18 +57,18 @@ module _ (n k x : ℕ) where
 
   -- behind the earlier part x is measured, if that part measures it
   behind-earlier : (seen : List ℕ) (earlier later : List (List ℕ)) → checkOperations n seen (earlier ++ later) ≡ Accepted
-      → (member x seen ≡ true) ⊎ (anyOf (measures x) earlier ≡ true)
+      → (member x seen ≡ true) ⊎ (anyOf (measuresOutcome x) earlier ≡ true)
       → (seen′ : List ℕ) × (member x seen′ ≡ true) × (checkOperations n seen′ later ≡ Accepted)
   unfolding checkOperations anyOf
   behind-earlier seen [] later h (inl e) = (seen, e, h)
   behind-earlier seen [] later h (inr e) = absurd (true≢false (sym e))
   behind-earlier seen (r ∷ rs) later h (inl e) =
       behind-earlier (measured seen r) rs later (both-accepted _ _ h .1) (inl (still-measured seen r e))
-  behind-earlier seen (r ∷ rs) later h (inr e) = behind-earlier (measured seen r) rs later (both-accepted _ _ h .1) (go (measures x r) refl)
+  behind-earlier seen (r ∷ rs) later h (inr e) = behind-earlier (measured seen r) rs later (both-accepted _ _ h .1) (go (measuresOutcome x r) refl)
     where
-      go : (b : Bool) → measures x r ≡ b → (member x (measured seen r) ≡ true) ⊎ (anyOf (measures x) rs ≡ true)
+      go : (b : Bool) → measuresOutcome x r ≡ b → (member x (measured seen r) ≡ true) ⊎ (anyOf (measuresOutcome x) rs ≡ true)
       go true f = inl (now-measured seen r f)
-      go false f = inr (ap (λ (b : Bool). b || anyOf (measures x) rs) (sym f) ∙ e)
+      go false f = inr (ap (λ (b : Bool). b || anyOf (measuresOutcome x) rs) (sym f) ∙ e)
 
   module _ (seen own r : List ℕ) (h : member x seen ≡ true) (none : member x own ≡ false)
       (new : eqb (fieldOf r 0) 2 && member (fieldOf r 4) seen ≡ false) where
@@ -82,7 +82,7 @@ module _ (n k x : ℕ) where
         on-if (λ (s : List ℕ). member x s ≡ false) (eqb (fieldOf r 0) 2) (fieldOf r 4 ∷ own) own
         (λ t. ap₂ _||_ (ne-eqb x (fieldOf r 4) (λ e. true≢false (sym t ∙ not-again (sym e)))) none) (λ t. none)
 
-    name-not : eqb (fieldOf r 0) 3 && not (member (fieldOf r 4) own) ≡ false → names x r ≡ false
+    name-not : eqb (fieldOf r 0) 3 && not (member (fieldOf r 4) own) ≡ false → namesOutcome x r ≡ false
     name-not met = go (eqb (fieldOf r 4) x) refl
       where
         go : (b : Bool) → eqb (fieldOf r 4) x ≡ b → (eqb (fieldOf r 0) 2 || eqb (fieldOf r 0) 3) && b ≡ false
@@ -94,7 +94,7 @@ module _ (n k x : ℕ) where
 
   -- so the later part does not name it: it may not measure it again, and by itself it has not measured it before
   names-not : (seen own : List ℕ) (later : List (List ℕ)) → member x seen ≡ true → member x own ≡ false
-      → checkOperations n seen later ≡ Accepted → checkOperations k own later ≡ Accepted → anyOf (names x) later ≡ false
+      → checkOperations n seen later ≡ Accepted → checkOperations k own later ≡ Accepted → anyOf (namesOutcome x) later ≡ false
   unfolding checkOperations anyOf
   names-not seen own [] h none whole part = refl
   names-not seen own (r ∷ rs) h none whole part =

@@ -1,13 +1,11 @@
 -- With absorption off a stream that merges carries no axis and keeps its store: rotations merge or are put out as they come. Assumes nothing.
 use mathlib.Core.Path.{_≡_, refl, sym, ap, ap₂, _∙_}
-use mathlib.Core.Bool.{Bool, true, false, _&&_}
+use mathlib.Core.Bool.{true, _&&_}
 use mathlib.Core.List.{List, [], _∷_, _++_}
 use Prim.Native.Nat.{ℕ, suc, _+_, _%_, _<_}
 use native.Mathlib.Nat.{zero-add}
-use native.Mathlib.Omega.{arith}
-use lib.Dec.{eqb, ltb}
+use lib.Dec.{eqb}
 use lib.ListN.{length, set}
-use borrow.Author.Tests.{ltb-false}
 use Rattle.model.specs.declared.Absorption.{Absorption}
 use Rattle.model.specs.declared.Absorption.the-variants.{Off as off}
 use Rattle.model.specs.Lists.{if_then_else_, isEven}
@@ -18,12 +16,14 @@ use Rattle.model.specs.Items.{rot, Item, rotation, barrier, withSign}
 use Rattle.model.specs.Stream.{Place, nowhere, at, Pass, passWithStore, withLast, countMerge, setAngle, putOut, setLast, clearedLast}
 use Rattle.model.specs.Stream.{leaveZero, putOutRotation, canReach, angleAt, Carried, axisImage, imageId, carryAxis, carried}
 use Rattle.model.specs.Stream.{absorb, absorbAllWaiting, carryRotation, mergeAt, mergeOrPutOut, takeRotation, streamItem, stream}
-use Rattle.theory.specs.Cases.{if-true, of-if}
+use Rattle.theory.specs.Cases.{of-if}
 use Rattle.theory.specs.Every.{Every}
+use Rattle.theory.specs.Ids.{intern-old}
 use Rattle.theory.specs.StreamState.{axisOf}
 use Rattle.theory.specs.WithoutAbsorption.{stays-off}
 use Rattle.words_wellformed.specs.StoredWords.{StoredWords}
 use Rattle.words_wellformed.specs.Carrying.{wordImage-none}
+use Rattle.cutting.specs.Renaming.{within-self}
 
 -- ---- the plain stream
 
@@ -86,15 +86,7 @@ module _ (l : ℕ) (st : Store) (stored : StoredWords l (st .axes)) where
 
   -- which is stored
   store-same : (a n : ℕ) → a < length (st .axes) → intern l n st (wordOf (st .axes) a) ≡ st
-  unfolding intern
-  store-same a n h = go (ltb (idOf (st .axes) (wordOf (st .axes) a)) (length (st .axes))) refl
-    where
-      go : (b : Bool) → ltb (idOf (st .axes) (wordOf (st .axes) a)) (length (st .axes)) ≡ b → intern l n st (wordOf (st .axes) a) ≡ st
-      go true e = unfold intern in (if-true _ _ e)
-      go false e =
-          let k = ltb-false (idOf (st .axes) (wordOf (st .axes) a)) (length (st .axes)) e in
-          let d = stored .distinct a h in
-          absurd (omega arith)
+  store-same a n h = intern-old l n st (wordOf (st .axes) a) (within-self l (st .axes) stored a h)
 
   carry-same : (x : Puts) (a : ℕ) → a < length (st .axes) → carryAxis l (passOf st x) a ≡ passOf st x
   unfolding carryAxis

@@ -10,6 +10,7 @@ use Rattle.store.specs.Part.{put, part-length}
 use Rattle.model.specs.Lists.{if_then_else_}
 use Rattle.model.specs.Words.{idOf, Store, intern}
 use Rattle.theory.specs.Cases.{if-true, if-false}
+use Rattle.theory.specs.Ids.{intern-old}
 use Rattle.layout.specs.Rows.{axesRows}
 use Rattle.layout.specs.Only.{Only, only-none}
 use Rattle.layout.specs.Words.{axisPlace}
@@ -64,11 +65,7 @@ pub record Stores (z : Sizes) (others peak : ℕ) (ws xs : List ℕ) (at : ℕ) 
   pub kept : (a : ℕ) → a < z .axes → SameBeside (z .u) xs xs′ a
   pub new : (a : StoredAxis) → r ≡ Axis a → z .axes ≤ a .id → Beside (z .l) (z .u) xs′ (z .axes) (wordAt (z .l) ws at)
 
--- ---- the model's `intern`, case by case
-
-pub intern-old : (l others : ℕ) (st : Store) (w : List ℕ) → idOf (st .axes) w < length (st .axes) → intern l others st w ≡ st
-unfolding intern
-intern-old l others st w h = if-true _ _ (lt-ltb _ _ h)
+-- ---- the model's `intern` of a new word
 
 pub intern-new : (l others : ℕ) (st : Store) (w : List ℕ) → length (st .axes) ≤ idOf (st .axes) w
     → intern l others st w ≡ record { axes = st .axes ++ (w ∷ []); peak = max (st .peak) (sumWith l others (length (st .axes))) }

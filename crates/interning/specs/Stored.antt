@@ -10,7 +10,7 @@ use lib.ListN.{length, List·getD-append}
 use lib.Seq.{getD-at}
 use Rattle.store.specs.Part.{put, put-length, part-length}
 use Rattle.model.specs.Words.{idOf, wordOf, Store, intern}
-use Rattle.theory.specs.Ids.{id-le}
+use Rattle.theory.specs.Ids.{id-le, intern-old}
 use Rattle.layout.specs.Rows.{axesRows}
 use Rattle.layout.specs.Only.{Only}
 use Rattle.layout.specs.Words.{axisPlace, KeptFrom, kept-none, kept-put}
@@ -19,7 +19,7 @@ use Rattle.axes.specs.Beside.{Beside, SameBeside, same-beside}
 use Rattle.axes.specs.declared.Sizes.{Sizes}
 use Rattle.axes.specs.Held.{withAxes, storedAxes, HoldsAxes, held-count}
 use Rattle.interning.specs.Intern.{sumWith, InternPre, Stores, Answered, answered-old, answered-limit}
-use Rattle.interning.specs.Intern.{intern-old, intern-new, answered-new, answered-one}
+use Rattle.interning.specs.Intern.{intern-new, answered-new, answered-one}
 use Rattle.interning.specs.declared.StoredAxis.{StoredAxis}
 use Rattle.interning.specs.declared.Interned.{Interned}
 use Rattle.interning.specs.declared.Interned.the-variants.{Axis, Full}

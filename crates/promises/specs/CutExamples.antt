@@ -100,6 +100,7 @@ pub record Cut : Type 0 where
   -- false with absorption on: Z0:2 goes into F, and X0:1 behind the measurement comes out as Y0:7
   pub absorbed-whole : left (optionsAt 32 true 1 1) (rotate 2 0 2 ∷ measure 2 0 0 5 ∷ rotate 1 0 1 ∷ [])
       ≡ looked (0 ∷ 1 ∷ []) 0 5 ∷ turned (1 ∷ 1 ∷ []) 7 ∷ []
+  pub absorbed-earlier : left (optionsAt 32 true 1 1) (rotate 2 0 2 ∷ measure 2 0 0 5 ∷ []) ≡ looked (0 ∷ 1 ∷ []) 0 5 ∷ []
   pub absorbed-later : left (optionsAt 32 true 1 1) (rotate 1 0 1 ∷ []) ≡ turned (1 ∷ 0 ∷ []) 1 ∷ []
   -- false where the cut is not behind a barrier: X0:1 X0:1 merge
   pub merged-whole : left (at 32) (rotate 1 0 1 ∷ rotate 1 0 1 ∷ []) ≡ turned (1 ∷ 0 ∷ []) 2 ∷ []
@@ -119,6 +120,7 @@ cut = record {
   swaps-and-merges = (refl, refl, refl);
   named = refl;
   absorbed-whole = refl;
+  absorbed-earlier = refl;
   absorbed-later = refl;
   merged-whole = refl;
   merged-parts = refl;

@@ -6,7 +6,7 @@ use Prim.Native.Nat.{ℕ, zero, suc, _+_, _≤_, _<_}
 use native.Mathlib.Nat.{le-refl, le-trans}
 use native.Mathlib.Omega.{arith}
 use lib.ListN.{length, length-append, List·getD-append}
-use borrow.Author.Tests.{ltb-true}
+use borrow.Author.Tests.{ltb-true, lt-ltb}
 use Rattle.store.specs.Equal.{sameList, same-refl, same-true}
 use Rattle.model.specs.Lists.{if_then_else_}
 use Rattle.model.specs.Words.{idOf, wordOf, Store, intern}
@@ -37,6 +37,11 @@ id-append (a ∷ axes) w = ap (λ (n : ℕ). if sameList a w then 0 else suc n) 
 pub id-stored : (l extra : ℕ) (st : Store) (w : List ℕ) → idOf (intern l extra st w .axes) w ≡ idOf (st .axes) w
 unfolding intern
 id-stored l extra st w = by-if (λ (x : Store). idOf (x .axes) w ≡ idOf (st .axes) w) _ _ _ refl (id-append (st .axes) w)
+
+-- a word that is there is not stored again
+pub intern-old : (l extra : ℕ) (st : Store) (w : List ℕ) → idOf (st .axes) w < length (st .axes) → intern l extra st w ≡ st
+unfolding intern
+intern-old l extra st w h = if-true _ _ (lt-ltb _ _ h)
 
 -- a word that was interned has an id in range
 pub id-in : (l extra : ℕ) (st : Store) (w : List ℕ) → idOf (intern l extra st w .axes) w < length (intern l extra st w .axes)
