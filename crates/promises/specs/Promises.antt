@@ -425,7 +425,7 @@ cut-names-none = cut-outcomes
 -- "With absorption off, merge strategy, one round .., cut directly after a measurement ..; both keep nodes and rows. If the whole and both parts
 -- are accepted with all options alike but the word limit". This is stronger than the request: "no named change of setting", that the later part
 -- names no outcome of the earlier, and that "the parts' swaps add up" are not asked. "This must hold for both tie orders": the order is among
--- the options that are alike, whichever it is
+-- the options that are alike, whichever it is. With absorption on, with three rounds, or cut between rotations it is false: CutExamples
 module _ {o oₑ oₗ : Options} {j earlier later : Job} {s sₑ sₗ t tₑ tₗ : Lent} {c cₑ cₗ : Counters} {m n mₑ nₑ mₗ nₗ : ℕ}
     (x : Called o j s Accepted c m n t) (y : Called oₑ earlier sₑ Accepted cₑ mₑ nₑ tₑ) (z : Called oₗ later sₗ Accepted cₗ mₗ nₗ tₗ)
     (same : SameOptionsButLimit o oₑ) (alike : SameOptionsButLimit o oₗ) (one : OneRound o) (cut : CutAtMeasurement j earlier later) where
