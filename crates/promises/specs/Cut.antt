@@ -24,7 +24,6 @@ use Rattle.theory.specs.TCountCalls.{accepted-counters}
 use Rattle.result_effect.specs.Calls.{call-fine, call-hermitian}
 use Rattle.cutting.specs.Worded.{WordedOperation, withWord, worded, wordedAll}
 use Rattle.cutting.specs.CutRun.{withOperations, MergesOnly, Runs, wordedEnd, AddsUp, run-cut}
-use Rattle.cutting.specs.Outcomes.{NamesNone, names-none}
 use Rattle.promises.specs.Calls.{passed-checking}
 use Rattle.promises.specs.Strategies.{endWork}
 use Rattle.promises.specs.Left.{operationsIn, wordsIn, IdIn, operations-left, words-left, records-in}
@@ -166,15 +165,9 @@ module _ {o oₑ oₗ : Options} {j earlier later : Job} {s sₑ sₗ t tₑ t�
 
 -- ---- outcomes
 
-operations-passed : {o : Options} {j : Job} {s : Lent} {c : Counters} {m n : ℕ} {t : Lent} → Called o j s Accepted c m n t
+-- 8 refuses none of an accepted call's operations
+pub operations-passed : {o : Options} {j : Job} {s : Lent} {c : Counters} {m n : ℕ} {t : Lent} → Called o j s Accepted c m n t
     → checkOperations (j .counts .nodes) [] (operationRecords j) ≡ Accepted
 unfolding checkProgram
 operations-passed {o} {j} {s} call =
     both-accepted _ _ (both-accepted _ _ (checking-program o j s (passed-checking call (inl refl))) .1) .0
-
-pub cut-outcomes : {o oₗ : Options} {j earlier later : Job} {s sₗ t tₗ : Lent} {c cₗ : Counters} {m n mₗ nₗ : ℕ}
-    → Called o j s Accepted c m n t → Called oₗ later sₗ Accepted cₗ mₗ nₗ tₗ → CutAtMeasurement j earlier later
-    → NamesNone (operationRecords earlier) (operationRecords later)
-cut-outcomes {j = j} {earlier = earlier} {later = later} x z cut =
-    names-none (j .counts .nodes) (later .counts .nodes) (operationRecords earlier) (operationRecords later)
-    (rw (← cut .joined) (operations-passed x)) (operations-passed z)

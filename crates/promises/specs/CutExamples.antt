@@ -48,15 +48,15 @@ left o operations = wordedIn (twoQubits operations) (reply o operations .lent)
 abbrev counted : Options → List (List ℕ) → ℕ × ℕ
 counted o operations = (reply o operations .counters .swaps, reply o operations .counters .merges)
 
-abbrev turned : List ℕ → ℕ → WordedOperation
-turned w k = record { kind = 1; word = w; sign = 1; angle = k; outcome = 65535; target = 65535 }
+abbrev wordedRotation : List ℕ → ℕ → WordedOperation
+wordedRotation w k = record { kind = 1; word = w; sign = 1; angle = k; outcome = 65535; target = 65535 }
 
 -- into an outcome and a target
-abbrev looked : List ℕ → ℕ → ℕ → WordedOperation
-looked w o t = record { kind = 2; word = w; sign = 1; angle = 0; outcome = o; target = t }
+abbrev wordedMeasurement : List ℕ → ℕ → ℕ → WordedOperation
+wordedMeasurement w o t = record { kind = 2; word = w; sign = 1; angle = 0; outcome = o; target = t }
 
-abbrev turnedIf : List ℕ → ℕ → ℕ → WordedOperation
-turnedIf w k o = record { kind = 3; word = w; sign = 1; angle = k; outcome = o; target = 65535 }
+abbrev wordedConditional : List ℕ → ℕ → ℕ → WordedOperation
+wordedConditional w k o = record { kind = 3; word = w; sign = 1; angle = k; outcome = o; target = 65535 }
 
 -- ---- a cut
 
@@ -70,13 +70,13 @@ later = rotate 4 0 1 ∷ rotate 4 0 1 ∷ measure 4 0 1 6 ∷ conditional 3 0 3 
 
 -- what they leave, the earlier part in the one order and in the other
 abbrev firstLeft : List WordedOperation
-firstLeft = turned (2 ∷ 0 ∷ []) 1 ∷ turned (1 ∷ 0 ∷ []) 2 ∷ looked (1 ∷ 0 ∷ []) 0 5 ∷ []
+firstLeft = wordedRotation (2 ∷ 0 ∷ []) 1 ∷ wordedRotation (1 ∷ 0 ∷ []) 2 ∷ wordedMeasurement (1 ∷ 0 ∷ []) 0 5 ∷ []
 
 abbrev secondLeft : List WordedOperation
-secondLeft = turned (1 ∷ 0 ∷ []) 2 ∷ turned (2 ∷ 0 ∷ []) 1 ∷ looked (1 ∷ 0 ∷ []) 0 5 ∷ []
+secondLeft = wordedRotation (1 ∷ 0 ∷ []) 2 ∷ wordedRotation (2 ∷ 0 ∷ []) 1 ∷ wordedMeasurement (1 ∷ 0 ∷ []) 0 5 ∷ []
 
 abbrev laterLeft : List WordedOperation
-laterLeft = turned (0 ∷ 2 ∷ []) 2 ∷ looked (0 ∷ 2 ∷ []) 1 6 ∷ turnedIf (2 ∷ 0 ∷ []) 3 1 ∷ []
+laterLeft = wordedRotation (0 ∷ 2 ∷ []) 2 ∷ wordedMeasurement (0 ∷ 2 ∷ []) 1 6 ∷ wordedConditional (2 ∷ 0 ∷ []) 3 1 ∷ []
 
 -- X0:1 Z0:1 Z0:7 X0:1 and a measurement of X1; X0:2 Z0:2 X0:2 X0:6 Z0:6 X0:2
 abbrev cheaper : List (List ℕ)
@@ -99,16 +99,17 @@ pub record Cut : Type 0 where
   pub named : reply (at 32) (conditional 3 0 3 0 ∷ []) .answer ≡ BadOutcome
   -- false with absorption on: Z0:2 goes into F, and X0:1 behind the measurement comes out as Y0:7
   pub absorbed-whole : left (optionsAt 32 true 1 1) (rotate 2 0 2 ∷ measure 2 0 0 5 ∷ rotate 1 0 1 ∷ [])
-      ≡ looked (0 ∷ 1 ∷ []) 0 5 ∷ turned (1 ∷ 1 ∷ []) 7 ∷ []
-  pub absorbed-earlier : left (optionsAt 32 true 1 1) (rotate 2 0 2 ∷ measure 2 0 0 5 ∷ []) ≡ looked (0 ∷ 1 ∷ []) 0 5 ∷ []
-  pub absorbed-later : left (optionsAt 32 true 1 1) (rotate 1 0 1 ∷ []) ≡ turned (1 ∷ 0 ∷ []) 1 ∷ []
+      ≡ wordedMeasurement (0 ∷ 1 ∷ []) 0 5 ∷ wordedRotation (1 ∷ 1 ∷ []) 7 ∷ []
+  pub absorbed-earlier : left (optionsAt 32 true 1 1) (rotate 2 0 2 ∷ measure 2 0 0 5 ∷ []) ≡ wordedMeasurement (0 ∷ 1 ∷ []) 0 5 ∷ []
+  pub absorbed-later : left (optionsAt 32 true 1 1) (rotate 1 0 1 ∷ []) ≡ wordedRotation (1 ∷ 0 ∷ []) 1 ∷ []
   -- false where the cut is not behind a barrier: X0:1 X0:1 merge
-  pub merged-whole : left (at 32) (rotate 1 0 1 ∷ rotate 1 0 1 ∷ []) ≡ turned (1 ∷ 0 ∷ []) 2 ∷ []
-  pub merged-parts : left (at 32) (rotate 1 0 1 ∷ []) ≡ turned (1 ∷ 0 ∷ []) 1 ∷ []
+  pub merged-whole : left (at 32) (rotate 1 0 1 ∷ rotate 1 0 1 ∷ []) ≡ wordedRotation (1 ∷ 0 ∷ []) 2 ∷ []
+  pub merged-parts : left (at 32) (rotate 1 0 1 ∷ []) ≡ wordedRotation (1 ∷ 0 ∷ []) 1 ∷ []
   -- false with three rounds: X0:1 Z0:1 Z0:7 X0:1 before the measurement keep the rounds going, and what is behind it merges once more
-  pub rounds-whole : left (optionsAt 32 false 0 3) (cheaper ++ merging) ≡ turned (1 ∷ 0 ∷ []) 2 ∷ looked (2 ∷ 0 ∷ []) 0 5 ∷ turned (1 ∷ 0 ∷ []) 4 ∷ []
-  pub rounds-earlier : left (optionsAt 32 false 0 3) cheaper ≡ turned (1 ∷ 0 ∷ []) 2 ∷ looked (2 ∷ 0 ∷ []) 0 5 ∷ []
-  pub rounds-later : left (optionsAt 32 false 0 3) merging ≡ turned (1 ∷ 0 ∷ []) 2 ∷ turned (1 ∷ 0 ∷ []) 2 ∷ []
+  pub rounds-whole : left (optionsAt 32 false 0 3) (cheaper ++ merging)
+      ≡ wordedRotation (1 ∷ 0 ∷ []) 2 ∷ wordedMeasurement (2 ∷ 0 ∷ []) 0 5 ∷ wordedRotation (1 ∷ 0 ∷ []) 4 ∷ []
+  pub rounds-earlier : left (optionsAt 32 false 0 3) cheaper ≡ wordedRotation (1 ∷ 0 ∷ []) 2 ∷ wordedMeasurement (2 ∷ 0 ∷ []) 0 5 ∷ []
+  pub rounds-later : left (optionsAt 32 false 0 3) merging ≡ wordedRotation (1 ∷ 0 ∷ []) 2 ∷ wordedRotation (1 ∷ 0 ∷ []) 2 ∷ []
 
 pub cut : Cut
 unfolding everything withWord kindsRead

@@ -41,7 +41,7 @@ use Rattle.run_wellformed.specs.Points.{Reached}
 use Rattle.run_wellformed.specs.Lengths.{SameLengths, same-lengths}
 use Rattle.result_effect.specs.Calls.{call-fine, call-hermitian}
 use Rattle.run_effect.specs.RunEffect.{Effects, sourceEffect, resultEffect, run-keeps-effect}
-use Rattle.cutting.specs.Outcomes.{NamesNone}
+use Rattle.cutting.specs.Outcomes.{NamesNone, names-none}
 use Rattle.promises.specs.Slices.{Agree, agree-then, agree-zeros}
 use Rattle.promises.specs.Calls.{Replied, byChecking, byLimit, byRoot, done, called-of, passed-checking, nine-exactly}
 use Rattle.promises.specs.Calls.{number-low, number-checking, number-stopped, PlaceRefused, sixteen-where}
@@ -50,7 +50,7 @@ use Rattle.promises.specs.Named.{ChangesAt, stream-changes}
 use Rattle.promises.specs.Strategies.{endWork, merge-end, litinski-end, no-rounds-end}
 use Rattle.promises.specs.Left.{operationsIn, rowsIn, wordsIn, operations-left, effect-left}
 use Rattle.promises.specs.Alike.{SameOptionsButLimit, AlikeButRoundsAndLimit, AlikeButLimit, alike-rules, but-limit, not-two}
-use Rattle.promises.specs.Cut.{OneRound, CutAtMeasurement, wordedIn, calls-add-up, cut-outcomes}
+use Rattle.promises.specs.Cut.{OneRound, CutAtMeasurement, wordedIn, calls-add-up, operations-passed}
 
 -- ==== what the sentences speak of
 
@@ -420,7 +420,9 @@ module _ {o : Options} {j : Job} {s : Lent} {a : Answer} {c : Counters} {m n : �
 pub cut-names-none : {o oₗ : Options} {j earlier later : Job} {s sₗ t tₗ : Lent} {c cₗ : Counters} {m n mₗ nₗ : ℕ}
     → Called o j s Accepted c m n t → Called oₗ later sₗ Accepted cₗ mₗ nₗ tₗ → CutAtMeasurement j earlier later
     → NamesNone (operationRecords earlier) (operationRecords later)
-cut-names-none = cut-outcomes
+cut-names-none {j = j} {earlier = earlier} {later = later} x z cut =
+    names-none (j .counts .nodes) (later .counts .nodes) (operationRecords earlier) (operationRecords later)
+    (rw (← cut .joined) (operations-passed x)) (operations-passed z)
 
 -- "With absorption off, merge strategy, one round .., cut directly after a measurement ..; both keep nodes and rows. If the whole and both parts
 -- are accepted with all options alike but the word limit". This is stronger than the request: "no named change of setting", that the later part
@@ -435,11 +437,11 @@ module _ {o oₑ oₗ : Options} {j earlier later : Job} {s sₑ sₗ t tₑ t�
   cut-results = calls-add-up x y z same alike one cut .operations
 
   -- "the parts' swaps add up to the whole's": always.
-  -- Rules out: a swap counted for each triple that was tried; the swaps of the last segment only
+  -- Rules out: the swaps of the last segment only; 1 for however many swaps
   pub cut-swaps : c .swaps ≡ cₑ .swaps + cₗ .swaps
   cut-swaps = calls-add-up x y z same alike one cut .swaps
 
   -- and so do their merges.
-  -- Rules out: a merge counted where `last` named a place before the measurement; the merges inside an exchange's trial
+  -- Rules out: a merge counted for an equal axis before the measurement; the merges of the first segment only
   pub cut-merges : c .merges ≡ cₑ .merges + cₗ .merges
   cut-merges = calls-add-up x y z same alike one cut .merges

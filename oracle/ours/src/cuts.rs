@@ -147,34 +147,27 @@ impl fmt::Display for Tally {
     }
 }
 
-/// Stops at the first three that differs.
-pub fn check(jobs: &[Job]) {
+/// Stops at the first three that differs, or counts those that do.
+pub fn compare(jobs: &[Job], counting: bool) {
     let mut tally = Tally::default();
     for three in threes(jobs) {
         let answers = three.each_ref().map(run);
         let [whole, earlier, later] = &answers;
-        if let Some(difference) = difference(whole, earlier, later) {
-            three.iter().for_each(|job| print!("{job}"));
-            eprintln!("cut {}: {difference}", tally.cuts + 1);
-            exit(1);
+        match difference(whole, earlier, later) {
+            None => {}
+            Some(difference) if counting => tally.count_difference(&difference),
+            Some(difference) => {
+                three.iter().for_each(|job| print!("{job}"));
+                eprintln!("cut {}: {difference}", tally.cuts + 1);
+                exit(1);
+            }
         }
         tally.count(&three[0], &answers);
     }
-    println!("{tally}");
-}
-
-/// Counts those that differ.
-pub fn count(jobs: &[Job]) {
-    let mut tally = Tally::default();
-    for three in threes(jobs) {
-        let answers = three.each_ref().map(run);
-        let [whole, earlier, later] = &answers;
-        if let Some(difference) = difference(whole, earlier, later) {
-            tally.count_difference(&difference);
-        }
-        tally.count(&three[0], &answers);
+    match counting {
+        true => println!("{tally}; {}", tally.differences()),
+        false => println!("{tally}"),
     }
-    println!("{tally}; {}", tally.differences());
 }
 
 /// The parts have the whole's operations between them, and all else alike but the limit.

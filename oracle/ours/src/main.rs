@@ -20,11 +20,11 @@ fn main() -> io::Result<()> {
         [] => print(jobs, answer),
         ["--memory"] => print(jobs, memory),
         ["--cuts"] => {
-            cuts::check(&jobs.collect::<Vec<_>>());
+            cuts::compare(&jobs.collect::<Vec<_>>(), false);
             Ok(())
         }
         ["--cuts", "--count"] => {
-            cuts::count(&jobs.collect::<Vec<_>>());
+            cuts::compare(&jobs.collect::<Vec<_>>(), true);
             Ok(())
         }
         _ => panic!("ours [--memory | --cuts [--count]] < jobs"),
