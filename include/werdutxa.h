@@ -73,6 +73,10 @@ enum { WERDUTXA_ROW_FIELDS = 4 };
 /* The bytes that Listing's output must have room for: the largest listing. */
 #define WERDUTXA_LISTING_BYTES ((size_t)215369)
 
+/* The chains beside the stored axes, by which a word is looked up: the number store has a number for each, and one for each axis that the
+ * limit has room for. */
+#define WERDUTXA_CHAINS ((size_t)1024)
+
 /* A program; it is only read. */
 struct werdutxa_program {
     size_t qubits;              /* 0 to 4,096 */
@@ -142,14 +146,16 @@ static inline size_t werdutxa_width(size_t qubits) {
     return qubits == 0 ? 1 : (qubits + 63) / 64;
 }
 
-/* How many words to lend, for counts and options within the domain. */
+/* How many words to lend, for counts and options within the domain: limit + 16 * l, with l words in a plane. */
 static inline size_t werdutxa_words(size_t qubits, size_t limit) {
     return limit + 16 * werdutxa_width(qubits);
 }
 
-/* How many numbers to lend, for counts and options within the domain. */
+/* How many numbers to lend, for counts and options within the domain:
+ * 24 * (nodes + operations + 2 * qubits + limit / (2 * l) + 1) + 1024 + limit / (2 * l). */
 static inline size_t werdutxa_numbers(size_t qubits, size_t node_count, size_t operation_count, size_t limit) {
-    return 24 * (node_count + operation_count + 2 * qubits + limit / (2 * werdutxa_width(qubits)) + 1);
+    size_t axes = limit / (2 * werdutxa_width(qubits));
+    return 24 * (node_count + operation_count + 2 * qubits + axes + 1) + WERDUTXA_CHAINS + axes;
 }
 
 /* ---- the calls, as the library exports them */

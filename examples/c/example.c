@@ -38,9 +38,10 @@ static const char listing[] =
     "       0       0       2       0\n"
     "       0       1       1       0\n";
 
-/* lent memory, as long as refusal 3 asks at this limit: limit + 16, 24 * (nodes + operations + 2 * qubits + limit / 2 + 1) */
+/* lent memory, as long as refusal 3 asks at this limit: limit + 16,
+ * 24 * (nodes + operations + 2 * qubits + limit / 2 + 1) + WERDUTXA_CHAINS + limit / 2 */
 static uint64_t words[LIMIT + 16];
-static uint32_t numbers[24 * (NODES + OPERATIONS + 2 * QUBITS + LIMIT / 2 + 1)];
+static uint32_t numbers[24 * (NODES + OPERATIONS + 2 * QUBITS + LIMIT / 2 + 1) + WERDUTXA_CHAINS + LIMIT / 2];
 static uint32_t result_operations[OPERATIONS * WERDUTXA_OPERATION_FIELDS];
 static uint32_t result_rows[2 * QUBITS * WERDUTXA_ROW_FIELDS];
 static uint8_t output[WERDUTXA_LISTING_BYTES];
@@ -62,6 +63,17 @@ static void print_records(const uint32_t *records, size_t count, size_t fields) 
             printf("%" PRIu32 "%c", records[i * fields + j], j + 1 < fields ? ' ' : '\n');
 }
 
+/* the lengths as the header's functions tell them, and that one number less is short */
+static void lengths(void) {
+    struct werdutxa_options options = WERDUTXA_DEFAULTS;
+    options.limit = LIMIT;
+    size_t asked = werdutxa_numbers(QUBITS, NODES, OPERATIONS, LIMIT);
+    struct werdutxa_memory shorter = memory;
+    shorter.numbers_length = asked - 1;
+    printf("to lend: %zu words, %zu numbers; with %zu numbers: checking %" PRIu32 "\n",
+           werdutxa_words(QUBITS, LIMIT), asked, shorter.numbers_length, werdutxa_check_program(&program, &options, &shorter));
+}
+
 static void rewrite(size_t limit) {
     struct werdutxa_options options = WERDUTXA_DEFAULTS;
     options.limit = limit;
@@ -81,7 +93,8 @@ static void rewrite(size_t limit) {
 /* memory for each of the programs below, with any limit up to this */
 enum { SMALL_LIMIT = 64, SMALL_QUBITS = 2, SMALL_NODES = 5, SMALL_OPERATIONS = 7 };
 static uint64_t small_words[SMALL_LIMIT + 16];
-static uint32_t small_numbers[24 * (SMALL_NODES + SMALL_OPERATIONS + 2 * SMALL_QUBITS + SMALL_LIMIT / 2 + 1)];
+static uint32_t small_numbers[24 * (SMALL_NODES + SMALL_OPERATIONS + 2 * SMALL_QUBITS + SMALL_LIMIT / 2 + 1) + WERDUTXA_CHAINS
+                              + SMALL_LIMIT / 2];
 static uint32_t small_operations[SMALL_OPERATIONS * WERDUTXA_OPERATION_FIELDS], small_rows[2 * SMALL_QUBITS * WERDUTXA_ROW_FIELDS];
 static const struct werdutxa_memory small_memory = {
     small_words, LENGTH(small_words), small_numbers, LENGTH(small_numbers),
@@ -226,6 +239,7 @@ static void cut(void) {
 }
 
 int main(void) {
+    lengths();
     rewrite(LIMIT);
     rewrite(LIMIT - 1);
     rewrite(LIMIT + 1);

@@ -8,6 +8,10 @@ pub(crate) const MOST_QUBITS: usize = 4_096;
 /// The bytes that a listing's output must have room for: the largest listing.
 pub const LISTING_BYTES: usize = 215_369;
 
+/// The chains beside the stored axes, by which a word is looked up: the number store has a number for each, and one for each axis that the
+/// limit has room for.
+pub const CHAINS: usize = 1_024;
+
 /// No outcome or no target, in a record.
 pub const NONE: u32 = 65_535;
 
@@ -74,12 +78,27 @@ pub struct Counted {
     pub packed_words: usize,
 }
 
-/// How long the lent slices must be.
+/// How long the lent slices must be: refusal 3's lengths, with l words in a plane ([`width`]).
+///
+/// ```
+/// # use werdutxa::{CHAINS, Options, Program, Sizes};
+/// let mut program = Program::new(65);
+/// program.rotate("Z64", 1)?;
+/// let records = program.records();
+/// let (counts, axes) = (records.node_count + records.operation_count + 2 * 65, 1_000 / (2 * 2));
+/// let sizes = Sizes::of(&records, &Options::with_limit(1_000));
+/// assert_eq!((sizes.words, sizes.numbers), (1_000 + 16 * 2, 24 * (counts + axes + 1) + CHAINS + axes));
+/// # Ok::<(), werdutxa::NoPauli>(())
+/// ```
 #[derive(Clone, Copy, Debug, Default, PartialEq, Eq)]
 pub struct Sizes {
+    /// limit + 16 × l
     pub words: usize,
+    /// 24 × (nodes + operations + 2 × qubits + limit div (2 × l) + 1), then 1,024 ([`CHAINS`]) and limit div (2 × l)
     pub numbers: usize,
+    /// 6 for each operation
     pub operations: usize,
+    /// 8 for each qubit
     pub rows: usize,
 }
 
@@ -114,9 +133,10 @@ impl Sizes {
 
     fn at(qubits: usize, node_count: usize, operation_count: usize, limit: usize) -> Self {
         let width = width(qubits);
+        let axes = limit / (2 * width);
         Self {
             words: limit + 16 * width,
-            numbers: 24 * (node_count + operation_count + 2 * qubits + limit / (2 * width) + 1),
+            numbers: 24 * (node_count + operation_count + 2 * qubits + axes + 1) + CHAINS + axes,
             operations: 6 * operation_count,
             rows: 8 * qubits,
         }

@@ -20,7 +20,7 @@ mod values;
 
 pub use calls::{check, list_into, rewrite};
 pub use cut::NoCut;
-pub use lent::{Counted, LISTING_BYTES, MINUS_ONE, Memory, NONE, Records, Sizes, width};
+pub use lent::{CHAINS, Counted, LISTING_BYTES, MINUS_ONE, Memory, NONE, Records, Sizes, width};
 pub use listing::{Listing, list};
 pub use options::{LARGEST, Lazy, Options, Strategy};
 pub use pauli::{Letter, NoPauli, Pauli};

@@ -122,6 +122,39 @@ fn slices() {
     assert!(rewrite(&records, &options, &mut Lent::new(sizes).lend()).is_ok());
 }
 
+/// The number store's length as documents 01 and 02 write it: with less the job is refused and all stays as it was, with just this it is
+/// accepted.
+#[test]
+fn number_stores() {
+    for (qubits, l) in [(0, 1), (1, 1), (64, 1), (65, 2), (128, 2), (4_033, 64), (4_096, 64)] {
+        let mut program = Program::new(qubits);
+        let axis = if qubits == 0 { "I".to_string() } else { format!("Z{}", qubits - 1) };
+        program.rotate(&axis, 1).unwrap().measure(&axis, 0, None).unwrap();
+        // the last two of them on either side of a multiple of 2 × l
+        for limit in [12 * l, 42 * l - 1, 42 * l] {
+            numbers_are_enough(&program, limit, limit / (2 * l));
+        }
+    }
+    let mut program = Program::new(4_096);
+    program.rotate("X4095", 1).unwrap();
+    numbers_are_enough(&program, 1_048_576, 8_192);
+}
+
+/// The axes are those that the limit has room for.
+fn numbers_are_enough(program: &Program, limit: usize, axes: usize) {
+    let (records, options) = (program.records(), Options::with_limit(limit));
+    let counts = records.node_count + records.operation_count + 2 * records.qubits;
+    let numbers = 24 * (counts + axes + 1) + 1_024 + axes;
+    let sizes = Sizes::of(&records, &options);
+    assert_eq!(sizes.numbers, numbers, "{} qubits, limit {limit}", records.qubits);
+    for short in [1, axes, 1_024, 1_024 + axes, numbers] {
+        refused(&records, &options, Sizes { numbers: numbers - short, ..sizes }, Refusal::SliceShort);
+    }
+    let mut lent = Lent::new(Sizes { numbers, ..sizes });
+    assert_eq!(check(&records, &options, &lent.lend()), Ok(()));
+    assert!(rewrite(&records, &options, &mut lent.lend()).is_ok() && lent.sentinels_hold());
+}
+
 #[test]
 fn nodes() {
     let second = |record| of_nodes(1, &[IDENTITY, record]);
@@ -350,17 +383,20 @@ fn listings() {
 #[test]
 fn short_slices_of_listings() {
     let text = one_operation(&[[1, 0, 3, 0, 0]], [1, 1, 0, 1, -1, -1], 4);
-    let call = |room: usize, words: usize| {
+    // one qubit, two nodes, one operation, limit 4
+    let numbers = 24 * (2 + 1 + 2 + 2 + 1) + 1_024 + 2;
+    let call = |room: usize, words: usize, numbers: usize| {
         let mut output: Guarded<u8> = Guarded::new(room);
-        let mut lent = Lent::new(Sizes { words, ..Sizes::of_listing() });
+        let mut lent = Lent::new(Sizes { words, numbers, ..Sizes::of_listing() });
         let (answer, size) = list_into(text.as_bytes(), output.lend(), &mut lent.lend());
         assert!(lent.sentinels_hold() && output.sentinels_hold() && output.unchanged_from(size));
         (answer, size)
     };
-    assert_eq!(call(LISTING_BYTES - 1, 20), (Err(Refusal::SliceShort), 0));
-    assert_eq!(call(LISTING_BYTES, 19), (Err(Refusal::SliceShort), 73));
-    assert_eq!(call(LISTING_BYTES, 20).0, Ok(()));
-    assert_eq!(call(LISTING_BYTES + 1, 20).0, Ok(()));
+    assert_eq!(call(LISTING_BYTES - 1, 20, numbers), (Err(Refusal::SliceShort), 0));
+    assert_eq!(call(LISTING_BYTES, 19, numbers), (Err(Refusal::SliceShort), 73));
+    assert_eq!(call(LISTING_BYTES, 20, numbers - 1), (Err(Refusal::SliceShort), 73));
+    assert_eq!(call(LISTING_BYTES, 20, numbers).0, Ok(()));
+    assert_eq!(call(LISTING_BYTES + 1, 20, numbers).0, Ok(()));
 }
 
 #[test]

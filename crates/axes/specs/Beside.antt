@@ -1,52 +1,33 @@
--- What stands beside an axis in the number store: a key, so that a scan for a word compares one number, and where words are longer
--- than one number a signature within which its support lies. Assumes nothing.
-use mathlib.Core.Path.{_≡_, refl, sym, ap, _∙_, subst}
+-- What stands beside an axis in the number store, but for the index (`Chains`): where words are longer than one number, a signature
+-- within which its support lies. Assumes nothing.
+use mathlib.Core.Path.{_≡_, sym, ap, subst}
 use mathlib.Core.Bool.{Bool, true, false, _&&_}
-use mathlib.Core.List.{List, [], _∷_}
-use Prim.Native.Nat.{ℕ, zero, suc, _+_, _*_, _%_, _^_, _≤_, _<_}
-use native.Mathlib.Numerals.{add-one}
+use mathlib.Core.List.{List}
+use Prim.Native.Nat.{ℕ, _+_, _*_, _≤_, _<_}
 use native.Mathlib.Omega.{arith}
 use lib.Bits.{bitAnd}
 use lib.Dec.{eqb, ltb}
-use lib.ListN.{length, getD}
+use lib.ListN.{getD}
 use borrow.Author.Tests.{eqb-true, ltb-true, le-ltb, lt-ltb}
-use Rattle.store.specs.Row.{row}
 use Rattle.store.specs.Wide.{wideAt}
 use Rattle.pauli.specs.Word.{anticommutes}
 use Rattle.pauli.specs.SupportLaws.{SupportWithin, apart-commute}
 use Rattle.model.specs.Lists.{anyOf, member}
 use Rattle.theory.specs.Cases.{neither, and-left, and-right}
-use Rattle.layout.specs.Rows.{axesRows, signatureRow, keyRow}
-use Rattle.layout.specs.Only.{Only}
+use Rattle.layout.specs.Rows.{axesRows, signatureRow, forkRow, behindRow}
+use Rattle.layout.specs.Only.{Only, last-kept}
 use Rattle.layout.specs.Wide.{wide-kept}
-
--- the first n numbers of a word, added modulo 2^64
-unfoldable pub totalTo : List ℕ → ℕ → ℕ
-totalTo w zero = 0
-totalTo w (suc n) = (totalTo w n + getD w n 0) % 2 ^ 64
-
--- one more
-pub total-more : (w : List ℕ) (n : ℕ) {s r : ℕ} → s ≡ totalTo w n → r ≡ (s + getD w n 0) % 2 ^ 64 → r ≡ totalTo w (n + 1)
-unfolding totalTo
-total-more w n e f = f ∙ ap (λ (k : ℕ). (k + getD w n 0) % 2 ^ 64) e ∙ ap (totalTo w) (sym (add-one n))
-
--- a word's key, below 2^32: the remainder by the largest prime there is
-unfoldable pub keyOf : List ℕ → ℕ
-keyOf w = totalTo w (length w) % 4294967291
 
 -- beside axis a, whose word is w
 pub record Beside (l u : ℕ) (xs : List ℕ) (a : ℕ) (w : List ℕ) : Type 0 where
-  pub key : getD (row xs u keyRow) a 0 ≡ keyOf w
   pub signature : 1 < l → SupportWithin l (wideAt xs u signatureRow a) w
 
 -- beside axis a nothing changes
 pub record SameBeside (u : ℕ) (xs ys : List ℕ) (a : ℕ) : Type 0 where
-  pub key : getD (row ys u keyRow) a 0 ≡ getD (row xs u keyRow) a 0
   pub signature : wideAt ys u signatureRow a ≡ wideAt xs u signatureRow a
 
 pub same-beside : {l u a : ℕ} {xs ys w : List ℕ} → SameBeside u xs ys a → Beside l u xs a w → Beside l u ys a w
 same-beside {l} {w = w} s b = record {
-  key = s .key ∙ b .key;
   signature = λ h. subst (λ (n : ℕ). SupportWithin l n w) (sym (s .signature)) (b .signature h);
 }
 
@@ -56,10 +37,17 @@ unfolding anyOf
 only-beside {rs} {u = u} o e a =
     let low = neither (member signatureRow rs) _ e in
     let high = neither (member (signatureRow + 1) rs) _ (low .1) in
-    record {
-      key = ap (λ (r : List ℕ). getD r a 0) (o .rows keyRow (omega arith) (neither (member keyRow rs) _ (high .1) .0));
-      signature = wide-kept signatureRow o (omega arith) (low .0) (high .0) a;
-    }
+    record { signature = wide-kept signatureRow o (omega arith) (low .0) (high .0) a }
+
+-- and nothing of the index
+pub only-index : {rs xs ys : List ℕ} {u : ℕ} → Only rs u xs ys → anyOf (λ r. member r rs) axesRows ≡ false
+    → (i : ℕ) → forkRow * u ≤ i → getD ys i 0 ≡ getD xs i 0
+unfolding anyOf
+only-index {rs} o e =
+    let low = neither (member signatureRow rs) _ e in
+    let high = neither (member (signatureRow + 1) rs) _ (low .1) in
+    let fork = neither (member forkRow rs) _ (high .1) in
+    last-kept o (fork .0) (neither (member behindRow rs) _ (fork .1) .0)
 
 -- ---- signatures that are apart
 

@@ -1,3 +1,5 @@
 pub mod View
+pub mod Pick
+pub mod Chains
 pub mod Beside
 pub mod Held

@@ -70,7 +70,7 @@ fn lent_short(
 {
     let shape = layout::shape_of(c, limit);
     (words.len() < shape.limit + layout::SCRATCH * shape.l)
-        | (numbers.len() < layout::ROWS * shape.u)
+        | (numbers.len() < layout::ROWS * shape.u + layout::index_length(shape.l, shape.limit))
         | (operations.len() < 6 * c.operations)
         | (rows.len() < 8 * c.qubits)
 }

@@ -1,25 +1,27 @@
--- The scan for a word: "no axis so far is w" is the number fact `a ≤ idOf axes w`. Assumes nothing.
-use mathlib.Core.Path.{_≡_, refl, sym, ap, _∙_}
-use mathlib.Core.Bool.{Bool, true, false, not, _&&_}
+-- A word's id, by a scan and by its chain. In a scan, "no axis so far is w" is the number fact `a ≤ idOf axes w`. Assumes nothing.
+use mathlib.Core.Path.{_≡_, refl, sym, ap, _∙_, subst}
+use mathlib.Core.Bool.{Bool, true, false}
 use mathlib.Core.List.{List}
 use mathlib.Core.Logic.{_≢_, ⊎-elim}
-use Prim.Native.Nat.{ℕ, _+_, _-_, _*_, _≤_, _<_}
+use Prim.Native.Nat.{ℕ, zero, suc, _+_, _-_, _*_, _/_, _%_, _≤_, _<_}
 use native.Mathlib.Nat.{eq-or-lt-of-le}
 use native.Mathlib.Decide.{decLt}
 use native.Mathlib.Omega.{arith}
-use lib.Dec.{eqb}
 use lib.ListN.{length, getD}
-use borrow.Author.Tests.{eqb-false, not-true}
-use Rattle.store.specs.Row.{row-at}
 use Rattle.store.specs.Equal.{sameList, said-same, said-other}
 use Rattle.model.specs.Words.{idOf, wordOf}
-use Rattle.theory.specs.Cases.{and-left, and-right}
 use Rattle.theory.specs.Ids.{id-le, id-first, id-word}
-use Rattle.layout.specs.Rows.{keyRow}
+use Rattle.layout.specs.Rows.{rowCount, forkRow}
+use Rattle.layout.specs.Index.{headCount, headsPlace, linksPlace, indexLength}
 use Rattle.axes.specs.View.{axesOf, axes-length}
-use Rattle.axes.specs.Beside.{keyOf}
+use Rattle.axes.specs.Pick.{pickOf, pick-low, hashTo, totalTo, digitsBy, digitsOf}
+use Rattle.axes.specs.Chains.{nextPlace, next-is, Meets, Walked, meets-some, meets-from, meets-next}
+use Rattle.axes.specs.Chains.Walked.{start, step}
 use Rattle.axes.specs.declared.Sizes.{Sizes}
-use Rattle.axes.specs.Held.{storedAxes, Stored, held-entry}
+use Rattle.axes.specs.Held.{storedAxes, Stored, held-axis}
+use Rattle.interning.specs.declared.Found.{Found}
+use Rattle.interning.specs.declared.Sums.{Sums}
+use Rattle.interning.specs.declared.Walk.{Walk}
 
 module _ (l n : ℕ) (s w : List ℕ) where
   -- p, which is axis a, was compared with w: it is w
@@ -43,104 +45,133 @@ module _ (l n : ℕ) (s w : List ℕ) where
   pub id-none : n ≤ idOf (axesOf l n s) w → n ≡ idOf (axesOf l n s) w
   id-none h = omega (arith, id-le (axesOf l n s) w, axes-length l n s)
 
--- ---- by keys
+-- ---- by its chain
 
--- none of c numbers from p on is v
-pub record NoneOf (c p : ℕ) (s : List ℕ) (v : ℕ) : Type 0 where
-  pub none : (j : ℕ) → j < c → getD s (p + j) 0 ≢ v
+-- a word's numbers added, and its hash
+pub record SumsOf (w : List ℕ) (s : Sums) : Type 0 where
+  pub total : s .total ≡ totalTo w (length w)
+  pub hash : s .hash ≡ hashTo w (length w)
 
-none-of-one : (p : ℕ) (s : List ℕ) (v : ℕ) → getD s p 0 ≢ v → NoneOf 1 p s v
-none-of-one p s v h = record { none = λ j b e. h (ap (λ (i : ℕ). getD s i 0) (let z : p ≡ p + j = omega arith in z) ∙ e) }
+-- the walk for a word with these sums begins at the head of its chain
+pub record FirstAt (z : Sizes) (s : Sums) (r : Walk) : Type 0 where
+  pub place : r .place ≡ headsPlace (z .u) + s .total % headCount
+  pub digits : r .digits ≡ digitsBy (s .hash)
 
--- those from p on, and those behind them
-none-of-more : {a b p q : ℕ} {s : List ℕ} {v : ℕ} → NoneOf a p s v → NoneOf b q s v → q ≡ p + a → NoneOf (a + b) p s v
-none-of-more {a} {b} {p} {q} {s} {v} f g e = record { none = λ j h. go j h (decLt j a) }
-  where
-    go : (j : ℕ) → j < a + b → Dec (j < a) → getD s (p + j) 0 ≢ v
-    go j h (yes c) = f .none j c
-    go j h (no c) = λ x. g .none (j - a) (omega arith) (ap (λ (i : ℕ). getD s i 0) (let m : q + (j - a) ≡ p + j = omega arith in m) ∙ x)
+-- the walk for w, which is no axis, ends at place p: no axis is named there
+pub record EndsAt (z : Sizes) (xs w : List ℕ) (p : ℕ) : Type 0 where
+  pub digits : ℕ
+  pub walk : Walked (z .u) (z .axes) xs (headsPlace (z .u) + pickOf w) (digitsOf w) p digits
+  pub free : getD xs p 0 ≡ 0
 
--- what the code answers of both
-pub none-of-both : {a b p q : ℕ} {s : List ℕ} {v : ℕ} (x y : Bool) → (x ≡ true → NoneOf a p s v) → (y ≡ true → NoneOf b q s v)
-    → q ≡ p + a → x && y ≡ true → NoneOf (a + b) p s v
-none-of-both x y f g e t = none-of-more (f (and-left x y t)) (g (and-right x y t)) e
+-- the id is the scan's; where w is no axis, the next one belongs at the end of its walk
+pub record FoundAs (z : Sizes) (ws xs w : List ℕ) (r : Found) : Type 0 where
+  pub id-is : r .id ≡ idOf (storedAxes z ws) w
+  pub ends : z .axes ≤ r .id → EndsAt z xs w (r .place)
 
-pub none-of-two : (p : ℕ) (s : List ℕ) (v : ℕ) → not (eqb (getD s p 0) v) && not (eqb (getD s (p + 1) 0) v) ≡ true → NoneOf 2 p s v
-none-of-two p s v =
-    let one : (q : ℕ) → not (eqb (getD s q 0) v) ≡ true → NoneOf 1 q s v = λ q t. none-of-one q s v (eqb-false _ _ (not-true _ t)) in
-    none-of-both (not (eqb (getD s p 0) v)) (not (eqb (getD s (p + 1) 0) v)) (one p) (one (p + 1)) refl
+-- the walk for w stands at a place, where this entry is; if w is an axis, it meets that
+pub record Walking (z : Sizes) (ws xs w : List ℕ) (place digits entry : ℕ) : Type 0 where
+  pub walk : Walked (z .u) (z .axes) xs (headsPlace (z .u) + pickOf w) (digitsOf w) place digits
+  pub is : entry ≡ getD xs place 0
+  pub most : entry ≤ z .axes
+  pub meets : idOf (storedAxes z ws) w < z .axes → Meets (z .u) xs (idOf (storedAxes z ws) w) entry digits
 
--- axis id is the next to be looked at, and k is w's key
-pub record PassPre (z : Sizes) (k id : ℕ) (ws xs w : List ℕ) : Type 0 where
-  pub stored : Stored z ws xs
-  pub low : id < z .axes
-  pub before : id ≤ idOf (storedAxes z ws) w
-  pub key : k ≡ keyOf w
+-- how many axes a walk may still come to
+unfoldable pub left : ℕ → ℕ → ℕ
+left n zero = 0
+left n (suc e) = suc n - e
 
--- no axis before r is w, and id is w if r is no further
-pub record Passed (z : Sizes) (id : ℕ) (ws w : List ℕ) (r : ℕ) : Type 0 where
-  pub low : id ≤ r
-  pub high : r ≤ z .axes
-  pub before : r ≤ idOf (storedAxes z ws) w
-  pub stops : r ≡ id → id ≡ idOf (storedAxes z ws) w
+pub left-less : (n e f : ℕ) → e ≢ 0 → e ≤ n → f ≤ n → (0 < f → e < f) → left n f < left n e
+unfolding left
+left-less n zero f s a b r = absurd (s refl)
+left-less n (suc e) zero s a b r = omega arith
+left-less n (suc e) (suc f) s a b r = let k : suc e < suc f = r (omega arith) in omega arith
 
-module _ {z : Sizes} {k id : ℕ} {ws xs w : List ℕ} (h : PassPre z k id ws xs w) where
-  -- the keys of c axes from id on are in the store
-  pub keys-in : (c : ℕ) → id + c ≤ z .axes → keyRow * z .u + id + c ≤ length xs
-  keys-in c b = omega (arith, h .stored .numbers-long, h .stored .fit .rows (z .axes) (h .stored .within))
+module _ {z : Sizes} {ws xs : List ℕ} (h : Stored z ws xs) where
+  abbrev id : List ℕ → ℕ
+  id w = idOf (storedAxes z ws) w
 
-  -- axis a's key
-  key-at : (a : ℕ) → a < z .axes → getD xs (keyRow * z .u + a) 0 ≡ keyOf (wordOf (storedAxes z ws) a)
-  key-at a b = sym (row-at xs (z .u) keyRow a (held-entry (h .stored) a b)) ∙ h .stored .beside a b .key
+  count : length (storedAxes z ws) ≡ z .axes
+  count = axes-length (z .l) (z .axes) ws
 
-  -- w is behind axes with other keys
-  behind : (c : ℕ) → id + c ≤ z .axes → NoneOf c (keyRow * z .u + id) xs k → id + c ≤ idOf (storedAxes z ws) w
-  behind c b f = go (decLt (idOf (storedAxes z ws) w) (id + c))
+  -- heads and links are in the store
+  pub index-in : linksPlace (z .u) + z .axes ≤ length xs
+  index-in = omega (arith, h .index-long, h .fit .links (z .axes) (h .within))
+
+  pub first-in : {s : Sums} {r : Walk} → FirstAt z s r → r .place < length xs
+  first-in f = omega (arith, index-in, f .place)
+
+  -- a place to which a walk comes is in the index
+  pub walked-in : {c d p k : ℕ} → c < headCount → Walked (z .u) (z .axes) xs (headsPlace (z .u) + c) d p k
+      → (forkRow * z .u ≤ p) × (p < length xs)
+  walked-in {c} {p = p} low (start e f) = (omega arith, omega (arith, h .index-long, h .fit .links (z .axes) (h .within)))
+  walked-in low (step {h = g} b v e lt f _) =
+      let long = h .index-long in
+      let links = h .fit .links (z .axes) (h .within) in
+      let rows = h .fit .rows (z .axes) (h .within) in
+      ⊎-elim (λ k. (omega arith, omega arith)) (λ k. (omega arith, omega arith)) (next-is (z .u) b g)
+
+  -- it begins
+  pub walking-first : (w : List ℕ) {s : Sums} {entry : ℕ} {r : Walk} → SumsOf w s → FirstAt z s r
+      → entry ≡ getD xs (r .place) 0 → Walking z ws xs w (r .place) (r .digits) entry
+  unfolding pickOf
+  walking-first w {s} {entry} {r} e f g = record {
+    walk = start at (f .digits ∙ ap digitsBy (e .hash));
+    is = g;
+    most = omega (arith, g, ap (λ (p : ℕ). getD xs p 0) at, h .index .heads (pickOf w) (pick-low w));
+    meets = λ b.
+        let v : wordOf (storedAxes z ws) (id w) ≡ w = id-word (storedAxes z ws) w (omega (arith, count)) in
+        let m = subst (λ (y : List ℕ). Meets (z .u) xs (id w) (getD xs (headsPlace (z .u) + pickOf y) 0) (digitsOf y)) v (h .index .met (id w) b) in
+        rw (g, at, f .digits, e .hash) m;
+  }
     where
-      i : ℕ
-      i = idOf (storedAxes z ws) w
+      at : r .place ≡ headsPlace (z .u) + pickOf w
+      at = f .place ∙ ap (λ (n : ℕ). headsPlace (z .u) + n % headCount) (e .total)
 
-      go : Dec (i < id + c) → id + c ≤ i
-      go (no n) = omega arith
-      go (yes y) =
-          absurd (f .none (i - id) (omega (arith, h .before))
-          (ap (λ (q : ℕ). getD xs q 0) (let m : keyRow * z .u + id + (i - id) ≡ keyRow * z .u + i = omega (arith, h .before) in m)
-          ∙ key-at i (omega arith)
-          ∙ ap keyOf (id-word (storedAxes z ws) w (omega (arith, axes-length (z .l) (z .axes) ws)))
-          ∙ sym (h .key)))
+  module _ {w : List ℕ} {place digits entry : ℕ} (g : Walking z ws xs w place digits entry) where
+    pub walking-in : place < length xs
+    walking-in = walked-in (pick-low w) (g .walk) .1
 
-  -- sixteen have other keys
-  pub pass-sixteen : 16 ≤ z .axes - id → {r : Bool} → (r ≡ true → NoneOf 16 (keyRow * z .u + id) xs k) → r ≡ true → Passed z id ws w (id + 16)
-  pass-sixteen e f t = record {
-    low = omega arith;
-    high = omega (arith, h .low);
-    before = behind 16 (omega (arith, h .low)) (f t);
-    stops = λ q. absurd (omega arith);
-  }
+    -- it names no axis
+    pub walking-end : entry ≡ 0 → {r : Found} → r .id ≡ z .axes → r .place ≡ place → FoundAs z ws xs w r
+    walking-end e {r} f k = record {
+      id-is = f ∙ go (decLt (id w) (z .axes));
+      ends = λ _. record { digits = digits; walk = rw k (g .walk); free = ap (λ (p : ℕ). getD xs p 0) k ∙ sym (g .is) ∙ e };
+    }
+      where
+        go : Dec (id w < z .axes) → z .axes ≡ id w
+        go (yes b) = absurd (omega (arith, meets-some (g .meets b)))
+        go (no b) = omega (arith, id-le (storedAxes z ws) w, count)
 
-  -- axis id is w
-  pub pass-here : {r : Bool} {p : List ℕ} → r ≡ sameList p w → r ≡ true → p ≡ wordOf (storedAxes z ws) id → Passed z id ws w id
-  pass-here f t e = record {
-    low = omega arith;
-    high = omega (arith, h .low);
-    before = h .before;
-    stops = λ q. id-here (z .l) (z .axes) ws w id (h .before) (h .low) f t e;
-  }
+    module _ (some : entry ≢ 0) where
+      named : entry ≡ (entry - 1) + 1
+      named = omega arith
 
-  -- axis id is another word
-  pub pass-other : {r : Bool} {p : List ℕ} → r ≡ sameList p w → r ≡ false → p ≡ wordOf (storedAxes z ws) id → Passed z id ws w (id + 1)
-  pass-other f t e = record {
-    low = omega arith;
-    high = omega (arith, h .low);
-    before = id-next (z .l) (z .axes) ws w id (h .before) (h .low) f t e;
-    stops = λ q. absurd (omega arith);
-  }
+      pub walking-axis : entry - 1 < z .axes
+      walking-axis = omega (arith, g .most)
 
-  -- it has another key
-  pub pass-one : getD xs (keyRow * z .u + id) 0 ≢ k → Passed z id ws w (id + 1)
-  pass-one n = record {
-    low = omega arith;
-    high = omega (arith, h .low);
-    before = behind 1 (omega (arith, h .low)) (none-of-one _ _ _ n);
-    stops = λ q. absurd (omega arith);
-  }
+      -- it names w
+      pub walking-here : {s : Bool} {p : List ℕ} → s ≡ sameList p w → s ≡ true → p ≡ wordOf (storedAxes z ws) (entry - 1)
+          → {r : Found} → r .id ≡ entry - 1 → FoundAs z ws xs w r
+      walking-here f t e {r} k =
+          let first : id w ≤ entry - 1 = id-first (storedAxes z ws) w (entry - 1) (omega (arith, count, walking-axis)) (said-same f t e) in
+          let last : entry - 1 ≤ id w = meets-from (rw named at (g .meets (omega (arith, walking-axis)))) in
+          record { id-is = omega arith; ends = λ b. absurd (omega (arith, walking-axis)) }
+
+      -- it names another
+      pub walking-next : {s : Bool} {p : List ℕ} → s ≡ sameList p w → s ≡ false → p ≡ wordOf (storedAxes z ws) (entry - 1)
+          → {q d f : ℕ} → q ≡ nextPlace (z .u) (entry - 1) digits → d ≡ digits / 2 → f ≡ getD xs q 0
+          → Walking z ws xs w q d f × (left (z .axes) f < left (z .axes) entry)
+      walking-next a t e {q} {d} {f} at rest is =
+          let link = h .index .links (entry - 1) digits walking-axis in
+          let same : f ≡ getD xs (nextPlace (z .u) (entry - 1) digits) 0 = is ∙ ap (λ (p : ℕ). getD xs p 0) at in (
+            record {
+              walk = step (entry - 1) (g .walk) (sym (g .is) ∙ named) walking-axis at rest;
+              is = is;
+              most = omega (arith, link .most);
+              meets = λ b.
+                  let other : entry - 1 ≢ id w = λ k.
+                  said-other a t e (ap (wordOf (storedAxes z ws)) k ∙ id-word (storedAxes z ws) w (omega (arith, count))) in
+                  rw (same, rest) (meets-next (rw named at (g .meets b)) other);
+            },
+            left-less (z .axes) entry f some (g .most) (omega (arith, link .most)) (λ n. omega (arith, link .rises (omega arith))),
+          )

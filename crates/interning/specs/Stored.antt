@@ -2,8 +2,6 @@
 use mathlib.Core.Path.{_≡_, refl, sym, ap, _∙_, subst}
 use mathlib.Core.List.{List, [], _∷_, _++_}
 use Prim.Native.Nat.{ℕ, _+_, _-_, _*_, _≤_, _<_, max}
-use native.Mathlib.Nat.{suc-mul}
-use native.Mathlib.Numerals.{add-one}
 use native.Mathlib.Decide.{decLt}
 use native.Mathlib.Omega.{arith}
 use lib.ListN.{length, List·getD-append}
@@ -15,10 +13,12 @@ use Rattle.layout.specs.Rows.{axesRows}
 use Rattle.layout.specs.Only.{Only}
 use Rattle.layout.specs.Words.{axisPlace, KeptFrom, kept-none, kept-put}
 use Rattle.axes.specs.View.{axesOf, wordAt, axes-length, axes-put}
+use Rattle.axes.specs.Pick.{pickOf, digitsOf}
 use Rattle.axes.specs.Beside.{Beside, SameBeside, same-beside}
+use Rattle.axes.specs.Chains.{Index}
 use Rattle.axes.specs.declared.Sizes.{Sizes}
 use Rattle.axes.specs.Held.{withAxes, storedAxes, HoldsAxes, held-count}
-use Rattle.interning.specs.Intern.{sumWith, InternPre, Stores, Answered, answered-old, answered-limit}
+use Rattle.interning.specs.Intern.{sumWith, one-more, storeWith, InternPre, Stores, Answered, answered-old, answered-limit}
 use Rattle.interning.specs.Intern.{intern-new, answered-new, answered-one}
 use Rattle.interning.specs.declared.StoredAxis.{StoredAxis}
 use Rattle.interning.specs.declared.Interned.{Interned}
@@ -47,9 +47,6 @@ abbrev pub InternedAs : Sizes → ℕ → List ℕ → List ℕ → Store → Li
 InternedAs z others ws xs st w (Axis a) ws′ xs′ = HasAxis z others ws xs st w a ws′ xs′
 InternedAs z others ws xs st w Full ws′ xs′ = NoRoom z others ws xs st w ws′ xs′
 
-one-more : (l n : ℕ) → axisPlace l (n + 1) ≡ axisPlace l n + 2 * l
-one-more l n = rw (add-one n) (omega (arith, suc-mul n (2 * l)))
-
 module _ (z : Sizes) (others : ℕ) (ws xs : List ℕ) (at : ℕ) (st : Store) (pre : InternPre z others (st .peak) ws xs at)
     (h : HoldsAxes z ws xs (st .axes)) where
   found : idOf (st .axes) (wordAt (z .l) ws at) ≡ idOf (storedAxes z ws) (wordAt (z .l) ws at)
@@ -71,9 +68,20 @@ module _ (z : Sizes) (others : ℕ) (ws xs : List ℕ) (at : ℕ) (st : Store) (
         let f = getD-at (st .axes) (wordAt (z .l) ws at) [] [] (z .axes) (held-count h) in
         rw e (subst (Beside (z .l) (z .u) xs′ (z .axes)) (sym f) own)
 
-    old : (id : ℕ) → id ≡ idOf (storedAxes z ws) (wordAt (z .l) ws at) → id < z .axes
+    -- the index of n axes, as the code leaves it
+    abbrev IndexLeft : ℕ → Type 0
+    IndexLeft n =
+        Index pickOf digitsOf (z .u) n xs′ (intern (z .l) others (storeWith (st .peak) (storedAxes z ws)) (wordAt (z .l) ws at) .axes)
+
+    -- and by the store's name for the axes
+    index-as : {n : ℕ} → IndexLeft n → Index pickOf digitsOf (z .u) n xs′ (intern (z .l) others st (wordAt (z .l) ws at) .axes)
+    index-as {n} x =
+        subst (λ (axes : List (List ℕ)).
+        Index pickOf digitsOf (z .u) n xs′ (intern (z .l) others (storeWith (st .peak) axes) (wordAt (z .l) ws at) .axes)) (h .are) x
+
+    old : IndexLeft (z .axes) → (id : ℕ) → id ≡ idOf (storedAxes z ws) (wordAt (z .l) ws at) → id < z .axes
         → HasAxis z others ws xs st (wordAt (z .l) ws at) (record { id = id; axes = z .axes; peak = st .peak }) ws xs′
-    old id e b =
+    old index id e b =
         let k = intern-old (z .l) others st (wordAt (z .l) ws at) (omega (arith, held-count h, found)) in
         record {
           id-is = e ∙ sym found;
@@ -82,8 +90,10 @@ module _ (z : Sizes) (others : ℕ) (ws xs : List ℕ) (at : ℕ) (st : Store) (
             within = h .within;
             words-long = h .words-long;
             numbers-long = omega (arith, h .numbers-long, o .long);
-            fit = record { rows = h .fit .rows; narrow = h .fit .narrow };
+            fit = record { rows = h .fit .rows; links = h .fit .links; narrow = h .fit .narrow; small = h .fit .small };
+            index-long = omega (arith, h .index-long, o .long);
             beside = λ a i. subst (λ (x : Store). Beside (z .l) (z .u) xs′ a (wordOf (x .axes) a)) (sym k) (beside-old a (omega arith));
+            index = index-as index;
           };
           peak-is = ap (λ (x : Store). x .peak) k;
           fits = pre .tested;
@@ -92,13 +102,13 @@ module _ (z : Sizes) (others : ℕ) (ws xs : List ℕ) (at : ℕ) (st : Store) (
           numbers = o;
         }
 
-    new : Beside (z .l) (z .u) xs′ (z .axes) (wordAt (z .l) ws at) → (id : ℕ)
+    new : IndexLeft (z .axes + 1) → Beside (z .l) (z .u) xs′ (z .axes) (wordAt (z .l) ws at) → (id : ℕ)
         → id ≡ idOf (storedAxes z ws) (wordAt (z .l) ws at) → id ≡ z .axes
         → sumWith (z .l) others (z .axes) ≤ z .limit
         → HasAxis z others ws xs st (wordAt (z .l) ws at)
         (record { id = id; axes = z .axes + 1; peak = max (st .peak) (sumWith (z .l) others (z .axes)) })
         (put ws (axisPlace (z .l) (z .axes)) (wordAt (z .l) ws at)) xs′
-    new own id e f b =
+    new index own id e f b =
         let k = intern-new (z .l) others st (wordAt (z .l) ws at) (omega (arith, held-count h, found)) in
         let g : length (wordAt (z .l) ws at) ≡ 2 * z .l = part-length ws at (2 * z .l) (pre .word-in) in
         let sum : sumWith (z .l) others (length (st .axes)) ≡ sumWith (z .l) others (z .axes) = ap (sumWith (z .l) others) (held-count h) in
@@ -113,9 +123,11 @@ module _ (z : Sizes) (others : ℕ) (ws xs : List ℕ) (at : ℕ) (st : Store) (
             words-long =
                 omega (arith, h .words-long, put-length ws (axisPlace (z .l) (z .axes)) (wordAt (z .l) ws at) (omega (arith, h .words-long)));
             numbers-long = omega (arith, h .numbers-long, o .long);
-            fit = record { rows = h .fit .rows; narrow = h .fit .narrow };
+            fit = record { rows = h .fit .rows; links = h .fit .links; narrow = h .fit .narrow; small = h .fit .small };
+            index-long = omega (arith, h .index-long, o .long);
             beside = λ a i. subst (λ (x : Store). Beside (z .l) (z .u) xs′ a (wordOf (x .axes) a)) (sym k)
                 (beside-more own a (omega arith) (decLt a (z .axes)));
+            index = index-as index;
           };
           peak-is = ap (λ (x : Store). x .peak) k ∙ ap (max (st .peak)) sum;
           fits = omega (arith, pre .tested);
@@ -148,8 +160,8 @@ module _ (z : Sizes) (others : ℕ) (ws xs : List ℕ) (at : ℕ) (st : Store) (
 
       go : Dec (idOf (storedAxes z ws) (wordAt (z .l) ws at) < z .axes) → Dec (z .limit < sumWith (z .l) others (z .axes))
           → InternedAs z others ws xs st (wordAt (z .l) ws at) r ws′ xs′
-      go (yes a) d = so (answered-old z others _ ws at _ refl refl (pre .tested) a) (λ e. old (s .numbers) (s .kept) _ refl a)
+      go (yes a) d = so (answered-old z others _ ws at _ refl refl (pre .tested) a) (λ e. old (s .numbers) (s .kept) (s .index _ e) _ refl a)
       go (no a) (yes b) = so (answered-limit z others _ ws at _ refl refl refl (omega arith) b) (λ e. none (s .numbers) (s .kept) (last a) b)
       go (no a) (no b) =
           so (answered-new z others _ ws at _ refl refl refl (omega arith) (pre .tested) (omega arith) refl _ refl)
-          (λ e. new (s .numbers) (s .kept) (s .new _ e (omega arith)) _ refl (last a) (omega arith))
+          (λ e. new (s .numbers) (s .kept) (s .index _ e) (s .new _ e (omega arith)) _ refl (last a) (omega arith))

@@ -1,16 +1,19 @@
 // Axes found and stored: a word's id among the stored axes, or a new one behind them.
 ghost use mathlib.Core.Path.{_≡_};
 ghost use mathlib.Core.Bool.{true};
-ghost use Prim.Native.Nat.{_+_, _<_};
-ghost use lib.ListN.{length};
+ghost use Prim.Native.Nat.{_+_, _^_, _<_, _≤_};
+ghost use lib.ListN.{length, getD};
 ghost use Rattle.model.specs.Words.{idOf};
-ghost use Rattle.axes.specs.Beside.{totalTo, keyOf};
+ghost use Rattle.layout.specs.Index.{linksPlace};
+ghost use Rattle.axes.specs.Chains.{nextPlace};
 ghost use Rattle.axes.specs.Held.{storedAxes, Stored};
-ghost use Rattle.interning.specs.Find.{NoneOf, PassPre, Passed};
+ghost use Rattle.interning.specs.Find.{SumsOf, FirstAt, FoundAs};
 ghost use Rattle.interning.specs.Beside.{BesidePre, BesidePut};
+ghost use Rattle.interning.specs.Link.{LinkPre, LinkPut, Entered, ChainsCleared};
 ghost use Rattle.interning.specs.Intern.{InternPre, Stores};
 use axes::Sizes;
-use layout::KEY;
+use layout::FORK;
+use layout::HEADS;
 use layout::SIGNATURE;
 use pauli::same;
 
@@ -21,109 +24,165 @@ pub struct StoredAxis {
     pub peak: usize,
 }
 
+// A hash is held in halves of 32 bits; it is multiplied by an odd number, and reduced by the largest prime below 2^32.
+const HALF: u64 = 4294967296;
+const MULTIPLIER: u64 = 2654435769;
+const PRIME: u64 = 4294967291;
+
 // A word is an axis, or the word store is full: the limit leaves no room for a new word.
 pub enum Interned {
     Axis(StoredAxis),
     Full,
 }
 
-// The numbers of w, added modulo 2^64.
-fn total(w: &[u64]) -> u64
-    ensures { λ r. ⌜ r ≡ totalTo (now (w .entry)) (length (now (w .entry))) ⌝ }
+// What the index goes by: a word's numbers added modulo 2^64, and its hash.
+struct Sums {
+    total: u64,
+    hash: u64,
+}
+
+// A word's numbers, read once.
+fn sums_of(w: &[u64]) -> Sums
+    ensures { λ r. ⌜ SumsOf (now (w .entry)) r ⌝ }
 {
-    let mut sum: u64 = 0;
+    let mut total: u64 = 0;
+    let mut hash: u64 = 0;
     for k in 0..w.len() {
-        sum = std::num::wrapping_add_u64(sum, w[k]);
+        let number = w[k];
+        total = std::num::wrapping_add_u64(total, number);
+        hash = std::num::wrapping_add_u64(hash % HALF * MULTIPLIER + hash / HALF, number);
     }
-    sum
+    Sums { total, hash }
 }
 
-// The key of w: words with other keys are other words.
-fn key(w: &[u64]) -> u32
-    ensures { λ r. ⌜ r ≡ keyOf (now (w .entry)) ⌝ }
-{
-    (total(w) % 4294967291) as u32
+// A word among the axes, or the end of the walk for it: its id, their number if it is none of them, and the place that the walk came to.
+pub struct Found {
+    pub id: usize,
+    pub place: usize,
 }
 
-// Whether neither of two numbers from p on is v.
-fn none_of_two(numbers: &[u32], p: usize, v: u32) -> bool
-    requires { ⌜ p + 1 < length (now numbers) ⌝ }
-    ensures { λ r. ⌜ (r ≡ true → NoneOf 2 p (now (numbers .entry)) v) ⌝ }
+// The place of the link by which a walk goes on behind axis b.
+fn next(z: Sizes, b: usize, digits: u64) -> usize
+    requires { ⌜ linksPlace (z .u) + b < 2 ^ 64 ⌝ }
+    ensures { λ r. ⌜ r ≡ nextPlace (z .u) b digits ⌝ }
 {
-    (numbers[p] != v) & (numbers[p + 1] != v)
-}
-
-// Whether none of four is.
-fn none_of_four(numbers: &[u32], p: usize, v: u32) -> bool
-    requires { ⌜ p + 3 < length (now numbers) ⌝ }
-    ensures { λ r. ⌜ (r ≡ true → NoneOf 4 p (now (numbers .entry)) v) ⌝ }
-{
-    none_of_two(numbers, p, v) & none_of_two(numbers, p + 2, v)
-}
-
-// Whether none of eight is.
-fn none_of_eight(numbers: &[u32], p: usize, v: u32) -> bool
-    requires { ⌜ p + 7 < length (now numbers) ⌝ }
-    ensures { λ r. ⌜ (r ≡ true → NoneOf 8 p (now (numbers .entry)) v) ⌝ }
-{
-    none_of_four(numbers, p, v) & none_of_four(numbers, p + 4, v)
-}
-
-// Whether none of sixteen is. All are compared before the one branch, and side by side.
-fn none_of_sixteen(numbers: &[u32], p: usize, v: u32) -> bool
-    requires { ⌜ p + 15 < length (now numbers) ⌝ }
-    ensures { λ r. ⌜ (r ≡ true → NoneOf 16 p (now (numbers .entry)) v) ⌝ }
-{
-    none_of_eight(numbers, p, v) & none_of_eight(numbers, p + 8, v)
-}
-
-// The next axis that may be w, whose key is k, behind sixteen or one with other keys; id itself, if it is w.
-fn pass(words: &[u64], numbers: &[u32], z: Sizes, w: &[u64], k: u32, id: usize) -> usize
-    requires { ⌜ PassPre z k id (now words) (now numbers) (now w) ⌝ }
-    ensures { λ r. ⌜ Passed z id (now (words .entry)) (now (w .entry)) r ⌝ }
-{
-    let p = KEY * z.u + id;
-    if z.axes - id >= 16 && none_of_sixteen(numbers, p, k) {
-        return id + 16;
+    if digits % 2 == 0 {
+        return layout::links_at(z.u) + b;
     }
-    if numbers[p] != k {
-        return id + 1;
-    }
-    if same(axes::axis(words, id, z.l), w) {
-        return id;
-    }
-    id + 1
+    FORK * z.u + b
 }
 
-// The id of w among the axes; their number if it is none of them.
-pub fn find(words: &[u64], numbers: &[u32], z: Sizes, w: &[u64]) -> usize
+// Where a walk stands, and the digits by which it goes on.
+struct Walk {
+    place: usize,
+    digits: u64,
+}
+
+// Where the walk for a word with these sums begins: at the head of the chain that is picked for it.
+fn first(z: Sizes, s: Sums) -> Walk
+    requires { ⌜ linksPlace (z .u) < 2 ^ 64 ⌝ }
+    ensures { λ r. ⌜ FirstAt z s r ⌝ }
+{
+    Walk {
+        place: layout::heads_at(z.u) + (s.total % HEADS as u64) as usize,
+        digits: s.hash % PRIME * MULTIPLIER / 1048576,
+    }
+}
+
+// The entry of the index at a place: 0, or an axis's id and 1.
+fn entry_at(numbers: &[u32], place: usize) -> u32
+    requires { ⌜ place < length (now numbers) ⌝ }
+    ensures { λ r. ⌜ r ≡ getD (now (numbers .entry)) place 0 ⌝ }
+{
+    numbers[place]
+}
+
+// The id of w among the axes, found by its chain.
+pub fn find(words: &[u64], numbers: &[u32], z: Sizes, w: &[u64]) -> Found
+    requires { ⌜ Stored z (now words) (now numbers) ⌝ }
+    ensures { λ r. ⌜ FoundAs z (now (words .entry)) (now (numbers .entry)) (now (w .entry)) r ⌝ }
+{
+    let begin = first(z, sums_of(w));
+    let mut place = begin.place;
+    let mut digits = begin.digits;
+    let mut entry = entry_at(numbers, place) as usize;
+    while entry != 0 {
+        if same(axes::axis(words, entry - 1, z.l), w) {
+            return Found {
+                id: entry - 1,
+                place,
+            };
+        }
+        place = next(z, entry - 1, digits);
+        digits = digits / 2;
+        entry = entry_at(numbers, place) as usize;
+    }
+    Found { id: z.axes, place }
+}
+
+// The id of w among the axes, by a scan of all: 01's rule, to which `find` is held.
+pub fn scan(words: &[u64], numbers: &[u32], z: Sizes, w: &[u64]) -> usize
     requires { ⌜ Stored z (now words) (now numbers) ⌝ }
     ensures { λ r. ⌜ r ≡ idOf (storedAxes z (now (words .entry))) (now (w .entry)) ⌝ }
 {
-    let k = key(w);
     let count = z.axes;
-    let mut id = 0;
-    while id < count {
-        let next = pass(words, numbers, z, w, k, id);
-        if next == id {
-            return next;
+    for id in 0..count {
+        if same(axes::axis(words, id, z.l), w) {
+            return id;
         }
-        id = next;
     }
     count
 }
 
-// Beside the next axis stand the key of its word w and, where words are longer than one number, its signature.
+// 02: "Ids and results stay equal to the scan's, which is kept and proved to agree."
+pub fn agree(words: &[u64], numbers: &[u32], z: Sizes, w: &[u64]) -> bool
+    requires { ⌜ Stored z (now words) (now numbers) ⌝ }
+    ensures { λ r. ⌜ r ≡ true ⌝ }
+{
+    find(words, numbers, z, w).id == scan(words, numbers, z, w)
+}
+
+// Every chain is empty.
+pub fn clear_chains(numbers: &mut [u32], u: usize)
+    requires { ⌜ linksPlace u ≤ length (now numbers) ⌝ }
+    ensures { λ _. ⌜ ChainsCleared u (now (numbers .entry)) (now (numbers .exit)) ⌝ }
+{
+    let a = layout::heads_at(u);
+    let e = layout::links_at(u);
+    store::zero_numbers(&mut numbers[a..e]);
+}
+
+// Beside the next axis stands, where words are longer than one number, the signature of its word w.
 fn put_beside(numbers: &mut [u32], z: Sizes, w: &[u64])
     requires { ⌜ BesidePre z (now numbers) (now w) ⌝ }
     ensures { λ _. ⌜ BesidePut z (now (numbers .entry)) (now (w .entry)) (now (numbers .exit)) ⌝ }
 {
-    store::write(numbers, z.u, KEY, z.axes, key(w));
     if z.l == 1 {
         return;
     }
     let signature = support::support_signature(w, z.l);
     store::write_wide(numbers, z.u, SIGNATURE, z.axes, signature);
+}
+
+// At the end of its chain's walk stands the next axis, behind it nothing.
+fn put_link(numbers: &mut [u32], z: Sizes, place: usize)
+    requires { ⌜ LinkPre z place (now numbers) ⌝ }
+    ensures { λ _. ⌜ LinkPut z place (now (numbers .entry)) (now (numbers .exit)) ⌝ }
+{
+    let link = layout::links_at(z.u) + z.axes;
+    numbers[link] = 0;
+    let fork = FORK * z.u + z.axes;
+    numbers[fork] = 0;
+    numbers[place] = (z.axes + 1) as u32;
+}
+
+// All that the number store holds of the next axis: beside it, and in the chain of its word w.
+fn enter(numbers: &mut [u32], z: Sizes, w: &[u64], place: usize)
+    requires { ⌜ BesidePre z (now numbers) (now w) × LinkPre z place (now numbers) ⌝ }
+    ensures { λ _. ⌜ Entered z place (now (numbers .entry)) (now (w .entry)) (now (numbers .exit)) ⌝ }
+{
+    put_beside(numbers, z, w);
+    put_link(numbers, z, place);
 }
 
 // The word at a place among the axes, stored behind them if it is new. The sum that is tested counts the other words besides the axes.
@@ -138,12 +197,13 @@ pub fn intern(
     requires { ⌜ InternPre z others peak (now words) (now numbers) at ⌝ }
     ensures { λ r. ⌜ Stores z others peak (now (words .entry)) (now (numbers .entry)) at r (now (words .exit)) (now (numbers .exit)) ⌝ }
 {
-    let id = find(
+    let found = find(
         &words[..],
         &numbers[..],
         z,
         axes::word_at(&words[..], at, z.l),
     );
+    let id = found.id;
     if id < z.axes {
         return Interned::Axis(StoredAxis {
             id,
@@ -157,7 +217,8 @@ pub fn intern(
     if z.limit < sum {
         return Interned::Full;
     }
-    put_beside(numbers, z, axes::word_at(&words[..], at, z.l));
+    let w = axes::word_at(&words[..], at, z.l);
+    enter(numbers, z, w, found.place);
     store::copy_within(words, at, end, n);
     Interned::Axis(StoredAxis {
         id,

@@ -44,9 +44,10 @@ badOption o =
 unfoldable pub wordsAsked : ℕ → ℕ → ℕ
 wordsAsked l limit = limit + 16 * l
 
--- "numbers below 24 × (nodes + operations + 2 × qubits + limit div (2 × l) + 1)"
+-- "numbers below 24 × (nodes + operations + 2 × qubits + limit div (2 × l) + 1)";
+-- 02, M-102: "The number store of refusal 3 grows by 1,024 plus limit div (2 × l)"
 unfoldable pub numbersAsked : ℕ → Counts → ℕ → ℕ
-numbersAsked l c limit = 24 * (c .nodes + c .operations + 2 * c .qubits + limit / (2 * l) + 1)
+numbersAsked l c limit = 24 * (c .nodes + c .operations + 2 * c .qubits + limit / (2 * l) + 1) + (1024 + limit / (2 * l))
 
 -- "a program slice below its count of records"
 unfoldable pub programShort : Job → Bool

@@ -10,6 +10,7 @@ ghost use Rattle.packing.specs.RestKept.{RestKept};
 ghost use Rattle.packing.specs.Phases.{PhasePre, phaseIn};
 ghost use Rattle.packing.specs.Packed.{PackPre, PackedAs};
 ghost use Rattle.records.specs.Given.{programIn};
+ghost use Rattle.axes.specs.Held.{NoChains};
 
 mod values;
 
@@ -189,8 +190,8 @@ fn pack_node(
     }
 }
 
-// Packs the program: every root's axis and sign, and the axes' words, or a refusal by 9 or 10.
-pub fn pack(
+// The same where every chain is empty.
+fn pack_nodes(
     nodes: &[u32],
     operations: &[u32],
     rows: &[u32],
@@ -198,7 +199,7 @@ pub fn pack(
     numbers: &mut [u32],
     shape: Shape,
 ) -> Packed
-    requires { ⌜ PackPre shape (now nodes) (now operations) (now rows) (now words) (now numbers) ⌝ }
+    requires { ⌜ PackPre shape (now nodes) (now operations) (now rows) (now words) (now numbers) × NoChains (shape .u) (now numbers) ⌝ }
     ensures { λ r. ⌜ PackedAs shape (programIn shape (now (nodes .entry)) (now (operations .entry)) (now (rows .entry))) r
         (now (words .entry)) (now (numbers .entry)) (now (words .exit)) (now (numbers .exit)) ⌝ }
 {
@@ -223,4 +224,21 @@ pub fn pack(
         count: st.axes,
         peak: st.peak,
     }
+}
+
+// Packs the program: every root's axis and sign, and the axes' words, or a refusal by 9 or 10.
+pub fn pack(
+    nodes: &[u32],
+    operations: &[u32],
+    rows: &[u32],
+    words: &mut [u64],
+    numbers: &mut [u32],
+    shape: Shape,
+) -> Packed
+    requires { ⌜ PackPre shape (now nodes) (now operations) (now rows) (now words) (now numbers) ⌝ }
+    ensures { λ r. ⌜ PackedAs shape (programIn shape (now (nodes .entry)) (now (operations .entry)) (now (rows .entry))) r
+        (now (words .entry)) (now (numbers .entry)) (now (words .exit)) (now (numbers .exit)) ⌝ }
+{
+    interning::clear_chains(numbers, shape.u);
+    pack_nodes(nodes, operations, rows, words, numbers, shape)
 }

@@ -20,8 +20,8 @@ pub fn words() -> [u64; 4200]
     [0; 4200]
 }
 
-pub fn numbers() -> [u32; 80000]
-    ensures { λ r. ⌜ 80000 ≡ length r ⌝ }
+pub fn numbers() -> [u32; 84000]
+    ensures { λ r. ⌜ 84000 ≡ length r ⌝ }
 {
-    [0; 80000]
+    [0; 84000]
 }

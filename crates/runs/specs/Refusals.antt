@@ -60,7 +60,7 @@ abbrev nodes : List (List ℕ)
 nodes = I ∷ X 0 ∷ Z 0 ∷ []
 
 abbrev check : Job → Answer
-check j = checking options j (lent 400)
+check j = checking options j (lent 1500)
 
 abbrev checkNodesOf : List (List ℕ) → Answer
 checkNodesOf ns = check (job1 ns [])
@@ -83,25 +83,25 @@ pub record Refused : Type 0 where
   pub nodes-65535 : check (counted 1 65535 0) ≡ SliceShort
   pub operations-65535 : check (counted 1 1 65535) ≡ SliceShort
   -- 2, after 1
-  pub too-many-rounds : checking (withRounds 256) (job1 nodes []) (lent 400) ≡ OptionOutside
-  pub rounds-255 : checking (withRounds 255) (job1 nodes []) (lent 400) ≡ Accepted
-  pub largest-options : checking (withSizes 1048576 1048576 1048576) (job1 nodes []) (lent 400) ≡ Accepted
-  pub large-lookback : checking (withSizes 1048577 0 0) (job1 nodes []) (lent 400) ≡ OptionOutside
-  pub large-window : checking (withSizes 0 1048577 0) (job1 nodes []) (lent 400) ≡ OptionOutside
-  pub large-candidates : checking (withSizes 0 0 1048577) (job1 nodes []) (lent 400) ≡ OptionOutside
-  pub largest-limit : checking (defaultsAt 1048576) (job1 nodes []) (lent 400) ≡ SliceShort
-  pub large-limit : checking (defaultsAt 1048577) (job1 nodes []) (lent 400) ≡ OptionOutside
-  pub count-before-option : checking (withRounds 256) (counted 1 0 0) (lent 400) ≡ CountOutside
-  -- 3, after 2: 28 words and 24 × (3 + 0 + 2 + 6 + 1) numbers are asked
-  pub enough : checking options (job1 nodes []) (lengths 28 288 0 8) ≡ Accepted
-  pub few-words : checking options (job1 nodes []) (lengths 27 288 0 8) ≡ SliceShort
-  pub few-numbers : checking options (job1 nodes []) (lengths 28 287 0 8) ≡ SliceShort
-  pub few-rows : checking options (job1 nodes []) (lengths 28 288 0 7) ≡ SliceShort
-  pub few-operations : checking options (job1 nodes (rotate 1 0 1 ∷ [])) (lengths 28 312 5 8) ≡ SliceShort
+  pub too-many-rounds : checking (withRounds 256) (job1 nodes []) (lent 1500) ≡ OptionOutside
+  pub rounds-255 : checking (withRounds 255) (job1 nodes []) (lent 1500) ≡ Accepted
+  pub largest-options : checking (withSizes 1048576 1048576 1048576) (job1 nodes []) (lent 1500) ≡ Accepted
+  pub large-lookback : checking (withSizes 1048577 0 0) (job1 nodes []) (lent 1500) ≡ OptionOutside
+  pub large-window : checking (withSizes 0 1048577 0) (job1 nodes []) (lent 1500) ≡ OptionOutside
+  pub large-candidates : checking (withSizes 0 0 1048577) (job1 nodes []) (lent 1500) ≡ OptionOutside
+  pub largest-limit : checking (defaultsAt 1048576) (job1 nodes []) (lent 1500) ≡ SliceShort
+  pub large-limit : checking (defaultsAt 1048577) (job1 nodes []) (lent 1500) ≡ OptionOutside
+  pub count-before-option : checking (withRounds 256) (counted 1 0 0) (lent 1500) ≡ CountOutside
+  -- 3, after 2: 28 words and 24 × (3 + 0 + 2 + 6 + 1) + 1,024 + 6 numbers are asked
+  pub enough : checking options (job1 nodes []) (lengths 28 1318 0 8) ≡ Accepted
+  pub few-words : checking options (job1 nodes []) (lengths 27 1318 0 8) ≡ SliceShort
+  pub few-numbers : checking options (job1 nodes []) (lengths 28 1317 0 8) ≡ SliceShort
+  pub few-rows : checking options (job1 nodes []) (lengths 28 1318 0 7) ≡ SliceShort
+  pub few-operations : checking options (job1 nodes (rotate 1 0 1 ∷ [])) (lengths 28 1342 5 8) ≡ SliceShort
   pub program-cut : check (counted 1 1 0) ≡ SliceShort
-  -- at 65 qubits, where l is 2: 100 + 16 × 2, and 24 × (3 + 4 + 130 + 25 + 1)
+  -- at 65 qubits, where l is 2: 100 + 16 × 2, and 24 × (3 + 4 + 130 + 25 + 1) + 1,024 + 25
   pub words-of-65 : wordsAsked (width 65) 100 ≡ 132
-  pub numbers-of-65 : numbersAsked (width 65) (record { qubits = 65; nodes = 3; operations = 4 }) 100 ≡ 3912
+  pub numbers-of-65 : numbersAsked (width 65) (record { qubits = 65; nodes = 3; operations = 4 }) 100 ≡ 4961
   -- 4
   pub node-0 : checkNodesOf (X 0 ∷ X 0 ∷ Z 0 ∷ []) ≡ BadNode
   pub unknown-kind : checkNodesOf (I ∷ X 0 ∷ (3 ∷ 0 ∷ 0 ∷ 0 ∷ 0 ∷ []) ∷ []) ≡ BadNode
@@ -199,12 +199,12 @@ listed = job 1 (I ∷ Z 0 ∷ X 0 ∷ []) (rotate 1 0 1 ∷ rotate 1 0 1 ∷ mea
 
 -- just long enough, and one number more in each slice
 abbrev slices : Lent
-slices = lengths 29 361 19 9
+slices = lengths 29 1391 19 9
 
 pub record AfterCalls : Type 0 where
   -- "Acceptance (0): results, then zeros; axis words, then zeros; number store zero."
   pub accepted-words : rewriting options listed slices .lent .words ≡ 0 ∷ 1 ∷ 1 ∷ 0 ∷ 1 ∷ 1 ∷ replicate 23 0
-  pub accepted-numbers : rewriting options listed slices .lent .numbers ≡ replicate 361 0
+  pub accepted-numbers : rewriting options listed slices .lent .numbers ≡ replicate 1391 0
   pub accepted-operations : rewriting options listed slices .lent .operations ≡ measured- 2 0 65535 ++ replicate 13 0
   pub accepted-rows : rewriting options listed slices .lent .rows ≡ given- 0 0 2 ++ (given+ 0 1 0 ++ (0 ∷ []))
   pub accepted-counters : allCounters (rewriting options listed slices .counters) ≡ 2 ∷ 0 ∷ 1 ∷ 0 ∷ 1 ∷ 2 ∷ 0 ∷ 0 ∷ 0 ∷ 2 ∷ 0 ∷ 12 ∷ []
@@ -216,7 +216,7 @@ pub record AfterCalls : Type 0 where
     counters = noCounters;
     operations = 0;
     axes = 0;
-    lent = record { words = replicate 29 0; numbers = replicate 361 0; operations = replicate 19 7; rows = replicate 9 7 };
+    lent = record { words = replicate 29 0; numbers = replicate 1391 0; operations = replicate 19 7; rows = replicate 9 7 };
   }
   -- 9: the same
   pub nine : rewriting options (job1 nodes (rotate 1 1 1 ∷ [])) slices ≡ record {
@@ -224,7 +224,7 @@ pub record AfterCalls : Type 0 where
     counters = noCounters;
     operations = 0;
     axes = 0;
-    lent = record { words = replicate 29 0; numbers = replicate 361 0; operations = replicate 19 7; rows = replicate 9 7 };
+    lent = record { words = replicate 29 0; numbers = replicate 1391 0; operations = replicate 19 7; rows = replicate 9 7 };
   }
   -- 8: nothing is written
   pub eight : rewriting options (job1 nodes (conditional 1 0 1 0 ∷ [])) slices

@@ -2,7 +2,7 @@
 use mathlib.Core.Path.{_≡_, refl, sym, ap, ap₂, _∙_, subst}
 use mathlib.Core.Bool.{Bool, true, false, not, true≢false}
 use mathlib.Core.List.{List, [], _∷_, _++_}
-use Prim.Native.Nat.{ℕ, _+_, _-_, _%_, _≤_, _<_}
+use Prim.Native.Nat.{ℕ, _+_, _-_, _*_, _%_, _≤_, _<_}
 use native.Mathlib.Nat.{lt-of-lt-of-le}
 use native.Mathlib.Omega.{arith}
 use native.Mathlib.Decide.{ℕ-discrete}
@@ -30,7 +30,7 @@ use Rattle.waiting.specs.Places.{placeIn, Named, named-as}
 use Rattle.items.specs.declared.Tagged.{Tagged}
 use Rattle.items.specs.View.{itemSaid, itemAt, itemsIn, said-other}
 use Rattle.items.specs.Put.{EntryPre, ItemPut, put-end-0}
-use Rattle.words_wellformed.specs.PassWords.{absorbBlocking-well}
+use Rattle.words_wellformed.specs.PassWords.{WellPass, Continues, absorbBlocking-well}
 use Rattle.run_wellformed.specs.StreamSteps.{absorbBlocking-by}
 use Rattle.run_wellformed.specs.PassInside.{PassInside, inside-kept}
 use Rattle.steps.specs.declared.State.{State}
@@ -108,6 +108,59 @@ module _ {z : Shape} {st : State} {a : ℕ} {ws xs : List ℕ} {r : Step} {ws′
       (absorbWaiting-rises (z .l) (λ b. anticommutes (z .l) (wordOf (carryAxis (z .l) p a .store .axes) b) (axisImage (z .l) p a .word))
       (carryAxis (z .l) p a) 0 (carryAxis (z .l) p a .out)))
 
+-- ---- the pass at axis a's turn: where even rotations wait, those that block it are absorbed
+
+unfoldable pub unblocked : ℕ → Absorption → Pass → ℕ → Pass
+unblocked l off p a = p
+unblocked l atOnce p a = p
+unblocked l lazy p a = absorbBlocking l p a
+
+pub record UnblockAt (z : Shape) (c : StreamRules) (st : State) (a : ℕ) (ws xs : List ℕ) (m : Absorption) (n : ℕ) (p : Pass) : Type 0 where
+  pub carry : CarryPass z st a ws xs m n p
+  pub mode : m ≡ c .absorption
+  pub few : st .absorbed + st .out < 9223372036854775808
+
+none-blocks : (l : ℕ) (m : Absorption) (p : Pass) (a : ℕ) → isLazy m ≡ false → unblocked l m p a ≡ p
+unfolding unblocked
+none-blocks l off p a e = refl
+none-blocks l atOnce p a e = refl
+none-blocks l lazy p a e = absurd (true≢false e)
+
+module _ {z : Shape} {c : StreamRules} {st : State} {a : ℕ} {ws xs : List ℕ} {m : Absorption} {n : ℕ} {p : Pass}
+    (h : UnblockAt z c st a ws xs m n p) where
+  pub unblock-none : isLazy (c .absorption) ≡ false → SteppedAs z m 0 (st .out) st (Next st) ws xs (unblocked (z .l) m p a)
+  unblock-none e =
+      subst (SteppedAs z m 0 (st .out) st (Next st) ws xs) (sym (none-blocks (z .l) m p a (ap isLazy (h .mode) ∙ e)))
+      (as-next (h .carry .at .holds) (omega arith) (omega arith))
+
+  module _ (e : isLazy (c .absorption) ≡ true) where
+    waits : m ≡ lazy
+    waits = h .mode ∙ lazy-only (c .absorption) e
+
+    pub blocking-there : BlockingAt z st a ws xs n p
+    blocking-there = record { carry = subst (λ (x : Absorption). CarryPass z st a ws xs x n p) waits (h .carry); few = h .few }
+
+    pub unblock-as : {r : Step} {ws′ xs′ : List ℕ} → SteppedAs z lazy 0 (st .out) st r ws′ xs′ (absorbBlocking (z .l) p a)
+        → SteppedAs z m 0 (st .out) st r ws′ xs′ (unblocked (z .l) m p a)
+    unfolding unblocked
+    unblock-as {r} {ws′} {xs′} s =
+        subst (λ (x : Absorption). SteppedAs z x 0 (st .out) st r ws′ xs′ (unblocked (z .l) x p a)) (sym waits) s
+
+-- well formed, with no fewer axes
+unblocked-well : (l : ℕ) (m : Absorption) (p : Pass) (a : ℕ) → WellPass l (Unit {0}) p → Continues l (Unit {0}) p (unblocked l m p a)
+unfolding unblocked
+unblocked-well l off p a w = record { well = w; longer = omega arith }
+unblocked-well l atOnce p a w = record { well = w; longer = omega arith }
+unblocked-well l lazy p a w = absorbBlocking-well l (Unit {0}) p a w
+
+unblocked-inside : (z : Shape) (m : Absorption) (n : ℕ) (p : Pass) (a : ℕ) → z .qubits ≤ 64 * z .l → PassInside (z .l) (z .qubits) n p
+    → PassInside (z .l) (z .qubits) n (unblocked (z .l) m p a)
+unfolding unblocked
+unblocked-inside z off n p a b h = h
+unblocked-inside z atOnce n p a b h = h
+unblocked-inside z lazy n p a b h =
+    absorbBlocking-by (z .l) (PassInside (z .l) (z .qubits)) (inside-kept (z .l) (z .qubits) b) (λ i q f. f .small) n p a h
+
 -- ---- a rotation
 
 pub record RotationAt (z : Shape) (c : StreamRules) (st : State) (a k : ℕ) (ws xs : List ℕ) (m : Absorption) (n : ℕ)
@@ -115,89 +168,43 @@ pub record RotationAt (z : Shape) (c : StreamRules) (st : State) (a k : ℕ) (ws
   pub carrying : CarryingAt z c st a k ws xs m n p
   pub few-all : st .absorbed + st .out < 9223372036854775808
 
--- not lazy
-plain-is : (l : ℕ) (g : Rules) (merging : Bool) (p : Pass) (a k : ℕ) → isLazy (g .absorption) ≡ false
-    → streamItem l g merging p (rotation (rot a k))
-    ≡ takeRotation l g merging (carryAxis l p a) (imageId l (carryAxis l p a) a) (withSign (axisImage l (carryAxis l p a) a .turns) k)
-unfolding streamItem carryRotation
-plain-is l g merging p a k e =
-    ap (λ (c : Carried). takeRotation l g merging (c .pass) (c .axis) (withSign (c .turns) k)) (plain (g .absorption) e)
+-- once none blocks it, it is carried and taken
+rotation-is : (l : ℕ) (g : Rules) (merging : Bool) (p : Pass) (a k : ℕ) → let q = carryAxis l (unblocked l (g .absorption) p a) a in
+    streamItem l g merging p (rotation (rot a k)) ≡ takeRotation l g merging q (imageId l q a) (withSign (axisImage l q a .turns) k)
+unfolding streamItem carryRotation unblocked
+rotation-is l g merging p a k =
+    ap (λ (c : Carried). takeRotation l g merging (c .pass) (c .axis) (withSign (c .turns) k)) (by-mode (g .absorption))
   where
-    plain : (m : Absorption) → isLazy m ≡ false → carryRotation l m p a ≡ carryRotation l off p a
-    plain off f = refl
-    plain atOnce f = refl
-    plain lazy f = absurd (true≢false f)
+    by-mode : (m : Absorption) → carryRotation l m p a ≡ carryRotation l off (unblocked l m p a) a
+    by-mode off = refl
+    by-mode atOnce = refl
+    by-mode lazy = refl
 
-lazy-is : (l : ℕ) (g : Rules) (merging : Bool) (p : Pass) (a k : ℕ) → g .absorption ≡ lazy
-    → streamItem l g merging p (rotation (rot a k))
-    ≡ takeRotation l g merging (carryAxis l (absorbBlocking l p a) a) (imageId l (carryAxis l (absorbBlocking l p a) a) a)
-    (withSign (axisImage l (carryAxis l (absorbBlocking l p a) a) a .turns) k)
-unfolding streamItem carryRotation
-lazy-is l g merging p a k e =
-    ap (λ (m : Absorption). takeRotation l g merging (carryRotation l m p a .pass) (carryRotation l m p a .axis)
-    (withSign (carryRotation l m p a .turns) k)) e
-
--- more may be absorbed
-more-absorbed : {z : Shape} {m : Absorption} {st : State} {r : Step} {ws xs : List ℕ} {p : Pass} → SteppedAs z m 1 1 st r ws xs p
-    → SteppedAs z m 1 (st .out + 1) st r ws xs p
-more-absorbed s = stepped-from 1 _ s (omega arith) (omega arith)
-
-module _ {z : Shape} {c : StreamRules} {g : Rules} (rules : RulesAs c g) {st : State} {a k : ℕ} {ws xs : List ℕ} {n : ℕ} {p : Pass}
-    (h : RotationAt z c st a k ws xs (g .absorption) n p) where
-  -- taken as it is
-  pub rotation-plain : {r : Step} {ws′ xs′ : List ℕ} → isLazy (c .absorption) ≡ false
-      → SteppedAs z (g .absorption) 1 1 st r ws′ xs′
-      (takeRotation (z .l) g (c .merge) (carryAxis (z .l) p a) (imageId (z .l) (carryAxis (z .l) p a) a)
-      (withSign (axisImage (z .l) (carryAxis (z .l) p a) a .turns) k))
-      → SteppedAs z (g .absorption) 1 (st .out + 1) st r ws′ xs′ (streamItem (z .l) g (c .merge) p (rotation (rot a k)))
-  rotation-plain {r} {ws′} {xs′} e s =
-      subst (SteppedAs z (g .absorption) 1 (st .out + 1) st r ws′ xs′)
-      (sym (plain-is (z .l) g (c .merge) p a k (ap isLazy (sym (rules .absorption)) ∙ e))) (more-absorbed s)
-
--- it was told that even rotations wait
-pub told-lazy : {z : Shape} {c : StreamRules} {st : State} {a k : ℕ} {ws xs : List ℕ} {m : Absorption} {n : ℕ} {p : Pass} {b : Bool}
-    → RotationAt z c st a k ws xs m n p → b ≡ isLazy (c .absorption) → not b ≡ false → m ≡ lazy
-told-lazy {c = c} {b = b} h e f = h .carrying .mode ∙ lazy-only (c .absorption) (sym e ∙ not-false b f)
-
--- lazy: those that block it first
 module _ {z : Shape} {c : StreamRules} {st : State} {a k : ℕ} {ws xs : List ℕ} {m : Absorption} {n : ℕ} {p : Pass}
-    (h : RotationAt z c st a k ws xs m n p) (is-lazy : m ≡ lazy) where
-  pub blocking-there : BlockingAt z st a ws xs n p
-  blocking-there = record {
-    carry = subst (λ (x : Absorption). CarryPass z st a ws xs x n p) is-lazy (h .carrying .carry);
-    few = h .few-all;
-  }
+    (h : RotationAt z c st a k ws xs m n p) where
+  pub unblock-there : UnblockAt z c st a ws xs m n p
+  unblock-there = record { carry = h .carrying .carry; mode = h .carrying .mode; few = h .few-all }
 
   module _ {r : Step} {ws₁ xs₁ : List ℕ} (left : LeftS z ws xs ws₁ xs₁)
-      (call : SteppedAs z lazy 0 (st .out) st r ws₁ xs₁ (absorbBlocking (z .l) p a)) {s : State} (e : r ≡ Next s) where
-    blocked-fine : FinePass z n (absorbBlocking (z .l) p a)
-    blocked-fine = record {
-      well = absorbBlocking-well (z .l) (Unit {0}) p a (h .carrying .carry .at .fine .well) .well;
-      inside =
-          absorbBlocking-by (z .l) (PassInside (z .l) (z .qubits))
-          (inside-kept (z .l) (z .qubits) (h .carrying .carry .at .granted .sized .bits))
-          (λ i q f. f .small) n p a (h .carrying .carry .at .fine .inside);
-    }
+      (call : SteppedAs z m 0 (st .out) st r ws₁ xs₁ (unblocked (z .l) m p a)) {s : State} (e : r ≡ Next s) where
+    from : Continues (z .l) (Unit {0}) p (unblocked (z .l) m p a)
+    from = unblocked-well (z .l) m p a (h .carrying .carry .at .fine .well)
 
-    more-axes : st .axes ≤ s .axes
-    more-axes =
-        omega (
-          arith,
-          absorbBlocking-well (z .l) (Unit {0}) p a (h .carrying .carry .at .fine .well) .longer,
-          axes-count (h .carrying .carry .at .holds),
-          axes-count (call .next s e),
-        )
-
-    pub blocked-carrying : CarryingAt z c s a k ws₁ xs₁ m n (absorbBlocking (z .l) p a)
-    blocked-carrying = record {
+    pub unblocked-carrying : CarryingAt z c s a k ws₁ xs₁ m n (unblocked (z .l) m p a)
+    unblocked-carrying = record {
       carry = record {
         at = record {
           granted = granted-left (h .carrying .carry .at .granted) left;
-          holds = subst (λ (x : Absorption). HoldsPass z x s ws₁ xs₁ (absorbBlocking (z .l) p a)) (sym is-lazy) (call .next s e);
-          fine = blocked-fine;
+          holds = call .next s e;
+          fine = record {
+            well = from .well;
+            inside =
+                unblocked-inside z m n p a (h .carrying .carry .at .granted .sized .bits) (h .carrying .carry .at .fine .inside);
+          };
           space = h .carrying .carry .at .space;
         };
-        a-in = omega (arith, more-axes, h .carrying .carry .a-in);
+        a-in =
+            omega (arith, from .longer, axes-count (h .carrying .carry .at .holds), axes-count (call .next s e), h .carrying .carry .a-in);
       };
       some = h .carrying .some;
       small = h .carrying .small;
@@ -206,31 +213,33 @@ module _ {z : Shape} {c : StreamRules} {st : State} {a k : ℕ} {ws xs : List �
       few = omega (arith, call .absorbed s e, h .few-all);
     }
 
-module _ (z : Shape) (c : StreamRules) (g : Rules) (st : State) (a k : ℕ) (p : Pass) (is-lazy : g .absorption ≡ lazy) where
-  pub rotation-lazy : {r q : Step} {ws₁ xs₁ ws₂ xs₂ : List ℕ} {s : State}
-      → SteppedAs z lazy 0 (st .out) st r ws₁ xs₁ (absorbBlocking (z .l) p a) → r ≡ Next s
-      → SteppedAs z (g .absorption) 1 1 s q ws₂ xs₂ (takeRotation (z .l) g (c .merge) (carryAxis (z .l) (absorbBlocking (z .l) p a) a)
-      (imageId (z .l) (carryAxis (z .l) (absorbBlocking (z .l) p a) a) a)
-      (withSign (axisImage (z .l) (carryAxis (z .l) (absorbBlocking (z .l) p a) a) a .turns) k))
-      → SteppedAs z (g .absorption) 1 (st .out + 1) st q ws₂ xs₂ (streamItem (z .l) g (c .merge) p (rotation (rot a k)))
-  rotation-lazy {q = q} {ws₂ = ws₂} {xs₂} {s} first e second =
-      subst (SteppedAs z (g .absorption) 1 (st .out + 1) st q ws₂ xs₂) (sym (lazy-is (z .l) g (c .merge) p a k is-lazy))
-      (stepped-from 1 _ second (omega (arith, first .merges s e)) (omega (arith, first .absorbed s e)))
+module _ (z : Shape) (c : StreamRules) (g : Rules) (st : State) (a k : ℕ) (p : Pass) where
+  abbrev before : Pass
+  before = unblocked (z .l) (g .absorption) p a
 
-  pub rotation-limit : {r : Step} {ws₁ xs₁ : List ℕ} → SteppedAs z lazy 0 (st .out) st r ws₁ xs₁ (absorbBlocking (z .l) p a)
-      → r ≡ ExpansionLimit
-      → SteppedAs z (g .absorption) 1 (st .out + 1) st ExpansionLimit ws₁ xs₁ (streamItem (z .l) g (c .merge) p (rotation (rot a k)))
-  rotation-limit {ws₁ = ws₁} {xs₁} first e =
-      let q = absorbBlocking (z .l) p a in
-      subst (SteppedAs z (g .absorption) 1 (st .out + 1) st ExpansionLimit ws₁ xs₁) (sym (lazy-is (z .l) g (c .merge) p a k is-lazy))
-      (as-limit (omega (
-        arith,
-        first .refused e,
-        carryAxis-rises (z .l) (absorbBlocking (z .l) p a) a,
-        takeRotation-rises (z .l) g (c .merge) (carryAxis (z .l) (absorbBlocking (z .l) p a) a)
-            (imageId (z .l) (carryAxis (z .l) (absorbBlocking (z .l) p a) a) a)
-            (withSign (axisImage (z .l) (carryAxis (z .l) (absorbBlocking (z .l) p a) a) a .turns) k),
-      )))
+  abbrev taken : Pass
+  taken =
+      takeRotation (z .l) g (c .merge) (carryAxis (z .l) before a) (imageId (z .l) (carryAxis (z .l) before a) a)
+      (withSign (axisImage (z .l) (carryAxis (z .l) before a) a .turns) k)
+
+  module _ {r : Step} {ws₁ xs₁ : List ℕ} (first : SteppedAs z (g .absorption) 0 (st .out) st r ws₁ xs₁ before) where
+    pub rotation-next : {q : Step} {ws₂ xs₂ : List ℕ} {s : State} → r ≡ Next s → SteppedAs z (g .absorption) 1 1 s q ws₂ xs₂ taken
+        → SteppedAs z (g .absorption) 1 (st .out + 1) st q ws₂ xs₂ (streamItem (z .l) g (c .merge) p (rotation (rot a k)))
+    rotation-next {q} {ws₂} {xs₂} {s} e second =
+        subst (SteppedAs z (g .absorption) 1 (st .out + 1) st q ws₂ xs₂) (sym (rotation-is (z .l) g (c .merge) p a k))
+        (stepped-from 1 _ second (omega (arith, first .merges s e)) (omega (arith, first .absorbed s e)))
+
+    pub rotation-limit : r ≡ ExpansionLimit
+        → SteppedAs z (g .absorption) 1 (st .out + 1) st ExpansionLimit ws₁ xs₁ (streamItem (z .l) g (c .merge) p (rotation (rot a k)))
+    rotation-limit e =
+        subst (SteppedAs z (g .absorption) 1 (st .out + 1) st ExpansionLimit ws₁ xs₁) (sym (rotation-is (z .l) g (c .merge) p a k))
+        (as-limit (omega (
+          arith,
+          first .refused e,
+          carryAxis-rises (z .l) before a,
+          takeRotation-rises (z .l) g (c .merge) (carryAxis (z .l) before a) (imageId (z .l) (carryAxis (z .l) before a) a)
+              (withSign (axisImage (z .l) (carryAxis (z .l) before a) a .turns) k),
+        )))
 
 -- ---- all that wait
 

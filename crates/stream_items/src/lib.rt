@@ -12,7 +12,7 @@ ghost use Rattle.items.specs.View.{itemSaid, itemsIn};
 ghost use Rattle.stream_states.specs.States.{SomePass, LeftS, SteppedAs, RulesAs, isWaiting};
 ghost use Rattle.stream_items.specs.Waiting.{pickedBy, PicksPre, TurnAt, TurnedAs};
 ghost use Rattle.stream_items.specs.WaitingList.{ListedAt, WaitAt, waitedAll};
-ghost use Rattle.stream_items.specs.Items.{BlockingAt, RotationAt, AllAt, BarrierAt, barrierPut};
+ghost use Rattle.stream_items.specs.Items.{BlockingAt, unblocked, UnblockAt, RotationAt, AllAt, BarrierAt, barrierPut};
 ghost use Rattle.stream_items.specs.Behind.{namedItem, beginsAt, rulesThen, stateThen};
 ghost use Rattle.stream_items.specs.Loop.{ItemAt, StreamAt, SomeStream, StreamedAs};
 use axes::Sizes;
@@ -145,6 +145,27 @@ fn absorb_blocking(
     absorb_waiting(words, numbers, shape, s, false, s.id)
 }
 
+// Where even rotations wait, absorbs those that block axis a. Apart from `rotation`, so that this has one call that takes a rotation, and
+// the compiler keeps the state in registers there.
+fn unblock(
+    words: &mut [u64],
+    numbers: &mut [u32],
+    shape: Shape,
+    rules: StreamRules,
+    st: State,
+    a: usize,
+) -> Step
+    requires { ⌜ SomePass (λ m n p. UnblockAt shape rules st a (now words) (now numbers) m n p) ⌝ }
+    ensures { λ r. ⌜ LeftS shape (now (words .entry)) (now (numbers .entry)) (now (words .exit)) (now (numbers .exit))
+        × ((m : Absorption) (n : ℕ) (p : Pass) → UnblockAt shape rules st a (now (words .entry)) (now (numbers .entry)) m n p
+        → SteppedAs shape m 0 (st .out) st r (now (words .exit)) (now (numbers .exit)) (unblocked (shape .l) m p a)) ⌝ }
+{
+    if !stream_states::is_lazy(rules) {
+        return Step::Next(st);
+    }
+    absorb_blocking(words, numbers, shape, st, a)
+}
+
 // A rotation by an angle about axis a: those that wait and block it are absorbed first.
 fn rotation(
     words: &mut [u64],
@@ -162,10 +183,7 @@ fn rotation(
         → SteppedAs shape (g .absorption) 1 (st .out + 1) st r (now (words .exit)) (now (numbers .exit))
         (streamItem (shape .l) g (rules .merge) p (rotation (rot a angle)))) ⌝ }
 {
-    if !stream_states::is_lazy(rules) {
-        return merging::carry_and_take(words, numbers, shape, rules, st, a, angle);
-    }
-    let t = absorb_blocking(words, numbers, shape, st, a);
+    let t = unblock(words, numbers, shape, rules, st, a);
     let Step::Next(s) = t else {
         return Step::ExpansionLimit;
     };

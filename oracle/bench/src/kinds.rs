@@ -1,6 +1,6 @@
 //! The jobs of `bench --kinds`, one kind of work each, at word limits that fit.
 
-use generator::timed::{Axes, long_groups, repeated, rotations};
+use generator::timed::{Axes, equal_sums, long_groups, repeated, rotations};
 use jobs::{Job, Lazy, MAX_LIMIT, Options};
 
 /// A name and a job.
@@ -8,6 +8,10 @@ pub type Kind = (&'static str, Job);
 
 /// All kinds.
 pub fn kinds() -> Vec<Kind> {
+    [by_size(), by_index()].concat()
+}
+
+fn by_size() -> Vec<Kind> {
     let narrow = rotations(1, 64, 20_000, Axes::Weight(3));
     let wide = rotations(3, 1_000, 5_000, Axes::Weight(8));
     // Were all qubits acted on, rows and images would not fit the largest limit.
@@ -44,6 +48,34 @@ pub fn kinds() -> Vec<Kind> {
     ]
 }
 
+/// Words that meet in one chain of the index (M-102), by the remainder of their sums or by equal sums, and words of few
+/// qubits.
+fn by_index() -> Vec<Kind> {
+    let twelve = rotations(14, 12, 20_000, Axes::Dense);
+    let support: Vec<usize> = (24..40).collect();
+    // Eight positions in either number, so that words are told apart by both.
+    let both: Vec<usize> = (24..32).chain(88..96).collect();
+    vec![
+        ("one chain", rotations(9, 64, 20_000, Axes::OneChain(3))),
+        (
+            "one chain 1,000 qubits",
+            rotations(10, 1_000, 5_000, Axes::OneChain(8)),
+        ),
+        ("equal sums", equal_sums(11, 64, 65_535, &support)),
+        ("equal sums 128 qubits", equal_sums(12, 128, 65_535, &both)),
+        ("8 qubits dense", rotations(13, 8, 20_000, Axes::Dense)),
+        ("12 qubits dense", twelve.clone()),
+        (
+            "12 qubits off",
+            with(&twelve, |o| o.clifford_to_frame = false),
+        ),
+        (
+            "20 qubits weight 3",
+            rotations(15, 20, 20_000, Axes::Weight(3)),
+        ),
+    ]
+}
+
 /// Rotations about few axes, many exchanges tried, nothing absorbed.
 fn exchanges(seed: u64, qubits: usize, count: usize, axes: usize, weight: usize) -> Job {
     let job = repeated(seed, qubits, count, &vec![Axes::Weight(weight); axes], 0);
@@ -54,9 +86,9 @@ fn exchanges(seed: u64, qubits: usize, count: usize, axes: usize, weight: usize)
     })
 }
 
-/// The first kind with 5,000 to 40,000 rotations.
+/// The first kind with 5,000 to 60,000 rotations; the last ones of 60,000 are about axes that came before.
 pub fn growth() -> Vec<Job> {
-    [5_000, 10_000, 20_000, 40_000]
+    [5_000, 10_000, 20_000, 40_000, 60_000]
         .map(|count| rotations(1, 64, count, Axes::Weight(3)))
         .into()
 }
@@ -74,7 +106,8 @@ pub fn windows() -> Vec<Job> {
         .into()
 }
 
-/// Next to no work, at the largest limit: what is left is zeroing of the number store, 24 rows, and of the word store.
+/// Next to no work, at the largest limit: what is left is zeroing of the number store, 24 rows and the index, and of the word
+/// store.
 pub fn one_rotation() -> Job {
     rotations(8, 64, 1, Axes::Weight(3))
 }

@@ -29,38 +29,58 @@ fn timed<T>(work: impl FnOnce() -> T) -> (Duration, T) {
     (Duration::from_micros((now() - began) as u64), done)
 }
 
+/// Whether the Rust with a scan runs too: on large jobs it takes nearly all of the time.
+#[derive(Clone, Copy, PartialEq, Eq)]
+enum Scan {
+    Timed,
+    LeftOut,
+}
+
 fn main() {
-    let args: Vec<String> = std::env::args().skip(1).collect();
+    let (flags, args): (Vec<String>, Vec<String>) =
+        std::env::args().skip(1).partition(|arg| arg == "--no-scan");
+    let scan = if flags.is_empty() {
+        Scan::Timed
+    } else {
+        Scan::LeftOut
+    };
     match args.first().map(String::as_str) {
         None => programs(),
-        Some("--kinds") => compare_kinds(&args[1..]),
+        Some("--kinds") => compare_kinds(&args[1..], scan),
         Some("--before") => compare_before(&args[1..]),
-        Some("--growth") => grow(kinds::growth()),
-        Some("--window") => grow(kinds::windows()),
+        Some("--growth") => grow(kinds::growth(), scan),
+        Some("--window") => grow(kinds::windows(), scan),
         Some("--jobs") => chosen(&args[1..]).for_each(|(_, job)| print!("{job}")),
         Some(other) => panic!(
-            "{other}: bench [--kinds [NAME ..] | --before [NAME ..] | --jobs [NAME ..] | --growth | --window]"
+            "{other}: bench [--kinds [NAME ..] | --before [NAME ..] | --jobs [NAME ..] | --growth | --window] [--no-scan]"
         ),
     }
 }
 
 /// A line of a table for each kind of work, or for those that are named.
-fn compare_kinds(names: &[String]) {
+fn compare_kinds(names: &[String], scan: Scan) {
     if names.is_empty() {
-        let zeroing = best(&kinds::one_rotation())[2];
+        let zeroing = best(&kinds::one_rotation(), scan).ours;
         println!(
             "One rotation at the largest limit, nearly all of it zeroing: ours {zeroing:.1} ms\n"
         );
     }
-    println!("| job | limit | Rust with a scan | Rust itself | ours | ours / scan | ours / Rust |");
-    println!("|---|---|---|---|---|---|---|");
+    let (head, rule) = match scan {
+        Scan::Timed => (
+            "| job | limit | Rust with a scan | Rust itself | ours | ours / scan | ours / Rust |",
+            "|---|---|---|---|---|---|---|",
+        ),
+        Scan::LeftOut => (
+            "| job | limit | Rust itself | ours | ours / Rust |",
+            "|---|---|---|---|---|",
+        ),
+    };
+    println!("{head}\n{rule}");
     for (name, job) in chosen(names) {
-        let [hash, scan, ours] = best(&job);
         println!(
-            "| {name} | {} | {scan:.1} | {hash:.1} | {ours:.1} | {:.2} | {:.2} |",
+            "| {name} | {} {}",
             job.options.limit,
-            ours / scan,
-            ours / hash
+            best(&job, scan).cells()
         );
     }
 }
@@ -104,18 +124,47 @@ fn best_of_libraries(job: &Job) -> [f64; 2] {
     least.map(|took| took.as_secs_f64() * 1e3)
 }
 
-/// Rotations, then milliseconds of the Rust with a scan, of the Rust itself and of ours, for a plot.
-fn grow(jobs: Vec<Job>) {
+/// Rotations, then milliseconds of the Rust with a scan if it runs, of the Rust itself and of ours, for a plot.
+fn grow(jobs: Vec<Job>, scan: Scan) {
     for job in jobs {
         let job = kinds::fitted(job);
-        let [hash, scan, ours] = best(&job);
-        println!("{} {scan:.1} {hash:.1} {ours:.1}", job.operations.len());
+        let Best { hash, scan, ours } = best(&job, scan);
+        let scan = scan.map_or(String::new(), |scan| format!("{scan:.1} "));
+        println!("{} {scan}{hash:.1} {ours:.1}", job.operations.len());
     }
 }
 
 /// The least milliseconds of the Rust itself, of the Rust with a scan and of ours.
-fn best(job: &Job) -> [f64; 3] {
-    measure(job).0.map(|times| times[0].as_secs_f64() * 1e3)
+struct Best {
+    hash: f64,
+    scan: Option<f64>,
+    ours: f64,
+}
+
+impl Best {
+    /// The columns of a table behind a job and its limit.
+    fn cells(&self) -> String {
+        let Self { hash, ours, .. } = self;
+        let (first, ratio) = match self.scan {
+            Some(scan) => (format!("| {scan:.1} "), format!("| {:.2} ", ours / scan)),
+            None => Default::default(),
+        };
+        let of_rust = ours / hash;
+        format!("{first}| {hash:.1} | {ours:.1} {ratio}| {of_rust:.2} |")
+    }
+}
+
+fn best(job: &Job, scan: Scan) -> Best {
+    let [hash, scan, ours] = measure(job, scan).0.map(|times| {
+        let least = times.first()?;
+        Some(least.as_secs_f64() * 1e3)
+    });
+    let runs = "the Rust and ours always run";
+    Best {
+        hash: hash.expect(runs),
+        scan,
+        ours: ours.expect(runs),
+    }
 }
 
 /// Two programs with axes of all weights, at the largest limit.
@@ -143,29 +192,29 @@ struct Given {
 
 /// Times all three on a job and prints it.
 fn compare(job: &Job) {
-    let (times, given) = measure(job);
+    let (times, given) = measure(job, Scan::Timed);
     print(job, &given, &times);
 }
 
-/// The sorted times of the Rust itself, of the Rust with a scan and of ours, and what came out.
-fn measure(job: &Job) -> ([Vec<Duration>; 3], Given) {
+/// The sorted times of the Rust itself, of the Rust with a scan, none if it is left out, and of ours, and what came out.
+fn measure(job: &Job, scan: Scan) -> ([Vec<Duration>; 3], Given) {
     let mut times: [Vec<Duration>; 3] = Default::default();
     let mut last = None;
     for _ in 0..RUNS {
-        let runs = [
-            time_rust(|run| hash::pbc::PbcCircuit::run_clocked(job, run)),
-            time_rust(|run| scan::pbc::PbcCircuit::run_clocked(job, run)),
-            time_ours(job, Library::Ours),
-        ];
-        assert!(runs[1].1 == runs[0].1, "the scan gives something else");
-        assert!(runs[2].1 == runs[0].1, "ours gives something else");
-        for (times, (took, _)) in times.iter_mut().zip(&runs) {
-            times.push(*took);
+        let (took, given) = time_rust(|run| hash::pbc::PbcCircuit::run_clocked(job, run));
+        times[0].push(took);
+        if scan == Scan::Timed {
+            let (took, by_scan) = time_rust(|run| scan::pbc::PbcCircuit::run_clocked(job, run));
+            assert!(by_scan == given, "the scan gives something else");
+            times[1].push(took);
         }
-        last = runs.into_iter().next();
+        let (took, by_ours) = time_ours(job, Library::Ours);
+        assert!(by_ours == given, "ours gives something else");
+        times[2].push(took);
+        last = Some(given);
     }
     times.iter_mut().for_each(|times| times.sort());
-    (times, last.expect("there are runs").1)
+    (times, last.expect("there are runs"))
 }
 
 type Clock = fn(&mut dyn FnMut()) -> Duration;

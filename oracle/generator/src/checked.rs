@@ -23,7 +23,7 @@ pub struct Handed {
 }
 
 /// The room that crates/rewriting_main has for words, numbers and either result.
-const ROOM: Lengths = [4_200, 80_000, 8_000, 8_000];
+pub const ROOM: Lengths = [4_200, 84_000, 8_000, 8_000];
 
 /// What says so in the slack of the result rows.
 const CUT: usize = 10_000;
@@ -61,6 +61,14 @@ fn smallest(operation: Option<[i64; 6]>) -> Handed {
     handed.job.operations = Vec::from_iter(operation);
     handed.job.rows.clear();
     handed
+}
+
+/// On 65 qubits, where a word has four numbers; the limit is no multiple of them.
+fn on_65_qubits(handed: &mut Handed) {
+    handed.job.qubits = 65;
+    handed.job.options.limit = 67;
+    let row = |i: i64| [i / 2, i % 2, 4 + i % 2, 0];
+    handed.job.rows = (0..130).map(row).collect();
 }
 
 /// A program slice that is one short: the slack of words, numbers and result operations, 10,000 more, says so of nodes,
@@ -181,6 +189,13 @@ const ACCEPTED: &[Case] = &[
     }),
     case!(0, "every slice longer than asked", |h| h.job.slack =
         [1001, 1002, 1003, 1004]),
+    case!(0, "as much as is asked, limit 65", |h| h
+        .job
+        .options
+        .limit = 65),
+    case!(0, "as much as is asked, 65 qubits, limit 67", |h| {
+        on_65_qubits(h)
+    }),
     case!(0, "limit 0, with nothing to pack", |h| {
         h.job.options.limit = 0;
         h.job.operations.clear();
@@ -293,6 +308,18 @@ const SLICES: &[Case] = &[
     case!(3, "words, with limit 0", |h| {
         h.job.options.limit = 0;
         h.job.slack[0] = 999;
+    }),
+    case!(3, "numbers, with limit 0", |h| {
+        h.job.options.limit = 0;
+        h.job.slack[1] = 999;
+    }),
+    case!(3, "numbers, with limit 65", |h| {
+        h.job.options.limit = 65;
+        h.job.slack[1] = 999;
+    }),
+    case!(3, "numbers, on 65 qubits, limit 67", |h| {
+        on_65_qubits(h);
+        h.job.slack[1] = 999;
     }),
 ];
 

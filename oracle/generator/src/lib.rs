@@ -1,5 +1,6 @@
 //! Jobs for the driver: random ones from a seed, directed ones for single rules, the fixed list, and those for the gate.
 
+pub mod chains;
 pub mod checked;
 mod classes;
 pub mod cuts;

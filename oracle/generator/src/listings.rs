@@ -34,7 +34,7 @@ pub struct Text {
 }
 
 /// The room that crates/listings_main has for words, numbers and either result.
-const ROOM: Lengths = [300, 12_400, 800, 600];
+const ROOM: Lengths = [300, 13_600, 800, 600];
 
 pub fn field(text: impl AsRef<[u8]>) -> Field {
     text.as_ref().to_vec()

@@ -1,6 +1,7 @@
 //! generator SEED COUNT: random jobs.
 //! generator --limits SEED COUNT: small jobs, each with every limit that refuses it at another sum.
 //! generator --second-first ..: the same two with windows, in the new order of ties (M-107).
+//! generator --lumped ..: the same two with many words in one chain of the index (M-102), on 64 qubits and more.
 //! generator --fixed SEED COUNT: small jobs, at most a few of each class.
 //! generator --packing SEED COUNT: small jobs, at most a few of each class of packing.
 //! generator --rewriting SEED COUNT: small jobs, at most a few of each class of runs and options.
@@ -9,6 +10,7 @@
 //! generator --cuts SEED COUNT: so many jobs cut behind a measurement (M-113): the whole, the earlier and the later part of each.
 //! generator --cuts --between-rotations SEED COUNT: the same cut where M-113 does not allow it.
 //! generator --small-cuts SEED COUNT: small jobs cut behind a measurement, one of each class.
+//! generator --chains SEED COUNT: small jobs with many words in one chain, at most a few of each class.
 //! generator --large SEED QUBITS NODES OPERATIONS: one large job, with Rust's default options.
 //! generator --directed: the directed cases, each with a comment.
 //! generator --accepted, --refused: jobs at Checking's bounds, each with a comment.
@@ -22,7 +24,8 @@ use std::io::Write;
 use generator::random::{self, Shape};
 use generator::rng::Rng;
 use generator::{
-    checked, cuts, directed, fixed, large, limit, listings, named, packing, rewriting, tie_order,
+    chains, checked, cuts, directed, fixed, large, limit, listings, named, packing, rewriting,
+    tie_order,
 };
 use jobs::Job;
 
@@ -42,6 +45,7 @@ fn main() {
         ["--tie-order", seed, count] => listed(tie_order::list, seed, count),
         ["--places", seed, count] => listed(named::list, seed, count),
         ["--small-cuts", seed, count] => listed(cuts::list, seed, count),
+        ["--chains", seed, count] => listed(chains::list, seed, count),
         ["--fixed", seed, count] => listed(fixed::list, seed, count),
         ["--large", seed, qubits, nodes, operations] => {
             let [qubits, nodes, operations] =
@@ -52,20 +56,22 @@ fn main() {
         ["--cuts", "--between-rotations", seed, count] => {
             threes(cuts::between_rotations, seed, count);
         }
-        ["--second-first", "--limits", seed, count] => limits(random::second_first, seed, count),
-        ["--named", "--limits", seed, count] => limits(random::named, seed, count),
-        ["--limits", seed, count] => limits(random::job, seed, count),
-        ["--second-first", seed, count] => full(random::second_first, seed, count),
-        ["--named", seed, count] => full(random::named, seed, count),
-        [seed, count] => full(random::job, seed, count),
+        ["--second-first", "--limits", seed, count] => limits(SECOND_FIRST, seed, count),
+        ["--named", "--limits", seed, count] => limits(NAMED, seed, count),
+        ["--lumped", "--limits", seed, count] => limits(LUMPED, seed, count),
+        ["--limits", seed, count] => limits(PLAIN, seed, count),
+        ["--second-first", seed, count] => full(SECOND_FIRST, seed, count),
+        ["--named", seed, count] => full(NAMED, seed, count),
+        ["--lumped", seed, count] => full(LUMPED, seed, count),
+        [seed, count] => full(PLAIN, seed, count),
         _ => usage(),
     }
 }
 
 fn usage() {
-    eprintln!("generator [--second-first | --named] [--limits] SEED COUNT");
+    eprintln!("generator [--second-first | --named | --lumped] [--limits] SEED COUNT");
     eprintln!("generator --fixed | --packing | --rewriting SEED COUNT");
-    eprintln!("generator --tie-order | --places | --small-cuts | --listings SEED COUNT");
+    eprintln!("generator --tie-order | --places | --small-cuts | --chains | --listings SEED COUNT");
     eprintln!("generator --cuts [--between-rotations] SEED COUNT");
     eprintln!("generator --large SEED QUBITS NODES OPERATIONS");
     eprintln!("generator --directed | --accepted | --refused | --answers");
@@ -110,30 +116,50 @@ fn write(listings: Vec<u8>) {
     written.expect("standard output is open");
 }
 
-type Make = fn(&mut Rng, &Shape) -> Job;
+/// Random jobs: how one is made, what it may be like, and what it is like where every limit is asked for.
+struct Random {
+    make: fn(&mut Rng, &Shape) -> Job,
+    full: &'static Shape,
+    small: &'static Shape,
+}
+
+const PLAIN: Random = Random {
+    make: random::job,
+    full: &Shape::FULL,
+    small: &Shape::SMALL,
+};
+
+const SECOND_FIRST: Random = Random {
+    make: random::second_first,
+    ..PLAIN
+};
+
+const NAMED: Random = Random {
+    make: random::named,
+    ..PLAIN
+};
+
+const LUMPED: Random = Random {
+    make: chains::job,
+    full: &chains::SHAPE,
+    small: &chains::SMALL,
+};
 
 /// Random jobs of the full shape.
-fn full(make: Make, seed: &str, count: &str) {
-    for job in random_jobs(make, seed, count, &Shape::FULL) {
-        print!("{job}");
+fn full(random: Random, seed: &str, count: &str) {
+    let mut rng = Rng::new(number(seed));
+    for _ in 0..number(count) {
+        print!("{}", (random.make)(&mut rng, random.full));
     }
 }
 
 /// Small ones with every limit that refuses.
-fn limits(make: Make, seed: &str, count: &str) {
-    for job in random_jobs(make, seed, count, &Shape::SMALL) {
+fn limits(random: Random, seed: &str, count: &str) {
+    let mut rng = Rng::new(number(seed));
+    for _ in 0..number(count) {
+        let job = (random.make)(&mut rng, random.small);
         limit::all(&job).iter().for_each(|job| print!("{job}"));
     }
-}
-
-fn random_jobs(
-    make: Make,
-    seed: &str,
-    count: &str,
-    shape: &'static Shape,
-) -> impl Iterator<Item = Job> {
-    let mut rng = Rng::new(number(seed));
-    (0..number(count)).map(move |_| make(&mut rng, shape))
 }
 
 fn number(text: &str) -> u64 {

@@ -47,7 +47,7 @@ impl<'a> Operations<'a> {
         self.up_to(acted, count);
     }
 
-    fn up_to(&mut self, acted: &[usize], count: usize) {
+    pub fn up_to(&mut self, acted: &[usize], count: usize) {
         while self.records.len() < count {
             match self.rng.below(10) {
                 0 => self.echo(),

@@ -61,8 +61,7 @@ pub fn second_first(rng: &mut Rng, shape: &Shape) -> Job {
 pub fn named(rng: &mut Rng, shape: &Shape) -> Job {
     loop {
         let mut job = unlimited(rng, shape);
-        let barriers = job.operations.iter().enumerate().filter(|(_, o)| o[0] != 1);
-        let barriers: Vec<usize> = barriers.map(|(at, _)| at).collect();
+        let barriers = barriers(&job);
         if barriers.is_empty() {
             continue;
         }
@@ -70,6 +69,12 @@ pub fn named(rng: &mut Rng, shape: &Shape) -> Job {
         job.options = options::named(rng, place);
         return finished(rng, job);
     }
+}
+
+/// Where a job's measurements and conditional rotations are.
+pub fn barriers(job: &Job) -> Vec<usize> {
+    let barriers = job.operations.iter().enumerate().filter(|(_, o)| o[0] != 1);
+    barriers.map(|(at, _)| at).collect()
 }
 
 /// One to be cut at a measurement (M-113), with the largest limit and no spoilt phase.
@@ -97,7 +102,8 @@ pub fn job_with(rng: &mut Rng, shape: &Shape, options: Options) -> Job {
     finished(rng, job)
 }
 
-fn finished(rng: &mut Rng, mut job: Job) -> Job {
+/// Now and then spoilt or littered, and with a limit.
+pub fn finished(rng: &mut Rng, mut job: Job) -> Job {
     spoil(rng, &mut job);
     litter(rng, &mut job);
     limit::choose(rng, &mut job);
@@ -116,11 +122,7 @@ type Fill = fn(&mut Operations, &[usize], usize);
 
 /// The same with its operations from `fill`.
 fn unlimited_by(rng: &mut Rng, shape: &Shape, fill: Fill) -> Job {
-    let qubits = if rng.chance(shape.wide_percent) {
-        rng.pick(shape.wide)
-    } else {
-        rng.between(1, shape.most_qubits)
-    };
+    let qubits = qubits(rng, shape);
     let mut program = Program::new(qubits);
     let acted = acted(rng, qubits);
     // Rows before or after the axes: their nodes' order decides when slots are free.
@@ -137,12 +139,33 @@ fn unlimited_by(rng: &mut Rng, shape: &Shape, fill: Fill) -> Job {
     } else {
         shape.most_operations
     };
+    from_pool(rng, program, rows_first, pool, |operations| {
+        fill(operations, &acted, most);
+    })
+}
+
+pub fn qubits(rng: &mut Rng, shape: &Shape) -> usize {
+    if rng.chance(shape.wide_percent) {
+        rng.pick(shape.wide)
+    } else {
+        rng.between(1, shape.most_qubits)
+    }
+}
+
+/// Operations on the axes of a pool, put there by `fill`, the rows if they are not there yet, and any options.
+pub fn from_pool(
+    rng: &mut Rng,
+    mut program: Program,
+    rows: Option<Vec<[i64; 4]>>,
+    pool: Vec<i64>,
+    fill: impl FnOnce(&mut Operations),
+) -> Job {
     let mut operations = Operations::new(rng, &mut program, pool.clone());
-    fill(&mut operations, &acted, most);
+    fill(&mut operations);
     let operations = operations.records;
-    let rows = rows_first.unwrap_or_else(|| frame::random(rng, &mut program, &pool));
+    let rows = rows.unwrap_or_else(|| frame::random(rng, &mut program, &pool));
     Job {
-        qubits,
+        qubits: program.qubits,
         options: options::random(rng),
         slack: std::array::from_fn(|_| 1000 + rng.pick(&[0, 0, 0, 1, 5])),
         nodes: program.nodes,
@@ -152,7 +175,7 @@ fn unlimited_by(rng: &mut Rng, shape: &Shape, fill: Fill) -> Job {
 }
 
 /// Up to four qubits on which the axes act, the ends of words among them.
-fn acted(rng: &mut Rng, qubits: usize) -> Vec<usize> {
+pub fn acted(rng: &mut Rng, qubits: usize) -> Vec<usize> {
     let of_interest = [
         0,
         1,

@@ -1,9 +1,11 @@
-//! Large programs of one kind each, to be timed: rotations on axes of one weight or on dense ones, and a mix of operations.
+//! Large programs of one kind each, to be timed: rotations on axes of one weight or on dense ones, a mix of operations, and words
+//! that the index beside the axes (M-102) does not tell apart by their chain.
 
 use std::collections::HashMap;
 
 use jobs::{Job, MAX_LIMIT, Options};
 
+use super::chains::LOWEST;
 use super::frame;
 use super::program::Program;
 use super::rng::Rng;
@@ -15,21 +17,58 @@ pub enum Axes {
     Weight(usize),
     /// The same on qubits of which any two are a multiple of so many apart.
     Spaced { weight: usize, apart: usize },
+    /// The same, none of them among the ten lowest of each 64: every number of a word is a multiple of 1,024, and so is
+    /// their sum.
+    OneChain(usize),
     /// I, X, Y or Z on every qubit, each as likely.
     Dense,
 }
 
+/// The most nodes of a program.
+const MAX_NODES: usize = 65_535;
+
 /// So many words are made letter by letter for dense axes; the others are products of two.
 const DENSE_BEGUN: usize = 64;
 
-/// A program of plain rotations, each on an axis of its own.
+/// A program of plain rotations, each on an axis of its own; where there are no nodes left for one, on any of those before.
 pub fn rotations(seed: u64, qubits: usize, count: usize, axes: Axes) -> Job {
     let mut rng = Rng::new(seed);
     let mut start = Start::new(qubits);
+    let mut nodes = Vec::new();
     let operations = (0..count)
         .map(|_| {
-            let node = start.axis(&mut rng, axes);
+            let node = if start.program.nodes.len() + start.most_nodes(axes) > MAX_NODES {
+                rng.pick(&nodes)
+            } else {
+                start.axis(&mut rng, axes)
+            };
+            nodes.push(node);
             rotation(&mut rng, &start.program, node)
+        })
+        .collect();
+    start.job(operations)
+}
+
+/// Rotations, each on an axis of its own as far as the nodes reach, then on any of those before. An axis has X or Z on each
+/// qubit of the support: all have one sum. Angles are odd: an absorbed rotation would give words with other sums.
+pub fn equal_sums(seed: u64, qubits: usize, count: usize, support: &[usize]) -> Job {
+    let mut rng = Rng::new(seed);
+    let mut start = Start::new(qubits);
+    let (left, right) = support.split_at(support.len() / 2);
+    let (left, right) = (start.x_or_z(left), start.x_or_z(right));
+    let mut pairs = pairs(&left, &right);
+    let mut nodes = Vec::new();
+    while start.program.nodes.len() < MAX_NODES && !pairs.is_empty() {
+        let (a, b) = pairs.swap_remove(rng.below(pairs.len()));
+        nodes.push(start.program.product((a, 0), (b, 0)));
+    }
+    let operations = (0..count)
+        .map(|i| {
+            let node = nodes.get(i).copied();
+            let node = node.unwrap_or_else(|| rng.pick(&nodes));
+            let mut operation = rotation(&mut rng, &start.program, node);
+            operation[3] |= 1;
+            operation
         })
         .collect();
     start.job(operations)
@@ -77,6 +116,11 @@ pub fn long_groups(pairs: usize) -> Job {
     start.job(nodes.iter().map(|&node| [1, node, 0, 1, 0, 0]).collect())
 }
 
+fn pairs(left: &[i64], right: &[i64]) -> Vec<(i64, i64)> {
+    let with = |&a: &i64| right.iter().map(move |&b| (a, b));
+    left.iter().flat_map(with).collect()
+}
+
 fn rotation(rng: &mut Rng, program: &Program, node: i64) -> [i64; 6] {
     let (node, phase) = program.signed(node, rng.chance(50));
     [1, node, phase, rng.between(1, 7) as i64, 0, 0]
@@ -110,17 +154,45 @@ impl Start {
 
     fn axis(&mut self, rng: &mut Rng, axes: Axes) -> i64 {
         match axes {
-            Axes::Weight(weight) => self.letters(rng, weight, 1),
-            Axes::Spaced { weight, apart } => self.letters(rng, weight, apart),
+            Axes::Weight(weight) => self.letters(rng, weight, 1, |_| true),
+            Axes::Spaced { weight, apart } => self.letters(rng, weight, apart, |_| true),
+            Axes::OneChain(weight) => self.letters(rng, weight, 1, |q| q % 64 >= LOWEST),
             Axes::Dense => self.dense(rng),
         }
     }
 
-    fn letters(&mut self, rng: &mut Rng, weight: usize, apart: usize) -> i64 {
+    /// How many nodes an axis may take.
+    fn most_nodes(&self, axes: Axes) -> usize {
+        match axes {
+            Axes::Weight(weight) | Axes::OneChain(weight) => weight - 1,
+            Axes::Spaced { weight, .. } => weight - 1,
+            Axes::Dense if self.dense.len() < DENSE_BEGUN => self.program.qubits - 1,
+            Axes::Dense => 1,
+        }
+    }
+
+    /// Nodes for all words with X or Z on each of these qubits.
+    fn x_or_z(&mut self, qubits: &[usize]) -> Vec<i64> {
+        if let [q] = qubits {
+            return [0, 2].map(|letter| self.leaves[3 * q + letter]).into();
+        }
+        let (left, right) = qubits.split_at(qubits.len() / 2);
+        let (left, right) = (self.x_or_z(left), self.x_or_z(right));
+        let product = |(a, b)| self.program.product((a, 0), (b, 0));
+        pairs(&left, &right).into_iter().map(product).collect()
+    }
+
+    fn letters(
+        &mut self,
+        rng: &mut Rng,
+        weight: usize,
+        apart: usize,
+        taken: fn(usize) -> bool,
+    ) -> i64 {
         let mut qubits: Vec<usize> = Vec::new();
         while qubits.len() < weight {
             let qubit = apart * rng.below(self.program.qubits / apart);
-            if !qubits.contains(&qubit) {
+            if taken(qubit) && !qubits.contains(&qubit) {
                 qubits.push(qubit);
             }
         }

@@ -13,7 +13,7 @@ pub use job::{Job, Lazy, MAX_LIMIT, NO_TARGET, Options};
 pub use listings::{
     LARGEST_OUTPUT, Lent, handed, listed, listing_text, read_listings, refused_listing,
 };
-pub use memory::{Lengths, Memory, asked, memory, refused_memory};
+pub use memory::{CHAINS, Lengths, Memory, asked, memory, refused_memory};
 pub use read::{read_jobs, read_listing};
 pub use seen::{Accepted, Counters, Records, Refusal, Seen};
 pub use word::{Word, expand};

@@ -41,11 +41,16 @@ impl Job {
     }
 }
 
-/// What refusal 3 asks.
+/// The chains of the index beside the axes (M-102): a number for the head of each.
+pub const CHAINS: usize = 1_024;
+
+/// What refusal 3 asks; behind 24 rows the numbers hold the index, the chains and a number for each axis.
 pub fn asked(qubits: usize, nodes: usize, operations: usize, limit: usize) -> Lengths {
     let l = width(qubits);
-    let row = nodes + operations + 2 * qubits + limit / (2 * l) + 1;
-    [limit + 16 * l, 24 * row, 6 * operations, 8 * qubits]
+    let axes = limit / (2 * l);
+    let row = nodes + operations + 2 * qubits + axes + 1;
+    let numbers = 24 * row + CHAINS + axes;
+    [limit + 16 * l, numbers, 6 * operations, 8 * qubits]
 }
 
 impl Memory {
@@ -170,7 +175,21 @@ fn text(first: &[usize], memory: &Memory) -> String {
 
 #[cfg(test)]
 mod tests {
-    use super::Memory;
+    use super::{Memory, asked};
+
+    /// 01's numbers and M-102's: 24 rows, 1,024, and limit div (2 l).
+    #[test]
+    fn the_index_is_asked_for() {
+        assert_eq!(asked(0, 1, 0, 0)[1], 24 * 2 + 1_024);
+        assert_eq!(
+            asked(1, 6, 3, 65)[1],
+            24 * (6 + 3 + 2 + 32 + 1) + 1_024 + 32
+        );
+        assert_eq!(
+            asked(65, 6, 3, 67)[1],
+            24 * (6 + 3 + 130 + 16 + 1) + 1_024 + 16
+        );
+    }
 
     #[test]
     fn runs_are_told_from_what_was_lent() {

@@ -1,44 +1,117 @@
--- The loop's invariant: none of the first id axes is w. Assumes nothing.
-use mathlib.Core.Path.{_∙_}
-use Prim.Native.Nat.{_≤_, _-_}
-use Rattle.model.specs.Words.{idOf}
-use Rattle.axes.specs.Held.{storedAxes}
-use Rattle.interning.specs.Find.{id-none}
+-- The loop's invariant: the walk stands at a place. Assumes nothing.
+use mathlib.Core.Path.{refl}
+use Rattle.axes.specs.Held.{held-axis}
+use Rattle.interning.specs.Find.{Walking, left, index-in, first-in, walking-in, walking-first, walking-end, walking-axis, walking-here}
+use Rattle.interning.specs.Find.{walking-next}
 use native.Mathlib.Omega.{arith}
 use borrow.Author.Needs.{needs}
 use Rattle.interning.proofs.find.Statement.{statement}
 use Rattle.interning.proofs.find.Tie as tie
 
 abbrev Inv-loop : tie.InvT-loop
-Inv-loop words numbers z w k count id₀ id = (id ≤ z .axes) × (id ≤ idOf (storedAxes z words) w)
+Inv-loop words numbers z w place₀ digits₀ entry₀ place digits entry = Walking z words numbers w place digits entry
 
 abbrev μ-loop : tie.MeasureT-loop
-μ-loop words numbers z w k count id₀ id = z .axes - id
+μ-loop words numbers z w place₀ digits₀ entry₀ place digits entry = left (z .axes) entry
 
-key-requires : tie.Need-key-requires Inv-loop μ-loop
-key-requires c κs = search needs
+sums-of-requires : tie.Need-sums-of-requires Inv-loop μ-loop
+sums-of-requires c κs = search needs
+
+first-requires : tie.Need-first-requires Inv-loop μ-loop
+first-requires c κs = omega (arith, index-in (c .before .before .before .before .pre))
+
+entry-at-requires : tie.Need-entry-at-requires Inv-loop μ-loop
+entry-at-requires c κs = first-in (c .before .before .before .before .before .pre) (c .first .ensures)
+
+cast-entry : tie.Need-cast-entry Inv-loop μ-loop
+cast-entry c = search needs
 
 loop-holds : tie.Need-loop-holds Inv-loop μ-loop
-loop-holds c = omega arith
+loop-holds c =
+    let first = c .before in
+    let sums = first .before in
+    walking-first (sums .before .before .before .before .pre) _ (sums .sums-of .ensures) (first .first .ensures) (c .entry-at .ensures)
 
-pass-requires : tie.Need-pass-requires Inv-loop μ-loop
-pass-requires c κs =
+sub-axis : tie.Need-sub-axis Inv-loop μ-loop
+sub-axis c = search needs
+
+axis-requires : tie.Need-axis-requires Inv-loop μ-loop
+axis-requires c κs =
     let head = c .before in
-    let key′ = head .before in
-    let start = key′ .before .before .before .before in
-    record { stored = start .pre; low = omega arith; before = head .loop .inv .1; key = key′ .key .ensures }
+    let start = head .before .before .before .before .before .before .before in
+    held-axis (start .pre) _ (walking-axis (start .pre) (head .loop .inv) (c .loop-test .taken))
+
+same-requires : tie.Need-same-requires Inv-loop μ-loop
+same-requires c κs = search needs
+
+sub-t15 : tie.Need-sub-t15 Inv-loop μ-loop
+sub-t15 c = search needs
 
 returns : tie.Need-returns Inv-loop μ-loop
-returns c = c .if1 .taken ∙ c .before .pass .ensures .stops (c .if1 .taken)
+returns c =
+    let same = c .before in
+    let axis = same .before in
+    let turn = axis .before in
+    let head = turn .before in
+    let start = head .before .before .before .before .before .before .before in
+    walking-here (start .pre) (head .loop .inv) (turn .loop-test .taken) (same .same .ensures) (c .if1 .taken)
+    (axis .axis .ensures _ (walking-axis (start .pre) (head .loop .inv) (turn .loop-test .taken))) refl
+
+sub-next : tie.Need-sub-next Inv-loop μ-loop
+sub-next c = search needs
+
+next-requires : tie.Need-next-requires Inv-loop μ-loop
+next-requires c κs =
+    let turn = c .before .before .before in
+    let head = turn .before in
+    let start = head .before .before .before .before .before .before .before in
+    omega (arith, index-in (start .pre), walking-axis (start .pre) (head .loop .inv) (turn .loop-test .taken))
+
+entry-at-requires-2 : tie.Need-entry-at-requires-2 Inv-loop μ-loop
+entry-at-requires-2 c κs =
+    let test = c .before in
+    let same = test .before in
+    let axis = same .before in
+    let turn = axis .before in
+    let head = turn .before in
+    let start = head .before .before .before .before .before .before .before in
+    walking-in (start .pre) (walking-next (start .pre) (head .loop .inv) (turn .loop-test .taken) (same .same .ensures) (test .if1 .left)
+    (axis .axis .ensures _ (walking-axis (start .pre) (head .loop .inv) (turn .loop-test .taken))) (c .next .ensures) refl refl .0)
+
+cast-entry-2 : tie.Need-cast-entry-2 Inv-loop μ-loop
+cast-entry-2 c = search needs
 
 loop-less : tie.Need-loop-less Inv-loop μ-loop
-loop-less c = omega (arith, c .before .pass .ensures .low, c .before .pass .ensures .high)
+loop-less c =
+    let next = c .before in
+    let test = next .before in
+    let same = test .before in
+    let axis = same .before in
+    let turn = axis .before in
+    let head = turn .before in
+    let start = head .before .before .before .before .before .before .before in
+    walking-next (start .pre) (head .loop .inv) (turn .loop-test .taken) (same .same .ensures) (test .if1 .left)
+    (axis .axis .ensures _ (walking-axis (start .pre) (head .loop .inv) (turn .loop-test .taken))) (next .next .ensures) refl
+    (c .entry-at2 .ensures) .1
 
 loop-again : tie.Need-loop-again Inv-loop μ-loop
-loop-again c = (c .before .pass .ensures .high, c .before .pass .ensures .before)
+loop-again c =
+    let next = c .before in
+    let test = next .before in
+    let same = test .before in
+    let axis = same .before in
+    let turn = axis .before in
+    let head = turn .before in
+    let start = head .before .before .before .before .before .before .before in
+    walking-next (start .pre) (head .loop .inv) (turn .loop-test .taken) (same .same .ensures) (test .if1 .left)
+    (axis .axis .ensures _ (walking-axis (start .pre) (head .loop .inv) (turn .loop-test .taken))) (next .next .ensures) refl
+    (c .entry-at2 .ensures) .0
 
 returns-2 : tie.Need-returns-2 Inv-loop μ-loop
-returns-2 c = id-none _ _ _ _ (omega arith)
+returns-2 c =
+    let head = c .before in
+    let start = head .before .before .before .before .before .before .before in
+    walking-end (start .pre) (head .loop .inv) (omega arith) refl refl
 
 pub find-spec : {M : Type 1} → statement M
 find-spec =
@@ -46,10 +119,20 @@ find-spec =
     (tie.spec
     Inv-loop
     μ-loop
-    key-requires
+    sums-of-requires
+    first-requires
+    entry-at-requires
+    cast-entry
     loop-holds
-    pass-requires
+    sub-axis
+    axis-requires
+    same-requires
+    sub-t15
     returns
+    sub-next
+    next-requires
+    entry-at-requires-2
+    cast-entry-2
     loop-less
     loop-again
     returns-2)
