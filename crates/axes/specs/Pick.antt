@@ -2,7 +2,6 @@
 use mathlib.Core.Path.{_≡_, sym, ap, _∙_}
 use mathlib.Core.List.{List}
 use Prim.Native.Nat.{ℕ, zero, suc, _+_, _*_, _/_, _%_, _^_, _<_}
-use native.Mathlib.Nat.{div-lt-iff-lt-mul}
 use native.Mathlib.Numerals.{add-one}
 use native.Mathlib.Omega.{arith}
 use lib.ListN.{length, getD}
@@ -21,25 +20,18 @@ pub pick-low : (w : List ℕ) → pickOf w < headCount
 unfolding pickOf
 pick-low w = omega arith
 
--- a hash with one number more: multiplied with carry, by halves of 32 bits, then the number added
-unfoldable pub hashWith : ℕ → ℕ → ℕ
-hashWith h x = (h % 4294967296 * 2654435769 + h / 4294967296 + x) % 2 ^ 64
+-- a number's halves of 32 bits, each times an odd number, added modulo 2^64: each bit of the upper half counts for the lower one
+unfoldable pub mixed : ℕ → ℕ
+mixed h = (h % 4294967296 * 2654435769 + h / 4294967296 * 2246822519) % 2 ^ 64
 
--- of the first n numbers of a word: each counts, and so does its place
+-- the hash of the first n numbers of a word: each counts, and so does its place
 unfoldable pub hashTo : List ℕ → ℕ → ℕ
 hashTo w zero = 0
-hashTo w (suc n) = hashWith (hashTo w n) (getD w n 0)
+hashTo w (suc n) = (mixed (hashTo w n) + getD w n 0) % 2 ^ 64
 
--- its upper half has 32 bits
-pub half-low : (w : List ℕ) (n : ℕ) → hashTo w n / 4294967296 < 4294967296
-unfolding hashTo hashWith
-half-low w zero = omega arith
-half-low w (suc n) = div-lt-iff-lt-mul (let p : 0 < 4294967296 = omega arith in p) .1 (omega arith)
-
--- the number by whose binary digits a chain forks, lowest first: by a remainder every bit of the hash counts, and of the product the
--- lowest digits are left out, since they hang on few of its bits
+-- the number by whose binary digits a chain forks, lowest first: the upper half, in which each bit of the hash counts
 unfoldable pub digitsBy : ℕ → ℕ
-digitsBy h = h % 4294967291 * 2654435769 / 1048576
+digitsBy h = mixed h / 4294967296
 
 abbrev pub digitsOf : List ℕ → ℕ
 digitsOf w = digitsBy (hashTo w (length w))
@@ -50,6 +42,6 @@ module _ (w : List ℕ) (n : ℕ) where
   unfolding totalTo
   total-more e f = f ∙ ap (λ (k : ℕ). (k + getD w n 0) % 2 ^ 64) e ∙ ap (totalTo w) (sym (add-one n))
 
-  pub hash-more : {h r : ℕ} → h ≡ hashTo w n → r ≡ hashWith h (getD w n 0) → r ≡ hashTo w (n + 1)
+  pub hash-more : {h m r : ℕ} → h ≡ hashTo w n → m ≡ mixed h → r ≡ (m + getD w n 0) % 2 ^ 64 → r ≡ hashTo w (n + 1)
   unfolding hashTo
-  hash-more e f = f ∙ ap (λ (k : ℕ). hashWith k (getD w n 0)) e ∙ ap (hashTo w) (sym (add-one n))
+  hash-more e f g = g ∙ ap (λ (k : ℕ). (k + getD w n 0) % 2 ^ 64) (f ∙ ap mixed e) ∙ ap (hashTo w) (sym (add-one n))

@@ -6,6 +6,7 @@ ghost use lib.ListN.{length};
 ghost use Rattle.pauli.specs.Letter.{single};
 ghost use Rattle.model.specs.Words.{asValue, setBits, support};
 ghost use Rattle.model.specs.Clifford.{Touched};
+ghost use Rattle.steps.specs.State.{stepWith};
 ghost use Rattle.clifford.specs.Holds.{SomeTouched, imageIn};
 ghost use Rattle.clifford.specs.Images.{ImageThere};
 ghost use Rattle.carrying.specs.Scratch.{TimesPre, ScratchTimes};
@@ -16,8 +17,9 @@ use interning::Interned;
 use layout::F_PHASE;
 use layout::F_SLOT;
 use layout::Shape;
+use steps::Image;
+use steps::ImageStep;
 use steps::State;
-use steps::Step;
 
 // Whether the word at a place has no letter where the mask has a bit. Only the time of `carry` depends on it.
 fn fixes(words: &[u64], at: usize, mask: usize, l: usize) -> bool
@@ -131,16 +133,27 @@ fn carry_word(words: &mut [u64], numbers: &[u32], shape: Shape, id: usize) -> u3
 }
 
 // The image of axis id: its word's id, stored if it is new, and its quarter turns. The sum that is tested counts F's images.
-pub fn carry(words: &mut [u64], numbers: &mut [u32], shape: Shape, st: State, id: usize) -> Step
+pub fn carry(
+    words: &mut [u64],
+    numbers: &mut [u32],
+    shape: Shape,
+    st: State,
+    id: usize,
+) -> ImageStep
     requires { ⌜ SomeTouched (λ (t : Touched). CarryPre shape st id (now words) (now numbers) t) ⌝ }
     ensures { λ r. ⌜ LeftCarried shape (now (words .entry)) (now (numbers .entry)) (now (words .exit)) (now (numbers .exit))
         × ((t : Touched) → CarryPre shape st id (now (words .entry)) (now (numbers .entry)) t
-        → CarriedAs shape st id t r (now (words .exit)) (now (numbers .exit))) ⌝ }
+        → CarriedAs shape st id t (stepWith st r) (now (words .exit)) (now (numbers .exit))) ⌝ }
 {
     let at = layout::axis_at(shape.l, id);
     let mask = clifford::mask_at(shape.limit, shape.l);
     if fixes(&words[..], at, mask, shape.l) {
-        return Step::Next(steps::with_image(st, st.axes, st.peak, id, 0));
+        return ImageStep::Next(Image {
+            axes: st.axes,
+            peak: st.peak,
+            id,
+            turns: 0,
+        });
     }
     let turns = carry_word(words, &numbers[..], shape, id);
     let counted = st.slots * (6 * shape.l);
@@ -148,7 +161,12 @@ pub fn carry(words: &mut [u64], numbers: &mut [u32], shape: Shape, st: State, id
     let z = axes::sizes_of(shape, st.axes);
     let i = interning::intern(words, numbers, z, counted, st.peak, scratch);
     let Interned::Axis(a) = i else {
-        return Step::ExpansionLimit;
+        return ImageStep::ExpansionLimit;
     };
-    Step::Next(steps::with_image(st, a.axes, a.peak, a.id, turns))
+    ImageStep::Next(Image {
+        axes: a.axes,
+        peak: a.peak,
+        id: a.id,
+        turns,
+    })
 }

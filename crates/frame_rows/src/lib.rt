@@ -8,6 +8,7 @@ ghost use Rattle.stream_states.specs.States.{SomePass};
 ghost use Rattle.frame_rows.specs.FrameRows.{LeftR, RowAt, RowAs, RowsAt, RowsAs, rowsEnd, rowsCarried};
 use layout::NO_AXIS;
 use layout::Shape;
+use steps::ImageStep;
 use steps::State;
 use steps::Step;
 use work::Root;
@@ -25,9 +26,10 @@ fn carry_row(words: &mut [u64], numbers: &mut [u32], shape: Shape, st: State, j:
     }
     let a = x.axis as usize;
     let c = carrying::carry(words, numbers, shape, st, a);
-    let Step::Next(to) = c else {
+    let ImageStep::Next(image) = c else {
         return Step::ExpansionLimit;
     };
+    let to = steps::with_image(st, image);
     let moved = Root {
         axis: to.id as u32,
         sign: (to.turns + x.sign) % 4,

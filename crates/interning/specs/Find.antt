@@ -11,14 +11,14 @@ use lib.ListN.{length, getD}
 use Rattle.store.specs.Equal.{sameList, said-same, said-other}
 use Rattle.model.specs.Words.{idOf, wordOf}
 use Rattle.theory.specs.Ids.{id-le, id-first, id-word}
-use Rattle.layout.specs.Rows.{rowCount, forkRow}
-use Rattle.layout.specs.Index.{headCount, headsPlace, linksPlace, indexLength}
+use Rattle.layout.specs.Rows.{forkRow}
+use Rattle.layout.specs.Index.{headCount, headsPlace, linksPlace}
 use Rattle.axes.specs.View.{axesOf, axes-length}
 use Rattle.axes.specs.Pick.{pickOf, pick-low, hashTo, totalTo, digitsBy, digitsOf}
 use Rattle.axes.specs.Chains.{nextPlace, next-is, Meets, Walked, meets-some, meets-from, meets-next}
 use Rattle.axes.specs.Chains.Walked.{start, step}
 use Rattle.axes.specs.declared.Sizes.{Sizes}
-use Rattle.axes.specs.Held.{storedAxes, Stored, held-axis}
+use Rattle.axes.specs.Held.{storedAxes, Stored}
 use Rattle.interning.specs.declared.Found.{Found}
 use Rattle.interning.specs.declared.Sums.{Sums}
 use Rattle.interning.specs.declared.Walk.{Walk}

@@ -12,7 +12,7 @@ use Rattle.theory.specs.Ids.{id-le, intern-old}
 use Rattle.layout.specs.Rows.{axesRows}
 use Rattle.layout.specs.Only.{Only}
 use Rattle.layout.specs.Words.{axisPlace, KeptFrom, kept-none, kept-put}
-use Rattle.axes.specs.View.{axesOf, wordAt, axes-length, axes-put}
+use Rattle.axes.specs.View.{wordAt, axes-length, axes-put}
 use Rattle.axes.specs.Pick.{pickOf, digitsOf}
 use Rattle.axes.specs.Beside.{Beside, SameBeside, same-beside}
 use Rattle.axes.specs.Chains.{Index}

@@ -5,8 +5,11 @@ ghost use Prim.Native.Nat.{_+_, _^_, _<_, _≤_};
 ghost use lib.ListN.{length, getD};
 ghost use Rattle.model.specs.Words.{idOf};
 ghost use Rattle.layout.specs.Index.{linksPlace};
+ghost use Rattle.layout.specs.Words.{axisPlace};
+ghost use Rattle.axes.specs.Pick.{mixed};
 ghost use Rattle.axes.specs.Chains.{nextPlace};
-ghost use Rattle.axes.specs.Held.{storedAxes, Stored};
+ghost use Rattle.axes.specs.View.{axesOf};
+ghost use Rattle.axes.specs.Held.{Stored};
 ghost use Rattle.interning.specs.Find.{SumsOf, FirstAt, FoundAs};
 ghost use Rattle.interning.specs.Beside.{BesidePre, BesidePut};
 ghost use Rattle.interning.specs.Link.{LinkPre, LinkPut, Entered, ChainsCleared};
@@ -24,10 +27,12 @@ pub struct StoredAxis {
     pub peak: usize,
 }
 
-// A hash is held in halves of 32 bits; it is multiplied by an odd number, and reduced by the largest prime below 2^32.
+// A hash's halves of 32 bits, and the odd numbers that they are multiplied by.
 const HALF: u64 = 4294967296;
-const MULTIPLIER: u64 = 2654435769;
-const PRIME: u64 = 4294967291;
+
+const LOWER: u64 = 2654435769;
+
+const UPPER: u64 = 2246822519;
 
 // A word is an axis, or the word store is full: the limit leaves no room for a new word.
 pub enum Interned {
@@ -41,6 +46,13 @@ struct Sums {
     hash: u64,
 }
 
+// Both halves of a number, each multiplied, added modulo 2^64.
+fn mixed_halves(hash: u64) -> u64
+    ensures { λ r. ⌜ r ≡ mixed hash ⌝ }
+{
+    std::num::wrapping_add_u64(hash % HALF * LOWER, hash / HALF * UPPER)
+}
+
 // A word's numbers, read once.
 fn sums_of(w: &[u64]) -> Sums
     ensures { λ r. ⌜ SumsOf (now (w .entry)) r ⌝ }
@@ -50,7 +62,7 @@ fn sums_of(w: &[u64]) -> Sums
     for k in 0..w.len() {
         let number = w[k];
         total = std::num::wrapping_add_u64(total, number);
-        hash = std::num::wrapping_add_u64(hash % HALF * MULTIPLIER + hash / HALF, number);
+        hash = std::num::wrapping_add_u64(mixed_halves(hash), number);
     }
     Sums { total, hash }
 }
@@ -85,7 +97,7 @@ fn first(z: Sizes, s: Sums) -> Walk
 {
     Walk {
         place: layout::heads_at(z.u) + (s.total % HEADS as u64) as usize,
-        digits: s.hash % PRIME * MULTIPLIER / 1048576,
+        digits: mixed_halves(s.hash) / HALF,
     }
 }
 
@@ -120,18 +132,17 @@ pub fn find(words: &[u64], numbers: &[u32], z: Sizes, w: &[u64]) -> Found
     Found { id: z.axes, place }
 }
 
-// The id of w among the axes, by a scan of all: 01's rule, to which `find` is held.
-pub fn scan(words: &[u64], numbers: &[u32], z: Sizes, w: &[u64]) -> usize
-    requires { ⌜ Stored z (now words) (now numbers) ⌝ }
-    ensures { λ r. ⌜ r ≡ idOf (storedAxes z (now (words .entry))) (now (w .entry)) ⌝ }
+// The id of w among the first so many axes, their number if it is none of them, by a scan of all: 01's rule, to which `find` is held.
+pub fn scan(words: &[u64], l: usize, axes: usize, w: &[u64]) -> usize
+    requires { ⌜ axisPlace l axes ≤ length (now words) ⌝ }
+    ensures { λ r. ⌜ r ≡ idOf (axesOf l axes (now (words .entry))) (now (w .entry)) ⌝ }
 {
-    let count = z.axes;
-    for id in 0..count {
-        if same(axes::axis(words, id, z.l), w) {
+    for id in 0..axes {
+        if same(axes::axis(words, id, l), w) {
             return id;
         }
     }
-    count
+    axes
 }
 
 // 02: "Ids and results stay equal to the scan's, which is kept and proved to agree."
@@ -139,7 +150,7 @@ pub fn agree(words: &[u64], numbers: &[u32], z: Sizes, w: &[u64]) -> bool
     requires { ⌜ Stored z (now words) (now numbers) ⌝ }
     ensures { λ r. ⌜ r ≡ true ⌝ }
 {
-    find(words, numbers, z, w).id == scan(words, numbers, z, w)
+    find(words, numbers, z, w).id == scan(words, z.l, z.axes, w)
 }
 
 // Every chain is empty.

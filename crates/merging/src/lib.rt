@@ -16,6 +16,7 @@ use axes::Sizes;
 use layout::LAST;
 use layout::OUT;
 use layout::Shape;
+use steps::ImageStep;
 use steps::State;
 use steps::Step;
 use stream_states::StreamRules;
@@ -267,9 +268,10 @@ pub fn carry_and_take(
         (withSign (axisImage (shape .l) (carryAxis (shape .l) p a) a .turns) angle))) ⌝ }
 {
     let c = carrying::carry(words, numbers, shape, st, a);
-    let Step::Next(s) = c else {
+    let ImageStep::Next(image) = c else {
         return Step::ExpansionLimit;
     };
+    let s = steps::with_image(st, image);
     let k = items::with_sign(s.turns, angle);
     take(words, numbers, shape, rules, s, s.id, k)
 }

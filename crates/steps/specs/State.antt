@@ -1,6 +1,12 @@
 -- The first state, and a state with a part of it changed. Assumes nothing.
+use mathlib.Core.Path.{_≡_, sym, ap, _∙_}
 use Prim.Native.Nat.{ℕ}
 use Rattle.steps.specs.declared.State.{State}
+use Rattle.steps.specs.declared.Image.{Image}
+use Rattle.steps.specs.declared.Step.{Step}
+use Rattle.steps.specs.declared.Step.the-variants.{Next, ExpansionLimit}
+use Rattle.steps.specs.declared.ImageStep.{ImageStep}
+use Rattle.steps.specs.declared.ImageStep.the-variants.{Next as NextImage, ExpansionLimit as NoImage}
 
 -- the first: so many axes, the largest sum so far, so many items
 abbrev pub firstState : ℕ → ℕ → ℕ → State
@@ -134,3 +140,17 @@ withAbsorbed n st = record {
   swaps = st .swaps;
   absorbed = n;
 }
+
+-- how a step from st ends, by how carrying an axis ends
+unfoldable pub stepWith : State → ImageStep → Step
+stepWith st (NextImage i) = Next (withImage (i .axes) (i .peak) (i .id) (i .turns) st)
+stepWith st NoImage = ExpansionLimit
+
+module _ (st : State) {r : ImageStep} where
+  pub with-next : {i : Image} {s : State} → r ≡ NextImage i → s ≡ withImage (i .axes) (i .peak) (i .id) (i .turns) st → stepWith st r ≡ Next s
+  unfolding stepWith
+  with-next e f = ap (stepWith st) e ∙ ap Next (sym f)
+
+  pub with-limit : r ≡ NoImage → stepWith st r ≡ ExpansionLimit
+  unfolding stepWith
+  with-limit e = ap (stepWith st) e

@@ -24,6 +24,20 @@ pub enum Step {
     ExpansionLimit,
 }
 
+// An axis's image: how many axes there are with it, the largest word sum that was tested by then, its id and its quarter turns.
+pub struct Image {
+    pub axes: usize,
+    pub peak: usize,
+    pub id: usize,
+    pub turns: u32,
+}
+
+// How carrying an axis ends: its image, or refusal 10. Smaller than a `Step`, which is copied through memory.
+pub enum ImageStep {
+    Next(Image),
+    ExpansionLimit,
+}
+
 // Where a run or a stream begins: so many axes, the largest sum so far, so many items.
 pub fn first_state(axes: usize, peak: usize, out: usize) -> State
     ensures { λ r. ⌜ r ≡ firstState axes peak out ⌝ }
@@ -43,15 +57,15 @@ pub fn first_state(axes: usize, peak: usize, out: usize) -> State
     }
 }
 
-// The state with an axis's image, among so many axes, and the largest sum then.
-pub fn with_image(st: State, axes: usize, peak: usize, id: usize, turns: u32) -> State
-    ensures { λ r. ⌜ r ≡ withImage axes peak id turns st ⌝ }
+// The state with an axis's image.
+pub fn with_image(st: State, image: Image) -> State
+    ensures { λ r. ⌜ r ≡ withImage (image .axes) (image .peak) (image .id) (image .turns) st ⌝ }
 {
     let mut s = st;
-    s.axes = axes;
-    s.peak = peak;
-    s.id = id;
-    s.turns = turns;
+    s.axes = image.axes;
+    s.peak = image.peak;
+    s.id = image.id;
+    s.turns = image.turns;
     s
 }
 

@@ -7,7 +7,6 @@ use native.Mathlib.Nat.{lt-of-lt-of-le}
 use native.Mathlib.Omega.{arith}
 use native.Mathlib.Decide.{ℕ-discrete}
 use lib.ListN.{length, getD}
-use borrow.Author.Tests.{not-false}
 use Rattle.store.specs.Row.{row}
 use Rattle.pauli.specs.Word.{anticommutes}
 use Rattle.model.specs.Lists.{allOf, anyOf, member}
@@ -38,7 +37,7 @@ use Rattle.steps.specs.State.{withSegment}
 use Rattle.steps.specs.declared.Step.{Step}
 use Rattle.steps.specs.declared.Step.the-variants.{Next, ExpansionLimit}
 use Rattle.stream_states.specs.declared.StreamRules.{StreamRules}
-use Rattle.stream_states.specs.States.{lastIn, isWaiting, Waits, HoldsPass, FinePass, PassAt, lazy-only, RulesAs, LeftS}
+use Rattle.stream_states.specs.States.{lastIn, isWaiting, Waits, PassAt, lazy-only, LeftS}
 use Rattle.stream_states.specs.States.{left-then, granted-left, streamRows, SteppedAs, as-next, as-limit, stepped-from}
 use Rattle.stream_states.specs.Output.{holds-other, place-none}
 use Rattle.stream_states.specs.Known.{axes-count, out-few}

@@ -23,6 +23,7 @@ use layout::Shape;
 use layout::WAITING;
 use model::Absorption;
 use model::Lazy;
+use steps::ImageStep;
 use steps::State;
 use steps::Step;
 use stream_states::StreamRules;
@@ -139,9 +140,10 @@ fn absorb_blocking(
         → SteppedAs shape lazy 0 (st .out) st r (now (words .exit)) (now (numbers .exit)) (absorbBlocking (shape .l) p a)) ⌝ }
 {
     let c = carrying::carry(words, numbers, shape, st, a);
-    let Step::Next(s) = c else {
+    let ImageStep::Next(image) = c else {
         return Step::ExpansionLimit;
     };
+    let s = steps::with_image(st, image);
     absorb_waiting(words, numbers, shape, s, false, s.id)
 }
 
@@ -219,9 +221,10 @@ fn put_barrier(words: &mut [u64], numbers: &mut [u32], shape: Shape, st: State, 
 {
     let a = x.axis as usize;
     let c = carrying::carry(words, numbers, shape, st, a);
-    let Step::Next(to) = c else {
+    let ImageStep::Next(image) = c else {
         return Step::ExpansionLimit;
     };
+    let to = steps::with_image(st, image);
     let out = to.out;
     let moved = Tagged {
         tag: x.tag,

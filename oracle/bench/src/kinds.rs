@@ -55,14 +55,18 @@ fn by_index() -> Vec<Kind> {
     let support: Vec<usize> = (24..40).collect();
     // Eight positions in either number, so that words are told apart by both.
     let both: Vec<usize> = (24..32).chain(88..96).collect();
+    let narrow = equal_sums(11, 64, 65_535, &support);
+    let wide = equal_sums(12, 128, 65_535, &both);
     vec![
         ("one chain", rotations(9, 64, 20_000, Axes::OneChain(3))),
         (
             "one chain 1,000 qubits",
             rotations(10, 1_000, 5_000, Axes::OneChain(8)),
         ),
-        ("equal sums", equal_sums(11, 64, 65_535, &support)),
-        ("equal sums 128 qubits", equal_sums(12, 128, 65_535, &both)),
+        ("equal sums", narrow.clone()),
+        ("equal sums odd", odd(narrow)),
+        ("equal sums 128 qubits", wide.clone()),
+        ("equal sums 128 qubits odd", odd(wide)),
         ("8 qubits dense", rotations(13, 8, 20_000, Axes::Dense)),
         ("12 qubits dense", twelve.clone()),
         (
@@ -74,6 +78,14 @@ fn by_index() -> Vec<Kind> {
             rotations(15, 20, 20_000, Axes::Weight(3)),
         ),
     ]
+}
+
+/// The job with odd angles: nothing is absorbed, so that no word is stored whose sum is another.
+fn odd(mut job: Job) -> Job {
+    for operation in &mut job.operations {
+        operation[3] |= 1;
+    }
+    job
 }
 
 /// Rotations about few axes, many exchanges tried, nothing absorbed.

@@ -50,7 +50,7 @@ pub fn rotations(seed: u64, qubits: usize, count: usize, axes: Axes) -> Job {
 }
 
 /// Rotations, each on an axis of its own as far as the nodes reach, then on any of those before. An axis has X or Z on each
-/// qubit of the support: all have one sum. Angles are odd: an absorbed rotation would give words with other sums.
+/// qubit of the support: all have one sum.
 pub fn equal_sums(seed: u64, qubits: usize, count: usize, support: &[usize]) -> Job {
     let mut rng = Rng::new(seed);
     let mut start = Start::new(qubits);
@@ -66,9 +66,7 @@ pub fn equal_sums(seed: u64, qubits: usize, count: usize, support: &[usize]) -> 
         .map(|i| {
             let node = nodes.get(i).copied();
             let node = node.unwrap_or_else(|| rng.pick(&nodes));
-            let mut operation = rotation(&mut rng, &start.program, node);
-            operation[3] |= 1;
-            operation
+            rotation(&mut rng, &start.program, node)
         })
         .collect();
     start.job(operations)

@@ -1,4 +1,6 @@
 -- A word that F leaves has its id; else its image is worked out and stored. Assumes nothing.
+use mathlib.Core.Path.{refl}
+use Rattle.steps.specs.State.{stepWith}
 use Rattle.carrying.specs.Carrying.{carry-at, carry-words, carry-numbers, left-fixed, fixed-to, intern-there, limit-left, carry-limit}
 use Rattle.carrying.specs.Carrying.{carry-left, carry-to}
 use native.Mathlib.Omega.{arith}
@@ -22,21 +24,17 @@ fixes-requires c κs =
           (arith, mask-at .mask-at .ensures, carry-words (start .pre .it)),
     )
 
-with-image-requires : tie.Need-with-image-requires
-with-image-requires c κs = search needs
-
 same-length : tie.Need-same-length
 same-length c = search needs
 
 returns : tie.Need-returns
+unfolding stepWith
 returns c =
-    let test = c .before in
-    let fixes = test .before in
+    let fixes = c .before in
     let mask-at = fixes .before .before in
     let axis-at = mask-at .before in (
       left-fixed _ _ _,
-      λ t h. fixed-to h (axis-at .axis-at .ensures) (mask-at .mask-at .ensures) (fixes .fixes .ensures (test .if1 .taken))
-          (c .with-image .ensures),
+      λ t h. fixed-to h (axis-at .axis-at .ensures) (mask-at .mask-at .ensures) (fixes .fixes .ensures (c .if1 .taken)) refl,
     )
 
 carry-word-requires : tie.Need-carry-word-requires
@@ -78,6 +76,7 @@ same-length-3 : tie.Need-same-length-3
 same-length-3 c = search needs
 
 returns-2 : tie.Need-returns-2
+unfolding stepWith
 returns-2 c =
     let intern = c .before .before .before .before .before .before in
     let sizes-of = intern .before .before .before in
@@ -91,12 +90,9 @@ returns-2 c =
           (intern .intern .ensures) (c .enum-told .given .1),
     )
 
-with-image-requires-2 : tie.Need-with-image-requires-2
-with-image-requires-2 c κs = search needs
-
 same-length-4 : tie.Need-same-length-4
 same-length-4 c =
-    let i = c .before .before in
+    let i = c .before in
     let intern = i .before .before .before .before .before .before in
     let sizes-of = intern .before .before .before in
     let scratch-at = sizes-of .before in
@@ -109,8 +105,9 @@ same-length-5 : tie.Need-same-length-5
 same-length-5 c = search needs
 
 returns-3 : tie.Need-returns-3
+unfolding stepWith
 returns-3 c =
-    let i = c .before .before in
+    let i = c .before in
     let intern = i .before .before .before .before .before .before in
     let sizes-of = intern .before .before .before in
     let scratch-at = sizes-of .before in
@@ -120,7 +117,7 @@ returns-3 c =
           (sizes-of .sizes-of .ensures) (intern .intern .ensures) (i .i .given .1),
       λ t h. carry-to h
           (carry-word .carry-word .ensures t (carry-at h)) (scratch-at .scratch-at .ensures) (sizes-of .sizes-of .ensures)
-          (intern .intern .ensures) (i .i .given .1) (c .with-image2 .ensures),
+          (intern .intern .ensures) (i .i .given .1) refl,
     )
 
 pub carry-spec : {M : Type 1} → statement M
@@ -130,7 +127,6 @@ carry-spec =
     axis-at-requires
     mask-at-requires
     fixes-requires
-    with-image-requires
     same-length
     returns
     carry-word-requires
@@ -144,7 +140,6 @@ carry-spec =
     same-length-2
     same-length-3
     returns-2
-    with-image-requires-2
     same-length-4
     same-length-5
     returns-3)

@@ -1,4 +1,5 @@
 -- A reference without an axis stays. Assumes nothing.
+use Rattle.steps.specs.State.{with-next, with-limit}
 use Rattle.stream_states.specs.States.{heldOf}
 use Rattle.stream_states.specs.Carrying.{carry-pre, carried-small}
 use Rattle.frame_rows.specs.FrameRows.{left-none-r, row-past, row-carry, row-sign, row-limit, row-small, row-next, row-left}
@@ -46,35 +47,42 @@ returns-2 c =
     let root-at = test .before .before in (
       row-left (carry .carry .ensures .0),
       λ m n p h. row-limit h (root-at .root-at .ensures) (test .if1 .left) (carry .carry .ensures)
-          (c .enum-told .given .1),
+          (with-limit _ (c .enum-told .given .1)),
     )
 
-cast-t18 : tie.Need-cast-t18
-cast-t18 c =
-    let c′ = c .before .before in
-    let carry = c′ .before .before .before .before .before .before in
-    let test = carry .before .before .before .before in
-    let root-at = test .before .before in
-    let start = root-at .before .before .before .before in
-    omega (arith, row-small (start .pre .it) (root-at .root-at .ensures) (test .if1 .left) (carry .carry .ensures) (c′ .c .given .1))
+with-image-requires : tie.Need-with-image-requires
+with-image-requires c κs = search needs
 
-add-t19 : tie.Need-add-t19
-add-t19 c =
-    let c′ = c .before .before .before .before in
+cast-t19 : tie.Need-cast-t19
+cast-t19 c =
+    let with-image = c .before in
+    let c′ = with-image .before .before in
     let carry = c′ .before .before .before .before .before .before in
     let test = carry .before .before .before .before in
     let root-at = test .before .before in
     let start = root-at .before .before .before .before in
+    let to = with-next (start .args .st) (c′ .c .given .1) (with-image .with-image .ensures) in
+    omega (arith, row-small (start .pre .it) (root-at .root-at .ensures) (test .if1 .left) (carry .carry .ensures) to)
+
+add-t20 : tie.Need-add-t20
+add-t20 c =
+    let with-image = c .before .before .before in
+    let c′ = with-image .before .before in
+    let carry = c′ .before .before .before .before .before .before in
+    let test = carry .before .before .before .before in
+    let root-at = test .before .before in
+    let start = root-at .before .before .before .before in
+    let to = with-next (start .args .st) (c′ .c .given .1) (with-image .with-image .ensures) in
     omega (
       arith,
       row-sign (start .pre .it) (root-at .root-at .ensures) (test .if1 .left),
       carried-small
-          (row-carry (start .pre .it) (root-at .root-at .ensures) (test .if1 .left)) (carry .carry .ensures) (c′ .c .given .1),
+          (row-carry (start .pre .it) (root-at .root-at .ensures) (test .if1 .left)) (carry .carry .ensures) to,
     )
 
 put-root-requires : tie.Need-put-root-requires
 put-root-requires c κs =
-    let carry = c .before .before .before .before .before .before .before .before .before .before .before in
+    let carry = c .before .before .before .before .before .before .before .before .before .before .before .before in
     let start = carry .before .before .before .before .before .before .before .before .before .before in
     record {
       long = omega (arith, start .pre .it .at .granted .numbers-long, carry .carry .ensures .0 .numbers .long);
@@ -91,13 +99,14 @@ same-length-5 c = search needs
 returns-3 : tie.Need-returns-3
 returns-3 c =
     let put-root = c .before .before in
-    let c′ = put-root .before .before .before .before .before .before in
+    let with-image = put-root .before .before .before .before .before in
+    let c′ = with-image .before .before in
     let carry = c′ .before .before .before .before .before .before in
     let test = carry .before .before .before .before in
     let root-at = test .before .before in (
       row-put-left (carry .carry .ensures .0) (put-root .put-root .ensures),
       λ m n p h. row-next h (root-at .root-at .ensures)
-          (test .if1 .left) (carry .carry .ensures) (c′ .c .given .1) (put-root .put-root .ensures),
+          (test .if1 .left) (carry .carry .ensures) (with-next _ (c′ .c .given .1) (with-image .with-image .ensures)) (put-root .put-root .ensures),
     )
 
 pub carry-row-spec : {M : Type 1} → statement M
@@ -114,8 +123,9 @@ carry-row-spec =
     same-length-2
     same-length-3
     returns-2
-    cast-t18
-    add-t19
+    with-image-requires
+    cast-t19
+    add-t20
     put-root-requires
     same-length-4
     same-length-5

@@ -1,6 +1,6 @@
 -- The head of the chain that 02 picks, and the digits. Assumes nothing.
-use mathlib.Core.Path.{refl, ap}
-use Prim.Native.Nat.{ℕ, _+_, _%_}
+use mathlib.Core.Path.{ap}
+use Prim.Native.Nat.{ℕ, _+_, _%_, _/_}
 use Rattle.layout.specs.Index.{headCount}
 use Rattle.axes.specs.Pick.{digitsBy}
 use borrow.Author.Needs.{needs}
@@ -16,14 +16,17 @@ rem-t5 c = search needs
 add-t7 : tie.Need-add-t7
 add-t7 c = search needs
 
-mul-t9 : tie.Need-mul-t9
-mul-t9 c = search needs
+mixed-halves-requires : tie.Need-mixed-halves-requires
+mixed-halves-requires c κs = search needs
 
 returns : tie.Need-returns
 unfolding digitsBy
 returns c =
     let heads-at = c .before .before in
-    record { place = ap (λ (n : ℕ). n + heads-at .before .args .s .total % headCount) (heads-at .heads-at .ensures); digits = refl }
+    record {
+      place = ap (λ (n : ℕ). n + heads-at .before .args .s .total % headCount) (heads-at .heads-at .ensures);
+      digits = ap (λ (n : ℕ). n / 4294967296) (c .mixed-halves .ensures);
+    }
 
 pub first-spec : {M : Type 1} → statement M
-first-spec = tie.close (tie.spec heads-at-requires rem-t5 add-t7 mul-t9 returns)
+first-spec = tie.close (tie.spec heads-at-requires rem-t5 add-t7 mixed-halves-requires returns)

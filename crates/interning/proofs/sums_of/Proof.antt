@@ -1,8 +1,8 @@
 -- The loop's invariant: the first k numbers are in both. Assumes nothing.
 use mathlib.Core.Path.{_≡_, ap, _∙_}
-use Prim.Native.Nat.{ℕ, _≤_, _-_, _/_}
+use Prim.Native.Nat.{_≤_, _-_}
 use lib.ListN.{length}
-use Rattle.axes.specs.Pick.{totalTo, hashWith, hashTo, half-low, total-more, hash-more}
+use Rattle.axes.specs.Pick.{totalTo, hashTo, total-more, hash-more}
 use native.Mathlib.Omega.{arith}
 use borrow.Author.Needs.{needs}
 use Rattle.interning.proofs.sums_of.Statement.{statement}
@@ -27,14 +27,8 @@ shared-slice-read-number c = search needs
 wrapping-add-u64-requires : tie.Need-wrapping-add-u64-requires Inv-loop μ-loop
 wrapping-add-u64-requires c κs = search needs
 
-mul-wrapping-add-u64 : tie.Need-mul-wrapping-add-u64 Inv-loop μ-loop
-mul-wrapping-add-u64 c = search needs
-
-add-wrapping-add-u64 : tie.Need-add-wrapping-add-u64 Inv-loop μ-loop
-add-wrapping-add-u64 c =
-    let head = c .before .before .before in
-    let half = ap (λ (h : ℕ). h / 4294967296) (head .loop .inv .3) in
-    omega (arith, half, half-low (head .before .before .args .w .now) (head .loop .k))
+mixed-halves-requires : tie.Need-mixed-halves-requires Inv-loop μ-loop
+mixed-halves-requires c κs = search needs
 
 wrapping-add-u64-requires-2 : tie.Need-wrapping-add-u64-requires-2 Inv-loop μ-loop
 wrapping-add-u64-requires-2 c κs = search needs
@@ -46,15 +40,15 @@ loop-less : tie.Need-loop-less Inv-loop μ-loop
 loop-less c = search needs
 
 loop-again : tie.Need-loop-again Inv-loop μ-loop
-unfolding hashWith
 loop-again c =
-    let total = c .before in
+    let mixed = c .before in
+    let total = mixed .before in
     let head = total .before .before .before in
     let w = head .before .before .args .w .now in (
       omega arith,
       head .loop .inv .1,
       total-more w (head .loop .k) (head .loop .inv .2) (total .wrapping-add-u64 .ensures),
-      hash-more w (head .loop .k) (head .loop .inv .3) (c .wrapping-add-u642 .ensures),
+      hash-more w (head .loop .k) (head .loop .inv .3) (mixed .mixed-halves .ensures) (c .wrapping-add-u642 .ensures),
     )
 
 returns : tie.Need-returns Inv-loop μ-loop
@@ -74,8 +68,7 @@ sums-of-spec =
     mul-number
     shared-slice-read-number
     wrapping-add-u64-requires
-    mul-wrapping-add-u64
-    add-wrapping-add-u64
+    mixed-halves-requires
     wrapping-add-u64-requires-2
     add-k
     loop-less

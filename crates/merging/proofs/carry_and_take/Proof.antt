@@ -1,4 +1,5 @@
 -- The image is taken, or its word is refused. Assumes nothing.
+use Rattle.steps.specs.State.{with-next, with-limit}
 use Rattle.stream_states.specs.States.{left-then}
 use Rattle.stream_states.specs.Carrying.{carry-left}
 use Rattle.merging.specs.Carried.{carrying-some, carried-limit, taking-there, taken-as}
@@ -27,8 +28,11 @@ returns c =
     let start = carry .before .before .before .before .before in (
       carry-left (start .pre .it .carry) (carry .carry .ensures),
       λ g n p rules h. carried-limit (carry .carry .ensures) h
-          (c .enum-told .given .1) g _ _ _,
+          (with-limit _ (c .enum-told .given .1)) g _ _ _,
     )
+
+with-image-requires : tie.Need-with-image-requires
+with-image-requires c κs = search needs
 
 with-sign-requires : tie.Need-with-sign-requires
 with-sign-requires c κs = search needs
@@ -36,14 +40,16 @@ with-sign-requires c κs = search needs
 take-requires : tie.Need-take-requires
 take-requires c κs =
     let with-sign = c .before .before in
-    let c′ = with-sign .before .before in
+    let with-image = with-sign .before in
+    let c′ = with-image .before .before in
     let carry = c′ .before .before .before .before .before .before in
     let start = carry .before .before .before .before .before in
+    let to = with-next (start .args .st) (c′ .c .given .1) (with-image .with-image .ensures) in
     record {
       absorption = start .pre .absorption;
       items = start .pre .items;
       pass = _;
-      it = taking-there (carry .carry .ensures) (start .pre .it) (c′ .c .given .1)
+      it = taking-there (carry .carry .ensures) (start .pre .it) to
           (with-sign .with-sign .ensures);
     }
 
@@ -57,13 +63,15 @@ returns-2 : tie.Need-returns-2
 returns-2 c =
     let take = c .before .before .before .before in
     let with-sign = take .before .before .before in
-    let c′ = with-sign .before .before in
+    let with-image = with-sign .before in
+    let c′ = with-image .before .before in
     let carry = c′ .before .before .before .before .before .before in
-    let start = carry .before .before .before .before .before in (
+    let start = carry .before .before .before .before .before in
+    let to = with-next (start .args .st) (c′ .c .given .1) (with-image .with-image .ensures) in (
       left-then (carry-left (start .pre .it .carry) (carry .carry .ensures)) (take .take .ensures .0),
       λ g n p rules h. taken-as
-          (carry .carry .ensures) h (c′ .c .given .1) (with-sign .with-sign .ensures) g _
-          (take .take .ensures .1 g n _ rules (taking-there (carry .carry .ensures) h (c′ .c .given .1) (with-sign .with-sign .ensures))),
+          (carry .carry .ensures) h to (with-sign .with-sign .ensures) g _
+          (take .take .ensures .1 g n _ rules (taking-there (carry .carry .ensures) h to (with-sign .with-sign .ensures))),
     )
 
 pub carry-and-take-spec : {M : Type 1} → statement M
@@ -76,6 +84,7 @@ carry-and-take-spec =
     same-length
     same-length-2
     returns
+    with-image-requires
     with-sign-requires
     take-requires
     same-length-3

@@ -1,4 +1,5 @@
 -- It is carried, and put out behind all that was. Assumes nothing.
+use Rattle.steps.specs.State.{with-next, with-limit}
 use Rattle.stream_states.specs.States.{heldOf}
 use Rattle.stream_states.specs.Carrying.{carry-pre, carry-left, carried-small}
 use Rattle.stream_items.specs.Items.{barrier-limit, barrier-entry, barrier-small, barrier-left, barrier-next}
@@ -33,43 +34,51 @@ returns c =
     let start = carry .before .before .before .before .before .before in (
       carry-left (start .pre .it .carry) (carry .carry .ensures),
       λ m n p h. barrier-limit (carry .carry .ensures) h
-          (c .enum-told .given .1),
+          (with-limit _ (c .enum-told .given .1)),
     )
 
-cast-t16 : tie.Need-cast-t16
-cast-t16 c =
-    let c′ = c .before .before in
-    let carry = c′ .before .before .before .before .before .before in
-    let start = carry .before .before .before .before .before .before in
-    omega (arith, barrier-small (carry .carry .ensures) (start .pre .it) (c′ .c .given .1))
+with-image-requires : tie.Need-with-image-requires
+with-image-requires c κs = search needs
 
-add-t17 : tie.Need-add-t17
-add-t17 c =
-    let c′ = c .before .before .before .before in
+cast-t17 : tie.Need-cast-t17
+cast-t17 c =
+    let with-image = c .before in
+    let c′ = with-image .before .before in
     let carry = c′ .before .before .before .before .before .before in
     let start = carry .before .before .before .before .before .before in
-    omega (arith, carried-small (start .pre .it .carry) (carry .carry .ensures) (c′ .c .given .1), start .pre .it .sign)
+    omega (arith, barrier-small (carry .carry .ensures) (start .pre .it) (with-next _ (c′ .c .given .1) (with-image .with-image .ensures)))
+
+add-t18 : tie.Need-add-t18
+add-t18 c =
+    let with-image = c .before .before .before in
+    let c′ = with-image .before .before in
+    let carry = c′ .before .before .before .before .before .before in
+    let start = carry .before .before .before .before .before .before in
+    omega (arith, carried-small (start .pre .it .carry) (carry .carry .ensures) (with-next _ (c′ .c .given .1) (with-image .with-image .ensures)), start .pre .it .sign)
 
 put-item-requires : tie.Need-put-item-requires
 put-item-requires c κs =
-    let c′ = c .before .before .before .before .before in
+    let with-image = c .before .before .before .before in
+    let c′ = with-image .before .before in
     let carry = c′ .before .before .before .before .before .before in
     let start = carry .before .before .before .before .before .before in
-    barrier-entry (carry .carry .ensures) (start .pre .it) (c′ .c .given .1)
+    barrier-entry (carry .carry .ensures) (start .pre .it) (with-next _ (c′ .c .given .1) (with-image .with-image .ensures))
 
 add-s : tie.Need-add-s
 add-s c =
-    let c′ = c .before .before .before .before .before .before .before .before in
+    let with-image = c .before .before .before .before .before .before .before in
+    let c′ = with-image .before .before in
     let carry = c′ .before .before .before .before .before .before in
     let start = carry .before .before .before .before .before .before in
-    omega (arith, barrier-small (carry .carry .ensures) (start .pre .it) (c′ .c .given .1))
+    omega (arith, barrier-small (carry .carry .ensures) (start .pre .it) (with-next _ (c′ .c .given .1) (with-image .with-image .ensures)))
 
 add-s-2 : tie.Need-add-s-2
 add-s-2 c =
-    let c′ = c .before .before .before .before .before .before .before .before in
+    let with-image = c .before .before .before .before .before .before .before in
+    let c′ = with-image .before .before in
     let carry = c′ .before .before .before .before .before .before in
     let start = carry .before .before .before .before .before .before in
-    omega (arith, barrier-small (carry .carry .ensures) (start .pre .it) (c′ .c .given .1))
+    omega (arith, barrier-small (carry .carry .ensures) (start .pre .it) (with-next _ (c′ .c .given .1) (with-image .with-image .ensures)))
 
 same-length-3 : tie.Need-same-length-3
 same-length-3 c = search needs
@@ -80,12 +89,13 @@ same-length-4 c = search needs
 returns-2 : tie.Need-returns-2
 returns-2 c =
     let put-item = c .before .before in
-    let c′ = put-item .before .before .before .before .before .before in
+    let with-image = put-item .before .before .before .before .before in
+    let c′ = with-image .before .before in
     let carry = c′ .before .before .before .before .before .before in
     let start = carry .before .before .before .before .before .before in (
-      barrier-left (carry .carry .ensures) (start .pre .it) (c′ .c .given .1) (put-item .put-item .ensures),
+      barrier-left (carry .carry .ensures) (start .pre .it) (with-next _ (c′ .c .given .1) (with-image .with-image .ensures)) (put-item .put-item .ensures),
       λ m n p h. barrier-next
-          (carry .carry .ensures) h (c′ .c .given .1) (put-item .put-item .ensures),
+          (carry .carry .ensures) h (with-next _ (c′ .c .given .1) (with-image .with-image .ensures)) (put-item .put-item .ensures),
     )
 
 pub put-barrier-spec : {M : Type 1} → statement M
@@ -99,8 +109,9 @@ put-barrier-spec =
     same-length
     same-length-2
     returns
-    cast-t16
-    add-t17
+    with-image-requires
+    cast-t17
+    add-t18
     put-item-requires
     add-s
     add-s-2
