@@ -6,10 +6,10 @@
  * no other. This is all that a caller must grant: every other input is answered, at worst by a refusal.
  *
  * A call takes less than 20 KiB of stack, whatever the job. Measured on x86-64 with rattle-kit-5b-plain, from the caller's frame on, as the
- * deepest of 5,417 jobs and 310 listings: Checking 8,824 bytes, Rewriting 10,696, Listing 18,440; by the machine code no path of calls takes
+ * deepest of 5,453 jobs and 310 listings: Checking 8,824 bytes, Rewriting 10,696, Listing 18,440; by the machine code no path of calls takes
  * more, and none recurses (oracle/README.md, "Stack").
  *
- * A call cannot be stopped: it ends by itself. Its time grows with the square of the rotations, and with a large window much faster: one
+ * A call cannot be stopped: it ends by itself. On most jobs its time grows about as the rotations do, with a large window much faster: one
  * exchange among 3,072 rotations took 9 seconds (docs/SPEED.md, "How long a call may take"). */
 #ifndef WERDUTXA_H
 #define WERDUTXA_H

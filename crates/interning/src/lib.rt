@@ -20,19 +20,19 @@ use layout::HEADS;
 use layout::SIGNATURE;
 use pauli::same;
 
-// A word among the axes: its id, how many axes there are with it, and the largest word sum that was tested by then.
-pub struct StoredAxis {
-    pub id: usize,
-    pub axes: usize,
-    pub peak: usize,
-}
-
 // A hash's halves of 32 bits, and the odd numbers that they are multiplied by.
 const HALF: u64 = 4294967296;
 
 const LOWER: u64 = 2654435769;
 
 const UPPER: u64 = 2246822519;
+
+// A word among the axes: its id, how many axes there are with it, and the largest word sum that was tested by then.
+pub struct StoredAxis {
+    pub id: usize,
+    pub axes: usize,
+    pub peak: usize,
+}
 
 // A word is an axis, or the word store is full: the limit leaves no room for a new word.
 pub enum Interned {

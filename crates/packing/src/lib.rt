@@ -190,7 +190,7 @@ fn pack_node(
     }
 }
 
-// The same where every chain is empty.
+// Packs the program node by node, where every chain of the index is still empty.
 fn pack_nodes(
     nodes: &[u32],
     operations: &[u32],
@@ -226,7 +226,8 @@ fn pack_nodes(
     }
 }
 
-// Packs the program: every root's axis and sign, and the axes' words, or a refusal by 9 or 10.
+// Packs the program: every root's axis and sign, and the axes' words, or a refusal by 9 or 10. Whatever the lent memory held, the chains
+// of the index are cleared first.
 pub fn pack(
     nodes: &[u32],
     operations: &[u32],
