@@ -6,7 +6,7 @@ use mathlib.Core.Path.{_≡_, refl, sym, ap, ap₂, _∙_}
 use mathlib.Core.Logic.{_⊎_, inl, inr, _↔_, ⊎-elim}
 use mathlib.Core.Bool.{Bool, true, false, true≢false}
 use mathlib.Core.List.{List, _++_}
-use Prim.Native.Nat.{ℕ, _+_, _-_, _≤_}
+use Prim.Native.Nat.{ℕ, _+_, _-_, _≤_, _<_}
 use native.Mathlib.Omega.{arith}
 use lib.ListN.{length, getD}
 use Rattle.groups.specs.Abelian.{pow2}
@@ -19,6 +19,7 @@ use Rattle.model.specs.declared.Strategy.the-variants.{Litinski}
 use Rattle.model.specs.Interface.{numberOf, ofChecking, noCounters}
 use Rattle.model.specs.Program.{Job, operationRecords, programOf}
 use Rattle.model.specs.Rules.{rulesOf}
+use Rattle.model.specs.Words.{idOf, wordOf}
 use Rattle.model.specs.Rounds.{Work}
 use Rattle.model.specs.Run.{startOf}
 use Rattle.model.specs.Checking.{Lent, checking}
@@ -29,7 +30,7 @@ use Rattle.theory.specs.WithoutAbsorption.{lazily, reply-unnamed}
 use Rattle.run_wellformed.specs.Points.{Reached}
 use Rattle.run_effect.specs.RunEffect.{Effects, sourceEffect, resultEffect}
 use Rattle.cutting.specs.Outcomes.{NamesNone}
-use Rattle.promises.specs.Calls.{PlaceRefused}
+use Rattle.promises.specs.Calls.{ShortRefused, PlaceRefused}
 use Rattle.promises.specs.Named.{ChangesAt}
 use Rattle.promises.specs.Left.{operationsIn, rowsIn, wordsIn}
 use Rattle.promises.specs.Strategies.{endWork}
@@ -177,6 +178,27 @@ module _ {o : Options} {j : Job} {s : Lent} {r : ℕ} {k : List ℕ} {t : Lent} 
   -- "A new setting chooses this order of ties": in Litinski's strategy and at window 0 it has no say
   pub order-has-no-say : (b : Bool) → (o .strategy ≡ Litinski) ⊎ (o .window ≡ 0) → ExportedCall (inOrder b o) j s r k t → ExportedCall o j s r k t
   order-has-no-say b none = exported-as (reply-in-order b o j s none)
+
+-- ==== Request M-102. "An index beside the axes"
+
+-- of the numbers counted, how many axes there are
+abbrev pub axesCounted : List ℕ → ℕ
+axesCounted k = getD k 6 0
+
+module _ {o : Options} {j : Job} {s : Lent} {r : ℕ} {k : List ℕ} {t : Lent} (call : ExportedCall o j s r k t) where
+  axes-are : axesCounted k ≡ rewriting o j s .axes
+  unfolding countedBy
+  axes-are = ap axesCounted (call .counts)
+
+  -- "The number store of refusal 3 grows by 1,024 plus limit div (2 × l)": 3 exactly where a slice is below what is asked
+  pub refused-short : (r ≡ 3) ↔ ShortRefused o j s
+  refused-short =
+      let exactly = rewriting-promises.refused-short (rewriting-called call) in
+      (λ e. exactly .0 (sym (call .answer) ∙ e), λ h. call .answer ∙ exactly .1 h)
+
+  -- "Ids and results stay equal to the scan's": of the words that are left, the scan finds that of each axis at its id
+  pub ids-as-the-scans : r ≡ 0 → (i : ℕ) → i < axesCounted k → idOf (wordsIn j t) (wordOf (wordsIn j t) i) ≡ i
+  ids-as-the-scans e i h = rewriting-promises.ids-as-the-scans (rewriting-called-as call Accepted e) i (omega (arith, axes-are))
 
 -- ==== Request M-112. "Change to lazy absorption during a job". Every promise above is of any options, so of any named place
 

@@ -22,7 +22,7 @@ use Rattle.model.specs.Rewriting.{Reply, refused, stopped, afterEnding, rewriti
 use Rattle.theory.specs.Cases.{on-if, if-true, if-false, and-right}
 use Rattle.theory.specs.Checked.{accepts-only, not-refused, unnamed-records}
 use Rattle.theory.specs.Called.{answer-is}
-use Rattle.theory.specs.Replies.{runOf, limitOf, refused-reply, beyond-limit, within-limit, stopped-answer, refused-answer, ending-answer}
+use Rattle.theory.specs.Replies.{runOf, limitOf, refused-reply, beyond-limit, within-limit, stopped-answer, refused-answer, ending-answer, records-not-3}
 use Rattle.theory.specs.Replies.{run-answer, Checks, program-low, checking-checks, ran}
 use Rattle.theory.specs.Limit.{within, within-answer}
 use Rattle.theory.specs.WithoutAbsorption.{lazily}
@@ -143,6 +143,29 @@ nine-exactly o j s c = (there, λ h. back (h .0) (h .1))
         go (finished g) f =
             absurd (odd (accepted-exactly o j s c .0
             (run-answer o j s c ∙ within-answer (limitOf o) (runOf o j) le ∙ ap endAnswer f) .1))
+
+-- ---- 3 comes exactly where counts and options are within the domain and a slice is short; 02, M-102: of the number store, `numbersAsked`
+
+pub record ShortRefused (o : Options) (j : Job) (s : Lent) : Type 0 where
+  pub counts : badCount (j .counts) ≡ false
+  pub options : badOption o ≡ false
+  pub short : programShort j || lentShort (j .counts) s (o .«max_packed_words») ≡ true
+
+pub three-where : (o : Options) (j : Job) (s : Lent) → numberOf (checking o j s) ≡ 3 → ShortRefused o j s
+unfolding checking badOption
+three-where o j s =
+    on-if P (badCount (j .counts)) CountOutside _ (λ e h. absurd (omega (arith, h)))
+    (λ a. on-if P (badOption o) OptionOutside _ (λ e h. absurd (omega (arith, h)))
+    (λ b. on-if P (programShort j || lentShort (j .counts) s (o .«max_packed_words»)) SliceShort _
+    (λ e h. record { counts = a; options = b; short = e })
+    (λ e h. absurd (records-not-3 (o .«lazy_cliffords») j h))))
+  where
+    P : Answer → Type 0
+    P a = numberOf a ≡ 3 → ShortRefused o j s
+
+pub short-where : (o : Options) (j : Job) (s : Lent) → ShortRefused o j s → checking o j s ≡ SliceShort
+unfolding checking
+short-where o j s h = if-false _ _ (h .counts) ∙ if-false _ _ (h .options) ∙ if-true _ _ (h .short)
 
 -- ---- 02, M-112: 16 comes from a named place alone, exactly where it is bad and all other checks pass
 

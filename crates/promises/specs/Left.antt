@@ -16,7 +16,7 @@ use Rattle.model.specs.Lists.{if_then_else_}
 use Rattle.model.specs.Program.{fieldOf, records, Job, operationRecords, Kind, rotate, measure, conditional, Operation, operationOf}
 use Rattle.model.specs.Program.{PauliRef, Program, programOf}
 use Rattle.model.specs.Rules.{rulesOf}
-use Rattle.model.specs.Words.{wordOf}
+use Rattle.model.specs.Words.{idOf, wordOf}
 use Rattle.model.specs.Roots.{isRoot}
 use Rattle.model.specs.Packing.{SignedAxis}
 use Rattle.model.specs.Items.{Item, rotation, barrier}
@@ -28,11 +28,12 @@ use Rattle.model.specs.Checking.{Lent, wordsAsked}
 use Rattle.model.specs.Rewriting.{thenZeros, accepted, Called}
 use Rattle.theory.specs.Cases.{by-if}
 use Rattle.theory.specs.Every.{Every, map-every}
+use Rattle.theory.specs.Ids.{id-first, id-word}
 use Rattle.theory.specs.StreamState.{axisOf}
 use Rattle.theory.specs.AcceptedRun.{hermitian-peak}
 use Rattle.theory.specs.Called.{answer-is, lent-is}
 use Rattle.theory.specs.TCountCalls.{accepted-checks, accepted-within, accepted-hermitian, accepted-reply}
-use Rattle.words_wellformed.specs.Wellformed.{IdsInRange, end-ids}
+use Rattle.words_wellformed.specs.Wellformed.{IdsInRange, end-ids, end-distinct}
 use Rattle.run_wellformed.specs.Memory.{axes-within, width-positive}
 use Rattle.run_wellformed.specs.Points.{passes-reached}
 use Rattle.run_wellformed.specs.RunWellFormed.{end-formed}
@@ -145,6 +146,15 @@ module _ {W : Type 0} (word : List ℕ → W) (A B : List (List ℕ)) (same : (a
   unfolding resultRows
   rows-same p rs h = map-every (RowIdIn (length A)) (resultRow word p B) (resultRow word p A) (row-same p) rs h
 
+  -- a scan of all finds an axis's word at its id, where a scan of the axes does
+  id-same : length A ≤ length B → (a : ℕ) → a < length A → idOf A (wordOf A a) ≡ a → idOf B (wordOf B a) ≡ a
+  id-same long a h e =
+      let w = wordOf B a in
+      let low : idOf B w ≤ a = id-first B w a (omega arith) refl in
+      let found : wordOf A (idOf B w) ≡ wordOf A a = sym (same (idOf B w) (omega arith)) ∙ id-word B w (omega arith) ∙ same a h in
+      let high : idOf A (wordOf A a) ≤ idOf B w = id-first A (wordOf A a) (idOf B w) (omega arith) found in
+      omega arith
+
 -- ---- an accepted call
 
 module _ {o : Options} {j : Job} {s : Lent} {c : Counters} {m n : ℕ} {t : Lent} (call : Called o j s Accepted c m n t) where
@@ -202,6 +212,14 @@ module _ {o : Options} {j : Job} {s : Lent} {c : Counters} {m n : ℕ} {t : Lent
       chunks-at (2 * l) (length (t .words) / (2 * l)) (t .words) a (omega (arith, axes-count))
       ∙ rw (← lent-is call) (sym (chunks-at (2 * l) (length (end .store .axes)) _ a h))
       ∙ ap (λ (A : List (List ℕ)). wordOf A a) (left-axes o j s (answer-is call))
+
+  -- a scan of the word store finds each axis's word at its id
+  pub ids-scanned : (a : ℕ) → a < length (endOf (rulesOf o) (o .rounds) (programOf j) .store .axes)
+      → idOf (wordsIn j t) (wordOf (wordsIn j t) a) ≡ a
+  ids-scanned a h =
+      id-same (λ (w : List ℕ). w) (end .store .axes) (wordsIn j t) words-left
+      (omega (arith, axes-count, chunks-length (2 * l) (length (t .words) / (2 * l)) (t .words))) a h
+      (end-distinct (rulesOf o) (o .rounds) p (call-fine o j s (answer-is call)) (call-hermitian o j s (answer-is call)) a h)
 
   ids : IdsInRange end
   ids = end-ids (rulesOf o) (o .rounds) p (call-fine o j s (answer-is call)) (call-hermitian o j s (answer-is call))

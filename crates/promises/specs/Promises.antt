@@ -20,6 +20,7 @@ use Rattle.model.specs.declared.Counters.{Counters}
 use Rattle.model.specs.Interface.{numberOf, accepts, ofChecking, noCounters}
 use Rattle.model.specs.Program.{Job, operationRecords, Program, programOf}
 use Rattle.model.specs.Rules.{rulesOf}
+use Rattle.model.specs.Words.{idOf, wordOf}
 use Rattle.model.specs.Rounds.{Work, mergeRounds, litinskiRounds}
 use Rattle.model.specs.Run.{Run, startOf, answerOf}
 use Rattle.model.specs.Results.{itemRecord, operationResults, rowResults, sourceTCount, resultTCount, countersOf}
@@ -45,10 +46,10 @@ use Rattle.cutting.specs.Outcomes.{NamesNone, names-none}
 use Rattle.promises.specs.Slices.{Agree, agree-then, agree-zeros}
 use Rattle.promises.specs.Calls.{Replied, byChecking, byLimit, byRoot, done, called-of, passed-checking, nine-exactly}
 use Rattle.promises.specs.Calls.{number-low, number-checking, number-stopped, PlaceRefused, sixteen-where}
-use Rattle.promises.specs.Calls.{refused-where}
+use Rattle.promises.specs.Calls.{refused-where, ShortRefused, three-where, short-where}
 use Rattle.promises.specs.Named.{ChangesAt, stream-changes}
 use Rattle.promises.specs.Strategies.{endWork, merge-end, litinski-end, no-rounds-end}
-use Rattle.promises.specs.Left.{operationsIn, rowsIn, wordsIn, operations-left, effect-left}
+use Rattle.promises.specs.Left.{operationsIn, rowsIn, wordsIn, operations-left, ids-scanned, effect-left}
 use Rattle.promises.specs.Alike.{SameOptionsButLimit, AlikeButRoundsAndLimit, AlikeButLimit, alike-rules, but-limit, not-two}
 use Rattle.promises.specs.Cut.{OneRound, CutAtMeasurement, wordedIn, calls-add-up, operations-passed}
 
@@ -386,6 +387,24 @@ module _ {o : Options} {j : Job} {s : Lent} {a : Answer} {c : Counters} {m n : �
   -- Rules out: the setting taken for that of lazy absorption; layers that are swept the other way round
   pub order-has-no-say : (b : Bool) → (o .strategy ≡ Litinski) ⊎ (o .window ≡ 0) → Called (inOrder b o) j s a c m n t → Called o j s a c m n t
   order-has-no-say b none call = record { replied = call .replied ∙ reply-in-order b o j s none }
+
+-- ==== Request M-102. "An index beside the axes"
+
+-- "The number store of refusal 3 grows by 1,024 plus limit div (2 × l)": 3 comes exactly where counts and options are within the domain and a
+-- slice is below what is asked, of the number store `numbersAsked` (model, Checking).
+-- Rules out: a number store of 24 rows alone let through; one of just the length that is asked refused
+pub refused-short : {o : Options} {j : Job} {s : Lent} {a : Answer} {c : Counters} {m n : ℕ} {t : Lent} → Called o j s a c m n t
+    → (numberOf a ≡ 3) ↔ ShortRefused o j s
+refused-short {o} {j} {s} call = (
+  λ e. three-where o j s (ap numberOf (sym (only-checking call (ap ofChecking e))) ∙ e),
+  λ h. let e = short-where o j s h in ap numberOf (checks-itself call (ap accepts e) ∙ e),
+)
+
+-- "Ids and results stay equal to the scan's": a scan of the words that an accepted call leaves finds the word of each of its n axes at its id.
+-- Rules out: a word that is stored again since the walk for it ended too early; a word that packing and a pass store under two ids
+pub ids-as-the-scans : {o : Options} {j : Job} {s : Lent} {c : Counters} {m n : ℕ} {t : Lent} → Called o j s Accepted c m n t
+    → (i : ℕ) → i < n → idOf (wordsIn j t) (wordOf (wordsIn j t) i) ≡ i
+ids-as-the-scans call i h = ids-scanned call i (omega (arith, operations-and-axes call .1))
 
 -- ==== Request M-112. "Change to lazy absorption during a job". Demands 2 and 3 above are of any options, so of any named place, and in demand 3
 -- the lazy setting is among what is alike, with its place

@@ -1,11 +1,11 @@
 -- What a call of Rewriting replies: after a refusal by Checking, beyond the limit, and within it. Assumes nothing.
 use mathlib.Core.Path.{_≡_, refl, sym, ap, ap₂, _∙_}
-use mathlib.Core.Bool.{Bool, true, false, _||_, true≢false}
+use mathlib.Core.Bool.{Bool, true, false, _||_, _&&_, true≢false}
 use mathlib.Core.List.{List, [], _∷_}
 use Prim.Native.Nat.{ℕ, zero, suc, _≤_, _<_}
 use native.Mathlib.Omega.{arith}
-use lib.Dec.{eqb, ltb}
-use borrow.Author.Tests.{lt-ltb, le-ltb, le-leb, ne-eqb}
+use lib.Dec.{eqb, ltb, leb}
+use borrow.Author.Tests.{lt-ltb, le-ltb, le-leb, leb-true, eqb-true, ne-eqb}
 use Rattle.model.specs.declared.Lazy.{Lazy}
 use Rattle.model.specs.declared.Lazy.the-variants.{Off, On, From}
 use Rattle.model.specs.declared.Options.{Options}
@@ -15,14 +15,14 @@ use Rattle.model.specs.declared.Answer.the-variants.{BadOperation}
 use Rattle.model.specs.declared.Answer.the-variants.{BadOutcome, NonHermitianAxis, ExpansionLimit, BadPlace}
 use Rattle.model.specs.Lists.{if_then_else_}
 use Rattle.model.specs.Interface.{numberOf, accepts, ofChecking}
-use Rattle.model.specs.Program.{fieldOf, Job, Program, programOf}
+use Rattle.model.specs.Program.{fieldOf, Job, operationRecords, Program, programOf}
 use Rattle.model.specs.Rules.{Rules, rulesOf}
 use Rattle.model.specs.Run.{Ending, nonHermitian, finished, Run, run, endAnswer, answerOf}
 use Rattle.model.specs.Checking.{Lent, andThen, checkNodeOfKind, checkNode, checkNodes, measured, checkOperation, checkOperations, checkRow}
 use Rattle.model.specs.Checking.{checkRows}
 use Rattle.model.specs.Checking.{checkProgram, checkPlace, checkRecords, checking}
 use Rattle.model.specs.Rewriting.{Reply, refused, stopped, accepted, afterEnding, afterRun, rewriting}
-use Rattle.theory.specs.Cases.{by-if, on-if, if-true, if-false}
+use Rattle.theory.specs.Cases.{by-if, on-if, if-true, if-false, and-right}
 use Rattle.theory.specs.Checked.{accepts-only}
 
 -- the run of a call, without a limit
@@ -83,8 +83,12 @@ module _ (o : Options) (j : Job) (s : Lent) where
 
 -- ---- Checking answers 0 and its refusals only
 
+-- a number is the records': 0, or 4 to 8
+abbrev ofRecords : ℕ → Bool
+ofRecords n = eqb n 0 || (leb 4 n && leb n 8)
+
 abbrev Low : Answer → Type 0
-Low a = numberOf a ≤ 8
+Low a = ofRecords (numberOf a) ≡ true
 
 andThen-low : (a b : Answer) → Low a → Low b → Low (andThen a b)
 unfolding andThen
@@ -92,38 +96,60 @@ andThen-low a b ha hb = by-if Low (accepts a) b a hb ha
 
 node-low : (q i k : ℕ) (r : List ℕ) → Low (checkNodeOfKind q i k r)
 unfolding checkNodeOfKind
-node-low q i zero r = omega arith
-node-low q zero (suc zero) r = omega arith
-node-low q zero (suc (suc k)) r = omega arith
-node-low q (suc i) (suc zero) r = by-if Low _ BadNode _ (omega arith) (by-if Low _ BadQubit Accepted (omega arith) (omega arith))
-node-low q (suc i) (suc (suc zero)) r = by-if Low _ BadNode Accepted (omega arith) (omega arith)
-node-low q (suc i) (suc (suc (suc k))) r = omega arith
+node-low q i zero r = refl
+node-low q zero (suc zero) r = refl
+node-low q zero (suc (suc k)) r = refl
+node-low q (suc i) (suc zero) r = by-if Low _ BadNode _ refl (by-if Low _ BadQubit Accepted refl refl)
+node-low q (suc i) (suc (suc zero)) r = by-if Low _ BadNode Accepted refl refl
+node-low q (suc i) (suc (suc (suc k))) r = refl
 
 nodes-low : (q i : ℕ) (rs : List (List ℕ)) → Low (checkNodes q i rs)
 unfolding checkNodes checkNode
-nodes-low q i [] = omega arith
+nodes-low q i [] = refl
 nodes-low q i (r ∷ rs) = andThen-low _ _ (node-low q i (fieldOf r 0) r) (nodes-low q (suc i) rs)
 
 operation-low : (n : ℕ) (seen r : List ℕ) → Low (checkOperation n seen r)
 unfolding checkOperation
 operation-low n seen r =
-    by-if Low _ BadOperation _ (omega arith)
-    (by-if Low _ BadReference _ (omega arith) (by-if Low _ BadOutcome Accepted (omega arith) (omega arith)))
+    by-if Low _ BadOperation _ refl
+    (by-if Low _ BadReference _ refl (by-if Low _ BadOutcome Accepted refl refl))
 
 operations-low : (n : ℕ) (seen : List ℕ) (rs : List (List ℕ)) → Low (checkOperations n seen rs)
 unfolding checkOperations
-operations-low n seen [] = omega arith
+operations-low n seen [] = refl
 operations-low n seen (r ∷ rs) = andThen-low _ _ (operation-low n seen r) (operations-low n (measured seen r) rs)
 
 rows-low : (n i : ℕ) (rs : List (List ℕ)) → Low (checkRows n i rs)
 unfolding checkRows checkRow
-rows-low n i [] = omega arith
-rows-low n i (r ∷ rs) = andThen-low _ _ (by-if Low _ BadReference Accepted (omega arith) (omega arith)) (rows-low n (suc i) rs)
+rows-low n i [] = refl
+rows-low n i (r ∷ rs) = andThen-low _ _ (by-if Low _ BadReference Accepted refl refl) (rows-low n (suc i) rs)
 
--- 4 to 8
-pub program-low : (j : Job) → numberOf (checkProgram j) ≤ 8
+program-records : (j : Job) → Low (checkProgram j)
 unfolding checkProgram
-program-low j = andThen-low _ _ (nodes-low _ 0 _) (andThen-low _ _ (operations-low _ [] _) (rows-low _ 0 _))
+program-records j = andThen-low _ _ (nodes-low _ 0 _) (andThen-low _ _ (operations-low _ [] _) (rows-low _ 0 _))
+
+pub program-low : (j : Job) → numberOf (checkProgram j) ≤ 8
+program-low j = go (eqb (numberOf (checkProgram j)) 0) refl (program-records j)
+  where
+    go : (b : Bool) → eqb (numberOf (checkProgram j)) 0 ≡ b → b || (leb 4 (numberOf (checkProgram j)) && leb (numberOf (checkProgram j)) 8) ≡ true
+        → numberOf (checkProgram j) ≤ 8
+    go true e h = omega (arith, eqb-true (numberOf (checkProgram j)) 0 e)
+    go false e h = leb-true (numberOf (checkProgram j)) 8 (and-right (leb 4 (numberOf (checkProgram j))) _ h)
+
+-- no record is refused by 3
+pub records-not-3 : (setting : Lazy) (j : Job) → numberOf (checkRecords setting j) ≡ 3 → ⊥
+unfolding checkRecords andThen checkPlace
+records-not-3 setting j =
+    by-if Not3 (accepts (checkProgram j)) (checkPlace setting (operationRecords j)) (checkProgram j) (place setting)
+    (λ e. true≢false (sym (program-records j) ∙ ap ofRecords e))
+  where
+    Not3 : Answer → Type 0
+    Not3 a = numberOf a ≡ 3 → ⊥
+
+    place : (x : Lazy) → Not3 (checkPlace x (operationRecords j))
+    place Off = λ e. omega arith
+    place On = λ e. omega arith
+    place (From n) = by-if Not3 _ BadPlace Accepted (λ e. omega arith) (λ e. omega arith)
 
 abbrev pub Checks : Answer → Type 0
 Checks a = accepts a || ofChecking (numberOf a) ≡ true
