@@ -54,7 +54,8 @@ add-t18 c =
     let c′ = with-image .before .before in
     let carry = c′ .before .before .before .before .before .before in
     let start = carry .before .before .before .before .before .before in
-    omega (arith, carried-small (start .pre .it .carry) (carry .carry .ensures) (with-next _ (c′ .c .given .1) (with-image .with-image .ensures)), start .pre .it .sign)
+    let to = with-next (start .args .st) (c′ .c .given .1) (with-image .with-image .ensures) in
+    omega (arith, carried-small (start .pre .it .carry) (carry .carry .ensures) to, start .pre .it .sign)
 
 put-item-requires : tie.Need-put-item-requires
 put-item-requires c κs =
