@@ -20,16 +20,16 @@ pub pick-low : (w : List ℕ) → pickOf w < headCount
 unfolding pickOf
 pick-low w = omega arith
 
--- a number's halves of 32 bits, each times an odd number, added modulo 2^64: each bit of the upper half counts for the lower one
+-- a number's halves of 32 bits, each times an odd number, added modulo 2^64
 unfoldable pub mixed : ℕ → ℕ
 mixed h = (h % 4294967296 * 2654435769 + h / 4294967296 * 2246822519) % 2 ^ 64
 
--- the hash of the first n numbers of a word: each counts, and so does its place
+-- the hash of the first n numbers of a word: every number goes into it, by its place
 unfoldable pub hashTo : List ℕ → ℕ → ℕ
 hashTo w zero = 0
 hashTo w (suc n) = (mixed (hashTo w n) + getD w n 0) % 2 ^ 64
 
--- the number by whose binary digits a chain forks, lowest first: the upper half, in which each bit of the hash counts
+-- the number by whose binary digits a chain forks, lowest first: the upper half, since a product's lowest digits hang on few of its factors'
 unfoldable pub digitsBy : ℕ → ℕ
 digitsBy h = mixed h / 4294967296
 

@@ -147,8 +147,8 @@ fn absorb_blocking(
     absorb_waiting(words, numbers, shape, s, false, s.id)
 }
 
-// Where even rotations wait, absorbs those that block axis a. Apart from `rotation`, so that this has one call that takes a rotation, and
-// the compiler keeps the state in registers there.
+// Where even rotations wait, absorbs those that block axis a. By itself, so that `rotation` takes a rotation at one place, which the
+// compiler puts into the loop over the items.
 fn unblock(
     words: &mut [u64],
     numbers: &mut [u32],

@@ -274,8 +274,10 @@ mod tests {
             [20, 21, 22, 23, 24, 25, 26, 27, 28],
             [3, 4, 5, 6, 67, 68, 69, 70, 71],
         ] {
-            let (_, longest) = longest(&timed::equal_sums(1, 128, 512, &support));
-            assert_eq!(longest.equal, 512);
+            let mut job = timed::equal_sums(1, 128, 512, &support);
+            // An absorbed rotation gives words with other sums.
+            job.options.rounds = 0;
+            assert_eq!(longest(&job).1.equal, 512);
         }
     }
 }
