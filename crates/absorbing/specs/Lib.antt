@@ -1,3 +1,4 @@
 pub mod Turning
+pub mod Qubits
 pub mod AxisQubits
 pub mod Absorbing

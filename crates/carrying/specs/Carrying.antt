@@ -10,9 +10,8 @@ use Rattle.model.specs.Clifford.{Touched, imageWords, wordImage}
 use Rattle.model.specs.Lists.{anyOf, member}
 use Rattle.theory.specs.Ids.{id-stored, intern-old, id-in}
 use Rattle.layout.specs.declared.Shape.{Shape}
-use Rattle.layout.specs.Rows.{fSlot, fPhase, imageSignature, axesRows}
+use Rattle.layout.specs.Rows.{fSlot, fPhase, axesRows}
 use Rattle.layout.specs.Only.{Only, only-none}
-use Rattle.layout.specs.Wide.{wide-kept}
 use Rattle.layout.specs.Words.{axisPlace, slotPlace, scratchPlace, KeptFrom, slot-in, kept-none, kept-then, kept-later, words-kept}
 use Rattle.layout.specs.Words.{kept-part, slot-counted}
 use Rattle.axes.specs.View.{wordAt}
@@ -29,7 +28,7 @@ use Rattle.steps.specs.declared.Step.the-variants.{Next, ExpansionLimit}
 use Rattle.steps.specs.State.{withImage}
 use Rattle.words_wellformed.specs.Conjugation.{value-eq}
 use Rattle.words_wellformed.specs.StoredWords.{StoredWords}
-use Rattle.clifford.specs.Holds.{imageIn, supported-same, maskPlace, Holds, AxisAt, holds-behind, axis-in}
+use Rattle.clifford.specs.Holds.{imageIn, maskPlace, Holds, AxisAt, holds-behind, axis-in}
 use Rattle.carrying.specs.Fixed.{NoneMarked, fixed-image}
 use Rattle.carrying.specs.Letters.{axisWord, CarryAt, WordCarried}
 use Rattle.carrying.specs.Scratch.{scratchValue}
@@ -222,8 +221,7 @@ module _ {z : Shape} {st : State} {id : ℕ} {ws xs : List ℕ} {t : Touched} (h
           room = has .room (now-holds .room);
           slots = λ q b. ap (λ (s : List ℕ). getD s q 0) (has .numbers .rows fSlot (omega arith) refl) ∙ h .axis .at .holds .slots q b;
           images = λ i b. image-same i b ∙ now-holds .images i b;
-          supports = λ i b.
-              supported-same (image-same i b) (wide-kept imageSignature (has .numbers) (omega arith) refl refl i) (now-holds .supports i b);
+          owners = now-holds .owners;
           mask = λ q b g. ap (λ (x : ℕ). bit x (q % 64)) (kept₂ .kept _ (omega arith)) ∙ now-holds .mask q b g;
         }
 

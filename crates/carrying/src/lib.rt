@@ -5,12 +5,14 @@ ghost use Prim.Native.Nat.{_+_, _*_, _<_, _≤_};
 ghost use lib.ListN.{length};
 ghost use Rattle.pauli.specs.Letter.{single};
 ghost use Rattle.model.specs.Words.{asValue, setBits, support};
-ghost use Rattle.model.specs.Clifford.{Touched};
+ghost use Rattle.model.specs.Clifford.{Touched, wordImage};
+ghost use Rattle.layout.specs.Words.{OnlyWords};
 ghost use Rattle.steps.specs.State.{stepWith};
-ghost use Rattle.clifford.specs.Holds.{SomeTouched, imageIn};
+ghost use Rattle.clifford.specs.Holds.{SomeTouched, imageIn, maskPlace};
 ghost use Rattle.clifford.specs.Images.{ImageThere};
 ghost use Rattle.carrying.specs.Scratch.{TimesPre, ScratchTimes};
 ghost use Rattle.carrying.specs.Letters.{LetterAt, letterOfAxis, LettersAt, LettersTimes, CarryAt, axisWord, WordCarried};
+ghost use Rattle.carrying.specs.Carries.{CarriesAt};
 ghost use Rattle.carrying.specs.Fixed.{NoneMarked};
 ghost use Rattle.carrying.specs.Carrying.{CarryPre, LeftCarried, CarriedAs};
 use interning::Interned;
@@ -130,6 +132,18 @@ fn carry_word(words: &mut [u64], numbers: &[u32], shape: Shape, id: usize) -> u3
     let e = scratch + 2 * shape.l;
     store::zero_words(&mut words[scratch..e]);
     carry_letters(words, numbers, shape, id)
+}
+
+// Whether F carries axis a to axis id, whatever the phase.
+pub fn carries(words: &mut [u64], numbers: &[u32], shape: Shape, a: usize, id: usize) -> bool
+    requires { ⌜ SomeTouched (λ (t : Touched). CarriesAt shape a id (now words) (now numbers) t) ⌝ }
+    ensures { λ r. ⌜ OnlyWords (shape .limit) (maskPlace shape) (now (words .entry)) (now (words .exit))
+        × ((t : Touched) → CarriesAt shape a id (now (words .entry)) (now (numbers .entry)) t → r ≡ true
+        → wordImage (shape .l) (t .held) (axisWord a t) .word ≡ axisWord id t) ⌝ }
+{
+    carry_word(words, numbers, shape, a);
+    let image = axes::word_at(&words[..], layout::scratch_at(shape.limit), shape.l);
+    pauli::same(image, axes::axis(&words[..], id, shape.l))
 }
 
 // The image of axis id: its word's id, stored if it is new, and its quarter turns. The sum that is tested counts F's images.

@@ -36,7 +36,7 @@ begin-holds {z} {ws} {xs} {ws′} {xs′} {a} g e f k = record {
     room = omega (arith, h .within);
     slots = λ i b. cleared-at xs (z .u) fSlot (z .qubits) (g .numbers-long) (omega arith) (omega (arith, g .sized .row)) k i b;
     images = λ i b. absurd (omega arith);
-    supports = λ i b. absurd (omega arith);
+    owners = λ s b. absurd (omega arith);
     mask = λ i b n. absurd (n refl);
   };
 }

@@ -21,7 +21,8 @@ use Rattle.axes.specs.declared.Sizes.{Sizes}
 use Rattle.axes.specs.Held.{sizesOf, storedAxes, held-rows}
 use Rattle.items.specs.View.{itemSaid, itemsIn, view-other}
 use Rattle.work.specs.Work.{WorkIn, frame-other}
-use Rattle.depth.specs.Contracts.{DepthPre, DepthOf, levelRows}
+use Rattle.depth.specs.Lists.{levelRows}
+use Rattle.depth.specs.Contracts.{DepthPre, DepthOf}
 
 -- 0 where it is off
 abbrev depthIf : Bool → ℕ → List (List ℕ) → List Item → ℕ

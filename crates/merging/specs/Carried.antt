@@ -1,14 +1,18 @@
 -- A rotation is carried, then taken. Assumes nothing.
-use mathlib.Core.Path.{_≡_, ap, ap₂, _∙_, subst}
+use mathlib.Core.Path.{_≡_, sym, ap, ap₂, _∙_, subst}
 use mathlib.Core.Bool.{Bool}
 use mathlib.Core.List.{List}
 use Prim.Native.Nat.{ℕ, _≤_, _<_}
 use native.Mathlib.Omega.{arith}
+use lib.ListN.{length}
+use Rattle.stream_states.specs.Known.{axes-count}
 use Rattle.model.specs.declared.Absorption.{Absorption}
 use Rattle.model.specs.Rules.{Rules}
 use Rattle.model.specs.Items.{withSign}
 use Rattle.model.specs.Clifford.{Touched}
 use Rattle.model.specs.Stream.{Pass, axisImage, imageId, carryAxis, takeRotation}
+use Rattle.model.specs.Words.{wordOf}
+use Rattle.theory.specs.Ids.{intern-grows}
 use Rattle.theory.specs.Peak.{takeRotation-rises}
 use Rattle.layout.specs.declared.Shape.{Shape}
 use Rattle.run_wellformed.specs.CliffordAngles.{withSign-turns}
@@ -21,6 +25,7 @@ use Rattle.stream_states.specs.declared.StreamRules.{StreamRules}
 use Rattle.stream_states.specs.States.{heldOf, SomePass, SteppedAs, as-limit, stepped-from}
 use Rattle.stream_states.specs.Carrying.{CarryPass, CarryLeft, carry-pre, carry-refused, carried-at, carried-in, carried-id, carried-turns}
 use Rattle.stream_states.specs.Carrying.{carried-same}
+use Rattle.merging.specs.Sources.{source-known, image-word}
 use Rattle.merging.specs.Taking.{TakingAt}
 
 pub record CarryingAt (z : Shape) (c : StreamRules) (st : State) (a k : ℕ) (ws xs : List ℕ) (m : Absorption) (n : ℕ)
@@ -45,12 +50,23 @@ module _ {z : Shape} {c : StreamRules} {st : State} {a k : ℕ} {ws xs : List �
     absorbed-same : s .absorbed ≡ st .absorbed
     absorbed-same = ap (λ (x : State). x .absorbed) (carried-same (h .carry) call e)
 
-    pub taking-there : TakingAt z c s (s .id) k′ ws′ xs′ m n (carryAxis (z .l) p a)
+    a-old : a < length (p .store .axes)
+    a-old = omega (arith, axes-count (h .carry .at .holds), h .carry .a-in)
+
+    a-now : a < s .axes
+    a-now =
+        let longer : length (p .store .axes) ≤ length (carryAxis (z .l) p a .store .axes)
+          = unfold carryAxis in (intern-grows (z .l) _ (p .store) _ .longer) in
+        omega (arith, axes-count (carried-at (h .carry) call e .holds), a-old)
+
+    pub taking-there : TakingAt z c s (s .id) k′ a ws′ xs′ m n (carryAxis (z .l) p a)
     taking-there =
         let w = withSign-turns (s .turns) k (h .some) (h .small) in
         record {
           at = carried-at (h .carry) call e;
           id-in = carried-in (h .carry) call e;
+          from = source-known (carried-at (h .carry) call e) a (s .id) a-now
+              (image-word (z .l) p a a-old ∙ sym (ap (wordOf (carryAxis (z .l) p a .store .axes)) (carried-id (h .carry) call e)));
           some = omega (arith, w .0);
           small = omega (arith, w .1);
           mode = h .mode;

@@ -18,7 +18,7 @@ use Rattle.model.specs.Clifford.{Touched, absorbWord}
 use Rattle.model.specs.Stream.{Pass, leaveZero, putOutRotation, absorb}
 use Rattle.theory.specs.Cases.{and-left}
 use Rattle.layout.specs.declared.Shape.{Shape}
-use Rattle.layout.specs.Rows.{rowCount, outRow, lastRow, waitingRow}
+use Rattle.layout.specs.Rows.{rowCount, outRow, lastRow, waitingRow, carriedFrom}
 use Rattle.layout.specs.Only.{Only, only-none, only-of, only-then, only-written}
 use Rattle.layout.specs.Words.{KeptFrom}
 use Rattle.layout.specs.Shape.{longestRow}
@@ -29,7 +29,9 @@ use Rattle.waiting.specs.Places.{placeIn, Named}
 use Rattle.waiting.specs.Inserting.{InsertPre, Inserted}
 use Rattle.words_wellformed.specs.HeldImages.{IsQuarters}
 use Rattle.clifford.specs.Holds.{Holds, SomeTouched, fRows, LeftF, TouchedAs, maskPlace}
-use Rattle.absorbing.specs.Absorbing.{AbsorbAt}
+use Rattle.absorbing.specs.declared.Source.{Source}
+use Rattle.absorbing.specs.declared.Source.the-variants.{Axis}
+use Rattle.absorbing.specs.Absorbing.{CarriesTo, AbsorbAt}
 use Rattle.steps.specs.declared.State.{State}
 use Rattle.steps.specs.declared.Step.{Step}
 use Rattle.steps.specs.declared.Step.the-variants.{Next, ExpansionLimit}
@@ -38,7 +40,7 @@ use Rattle.steps.specs.State.{withSlots, withOut, withWaiting, withAbsorbed}
 use Rattle.stream_states.specs.States.{heldOf, isWaiting, HoldsPass, PassAt, SomePass, lazy-only, streamRows}
 use Rattle.stream_states.specs.States.{LeftS, SteppedAs, as-next, as-limit}
 use Rattle.stream_states.specs.Output.{WaitsBut, but-quiet, pass-other, with-list, angle-set, last-cleared, put-waits}
-use Rattle.stream_states.specs.Output.{rotation-put}
+use Rattle.stream_states.specs.Output.{rotation-put, carried-row}
 use Rattle.stream_states.specs.Known.{axes-count}
 
 -- ---- a place waits
@@ -60,15 +62,21 @@ later-not : (c : StreamRules) (k : ℕ) → isLater c k ≡ false → c .absorpt
 unfolding isLater
 later-not c k e f = ap (λ (t : Bool). t && not (eqb k 0)) (sym (ap (λ (m : Absorption). isLazy m && isEven k) f) ∙ e)
 
-pub record NamePre (z : Shape) (c : StreamRules) (st : State) (j : ℕ) (xs : List ℕ) : Type 0 where
+pub record NamePre (z : Shape) (c : StreamRules) (st : State) (j a : ℕ) (xs : List ℕ) : Type 0 where
   pub numbers-long : rowCount * z .u ≤ length xs
-  pub place : j < longestRow
+  pub place : j < z .u
+  pub axis : a < z .u
+  pub small : z .u ≤ longestRow
   pub few : c .absorption ≡ lazy → st .waiting < z .u
+
+-- the list of places that wait, and the axes that they were carried from
+abbrev pub namedRows : List ℕ
+namedRows = waitingRow ∷ carriedFrom ∷ []
 
 -- place j of the output, by angle k, is named if it waits
 pub record PlaceNamed (z : Shape) (c : StreamRules) (st : State) (j k : ℕ) (xs xs′ : List ℕ) (r : State) : Type 0 where
   pub state : r ≡ withWaiting (r .waiting) st
-  pub only : Only (waitingRow ∷ []) (z .u) xs xs′
+  pub only : Only namedRows (z .u) xs xs′
   pub holds : (m : Absorption) (ws : List ℕ) (p : Pass) → m ≡ c .absorption → HoldsPass z off st ws xs p → j < st .out
       → (m ≡ lazy → WaitsBut z xs (st .waiting) (st .out) j k) → HoldsPass z m r ws xs′ p
 
@@ -77,26 +85,26 @@ module _ {z : Shape} {c : StreamRules} {st : State} {j k : ℕ} {xs : List ℕ} 
   pub place-quiet : t ≡ false → PlaceNamed z c st j k xs xs st
   place-quiet e = record {
     state = refl;
-    only = only-none (waitingRow ∷ []) (z .u) xs;
+    only = only-none namedRows (z .u) xs;
     holds = λ m ws p mode h b w.
         with-list (st .waiting) (only-none (waitingRow ∷ []) (z .u) xs) h
         (λ f. but-quiet (w f) (later-not c k (sym said ∙ e) (sym mode ∙ f)));
   }
 
-pub insert-pre : {z : Shape} {c : StreamRules} {st : State} {j : ℕ} (k : ℕ) {xs : List ℕ} {t : Bool} → t ≡ isLater c k → t ≡ true
-    → NamePre z c st j xs
+pub insert-pre : {z : Shape} {c : StreamRules} {st : State} {j a : ℕ} (k : ℕ) {xs : List ℕ} {t : Bool} → t ≡ isLater c k → t ≡ true
+    → NamePre z c st j a xs
     → InsertPre (z .u) (st .waiting) j xs
 insert-pre {z} {c} k said e pre = record {
   numbers-long = pre .numbers-long;
   space = pre .few (later-lazy c k (sym said ∙ e));
-  small = omega (arith, pre .place);
+  small = omega (arith, pre .place, pre .small);
 }
 
 -- it does
-pub place-named : {z : Shape} {c : StreamRules} {st s : State} {j k n : ℕ} {xs xs′ : List ℕ} → Inserted (z .u) (st .waiting) j xs xs′ n
-    → s ≡ withWaiting n st → PlaceNamed z c st j k xs xs′ s
-unfolding member anyOf
-place-named {z} {c} {st} {s} {j} {k} {n} {xs} {xs′} i e = subst (PlaceNamed z c st j k xs xs′) (sym e) named
+pub place-named : {z : Shape} {c : StreamRules} {st s : State} {j k n a : ℕ} {xs xs′ xs″ : List ℕ} → NamePre z c st j a xs
+    → Inserted (z .u) (st .waiting) j xs xs′ n → Written xs′ (z .u) carriedFrom j a xs″ → s ≡ withWaiting n st → PlaceNamed z c st j k xs xs″ s
+unfolding allOf member anyOf
+place-named {z} {c} {st} {s} {j} {k} {n} {a} {xs} {xs′} {xs″} pre i wrote e = subst (PlaceNamed z c st j k xs xs″) (sym e) named
   where
     go : WaitsBut z xs (st .waiting) (st .out) j k → (x : ℕ) → x < st .out → isWaiting (itemAt xs′ (z .u) outRow x) ≡ true → Dec (x ≡ j)
         → Named (placeIn (z .u) xs′) 0 n x
@@ -107,22 +115,26 @@ place-named {z} {c} {st} {s} {j} {k} {n} {xs} {xs′} i e = subst (PlaceNamed z 
         same : (y : ℕ) → taggedAt xs′ (z .u) outRow y ≡ taggedAt xs (z .u) outRow y
         same y = tagged-other (i .only) outRow (omega arith) refl y
 
-    named : PlaceNamed z c st j k xs xs′ (withWaiting n st)
+    from-only : Only (carriedFrom ∷ []) (z .u) xs′ xs″
+    from-only = only-written (omega (arith, pre .numbers-long, i .only .long)) (omega arith) (pre .place) wrote
+
+    named : PlaceNamed z c st j k xs xs″ (withWaiting n st)
     named = record {
       state = refl;
-      only = i .only;
-      holds = λ m ws p mode h b w. with-list n (i .only) h (λ f. record {
+      only = only-then (only-of namedRows refl (i .only)) (only-of namedRows refl from-only);
+      holds = λ m ws p mode h b w. carried-row from-only (with-list n (i .only) h (λ f. record {
         rising = i .rising (st .out) (w f .rising) b;
         all = λ x d g. go (w f) x d g (ℕ-discrete x j);
-      });
+      }));
     }
 
 -- ---- put out
 
-pub record PutPre (z : Shape) (c : StreamRules) (st : State) (id : ℕ) (xs : List ℕ) : Type 0 where
+pub record PutPre (z : Shape) (c : StreamRules) (st : State) (id a : ℕ) (xs : List ℕ) : Type 0 where
   pub numbers-long : rowCount * z .u ≤ length xs
   pub space : st .out < z .u
   pub axis : id < z .u
+  pub source : a < z .u
   pub small : z .u ≤ longestRow
   pub few : c .absorption ≡ lazy → st .waiting < z .u
 
@@ -132,12 +144,14 @@ pub record OutPut (z : Shape) (c : StreamRules) (st : State) (id k : ℕ) (xs xs
   pub holds : (m : Absorption) (ws : List ℕ) (p : Pass) → m ≡ c .absorption → HoldsPass z m st ws xs p
       → HoldsPass z m r ws xs′ (putOutRotation p id k)
 
-module _ {z : Shape} {c : StreamRules} {st : State} {id k : ℕ} {xs xs₁ xs₂ : List ℕ} (pre : PutPre z c st id xs)
+module _ {z : Shape} {c : StreamRules} {st : State} {id k a : ℕ} {xs xs₁ xs₂ : List ℕ} (pre : PutPre z c st id a xs)
     (wrote : Written xs (z .u) lastRow id (st .out + 1) xs₁) (put : ItemPut xs₁ (z .u) outRow (st .out) (taggedRotation id k) xs₂) where
-  pub put-name : NamePre z c (withOut (st .out + 1) st) (st .out) xs₂
+  pub put-name : NamePre z c (withOut (st .out + 1) st) (st .out) a xs₂
   put-name = record {
     numbers-long = omega (arith, pre .numbers-long, wrote .long, put .only .long);
-    place = omega (arith, pre .space, pre .small);
+    place = pre .space;
+    axis = pre .source;
+    small = pre .small;
     few = pre .few;
   }
 
@@ -194,15 +208,16 @@ zero-left {z} {j} {id} {xs} pre wrote put = record {
 
 -- ---- F changes, the output stays
 
-pub record AbsorbingAt (z : Shape) (st : State) (id k : ℕ) (ws xs : List ℕ) (m : Absorption) (n : ℕ) (p : Pass) : Type 0 where
+pub record AbsorbingAt (z : Shape) (st : State) (id k : ℕ) (source : Source) (ws xs : List ℕ) (m : Absorption) (n : ℕ) (p : Pass) : Type 0 where
   pub at : PassAt z m n st ws xs p
   pub id-in : id < st .axes
   pub quarters : IsQuarters k
   pub few : st .absorbed < 9223372036854775808
+  pub known : (a : ℕ) → source ≡ Axis a → CarriesTo z (st .axes) a id (heldOf p)
 
-module _ {z : Shape} {st : State} {id k : ℕ} {ws xs : List ℕ} {m : Absorption} {n : ℕ} {p : Pass}
-    (h : AbsorbingAt z st id k ws xs m n p) where
-  pub absorb-there : AbsorbAt z (st .axes) (st .slots) (st .peak) id k ws xs (heldOf p)
+module _ {z : Shape} {st : State} {id k : ℕ} {source : Source} {ws xs : List ℕ} {m : Absorption} {n : ℕ} {p : Pass}
+    (h : AbsorbingAt z st id k source ws xs m n p) where
+  pub absorb-there : AbsorbAt z (st .axes) (st .slots) (st .peak) id k source ws xs (heldOf p)
   absorb-there = record {
     axis = record {
       at = record { granted = h .at .granted; holds = h .at .holds .clifford };
@@ -210,21 +225,23 @@ module _ {z : Shape} {st : State} {id k : ℕ} {ws xs : List ℕ} {m : Absorptio
       inside = h .at .fine .inside .axes .words id (omega (arith, axes-count (h .at .holds), h .id-in));
     };
     quarters = h .quarters;
+    known = h .known;
   }
 
-pub absorb-some : {z : Shape} {st : State} {id k : ℕ} {ws xs : List ℕ} → SomePass (λ m n p. AbsorbingAt z st id k ws xs m n p)
-    → SomeTouched (λ (t : Touched). AbsorbAt z (st .axes) (st .slots) (st .peak) id k ws xs t)
+pub absorb-some : {z : Shape} {st : State} {id k : ℕ} {source : Source} {ws xs : List ℕ}
+    → SomePass (λ m n p. AbsorbingAt z st id k source ws xs m n p)
+    → SomeTouched (λ (t : Touched). AbsorbAt z (st .axes) (st .slots) (st .peak) id k source ws xs t)
 absorb-some s = record { state = heldOf (s .pass); it = absorb-there (s .it) }
 
 -- what the call leaves
-abbrev pub AbsorbLeft : Shape → State → ℕ → ℕ → List ℕ → List ℕ → Step → List ℕ → List ℕ → Type 0
-AbsorbLeft z st id k ws xs r ws′ xs′ =
+abbrev pub AbsorbLeft : Shape → State → ℕ → ℕ → Source → List ℕ → List ℕ → Step → List ℕ → List ℕ → Type 0
+AbsorbLeft z st id k source ws xs r ws′ xs′ =
     LeftF z ws xs ws′ xs′
-    × ((t : Touched) → AbsorbAt z (st .axes) (st .slots) (st .peak) id k ws xs t
+    × ((t : Touched) → AbsorbAt z (st .axes) (st .slots) (st .peak) id k source ws xs t
     → TouchedAs z st r ws′ xs′ (absorbWord (z .l) t (wordOf (t .store .axes) id) k))
 
-module _ {z : Shape} {st : State} {id k : ℕ} {ws xs ws′ xs′ : List ℕ} {r : Step} (call : AbsorbLeft z st id k ws xs r ws′ xs′)
-    {m : Absorption} {n : ℕ} {p : Pass} (h : AbsorbingAt z st id k ws xs m n p) where
+module _ {z : Shape} {st : State} {id k : ℕ} {source : Source} {ws xs ws′ xs′ : List ℕ} {r : Step}
+    (call : AbsorbLeft z st id k source ws xs r ws′ xs′) {m : Absorption} {n : ℕ} {p : Pass} (h : AbsorbingAt z st id k source ws xs m n p) where
   pub absorbed-limit : r ≡ ExpansionLimit → SteppedAs z m 0 1 st ExpansionLimit ws′ xs′ (absorb (z .l) p id k)
   unfolding absorb
   absorbed-limit e = as-limit (call .1 (heldOf p) (absorb-there h) .refused e)

@@ -16,6 +16,10 @@ use Rattle.model.specs.Stream.{canReach}
 use Rattle.model.specs.Stream.{mergeAt, mergeOrPutOut, takeRotation}
 use Rattle.theory.specs.Cases.{if-true, if-false, and-right}
 use Rattle.layout.specs.declared.Shape.{Shape}
+use Rattle.absorbing.specs.declared.Source.{Source}
+use Rattle.absorbing.specs.declared.Source.the-variants.{Axis}
+use Rattle.absorbing.specs.Absorbing.{CarriesTo}
+use Rattle.model.specs.Clifford.{Touched}
 use Rattle.layout.specs.Rows.{rowCount, outRow}
 use Rattle.layout.specs.Only.{only-of, only-then}
 use Rattle.layout.specs.Words.{kept-none}
@@ -30,36 +34,42 @@ use Rattle.steps.specs.State.{withMerges}
 use Rattle.steps.specs.declared.Step.{Step}
 use Rattle.steps.specs.declared.Step.the-variants.{Next, ExpansionLimit}
 use Rattle.stream_states.specs.declared.StreamRules.{StreamRules}
-use Rattle.stream_states.specs.States.{lastIn, HoldsPass, FinePass, PassAt, SomePass, RulesAs, streamRows}
+use Rattle.stream_states.specs.States.{heldOf, lastIn, HoldsPass, FinePass, PassAt, SomePass, RulesAs, streamRows}
 use Rattle.stream_states.specs.States.{LeftS, SteppedAs, as-next, as-limit, stepped-from}
 use Rattle.stream_states.specs.Output.{never, without-list, angle-waits, angle-set, place-here, place-none}
 use Rattle.stream_states.specs.Known.{out-long, out-few, axes-few, out-item, out-rotation, axes-stored, waiting-few}
 use Rattle.merging.specs.Steps.{NamePre, PlaceNamed, PutPre, OutPut, LeftAbsorbed, ZeroPre, ZeroLeft, AbsorbingAt}
 use Rattle.merging.specs.Reach.{ReachPre, reaches}
 
+-- the source that was told is the one that is known
+same-axis : {z : Shape} {n a id : ℕ} {t : Touched} (b : ℕ) → Axis a ≡ Axis b → CarriesTo z n a id t → CarriesTo z n b id t
+same-axis {z} {n} {a} {id} {t} b e h = let f : a ≡ b = cc in subst (λ (x : ℕ). CarriesTo z n x id t) f h
+
 -- ---- a zero is left of what was absorbed
 
-pub record MergedAt (z : Shape) (st : State) (j id k : ℕ) (ws xs : List ℕ) (m : Absorption) (n : ℕ) (p : Pass) : Type 0 where
-  pub at : AbsorbingAt z st id k ws xs m n p
+pub record MergedAt (z : Shape) (st : State) (j id k : ℕ) (source : Source) (ws xs : List ℕ) (m : Absorption) (n : ℕ) (p : Pass) : Type 0 where
+  pub at : AbsorbingAt z st id k source ws xs m n p
   pub place : j < st .out
 
 -- what the call that absorbs leaves
-abbrev pub AbsorbedLeft : Shape → State → ℕ → ℕ → List ℕ → List ℕ → Step → List ℕ → List ℕ → Type 0
-AbsorbedLeft z st id k ws xs r ws′ xs′ =
+abbrev pub AbsorbedLeft : Shape → State → ℕ → ℕ → Source → List ℕ → List ℕ → Step → List ℕ → List ℕ → Type 0
+AbsorbedLeft z st id k source ws xs r ws′ xs′ =
     LeftAbsorbed z st ws xs r ws′ xs′
-    × ((m : Absorption) (n : ℕ) (p : Pass) → AbsorbingAt z st id k ws xs m n p → SteppedAs z m 0 1 st r ws′ xs′ (absorb (z .l) p id k))
+    × ((m : Absorption) (n : ℕ) (p : Pass) → AbsorbingAt z st id k source ws xs m n p → SteppedAs z m 0 1 st r ws′ xs′ (absorb (z .l) p id k))
 
-pub merged-limit-left : {z : Shape} {st : State} {id k : ℕ} {ws xs ws₁ xs₁ : List ℕ} {r : Step} → AbsorbedLeft z st id k ws xs r ws₁ xs₁
+pub merged-limit-left : {z : Shape} {st : State} {id k : ℕ} {source : Source} {ws xs ws₁ xs₁ : List ℕ} {r : Step}
+    → AbsorbedLeft z st id k source ws xs r ws₁ xs₁
     → r ≡ ExpansionLimit → LeftAbsorbed z st ws xs ExpansionLimit ws₁ xs₁
 merged-limit-left call e = record { words = call .0 .words; numbers = call .0 .numbers; list = λ s f. call .0 .list s (e ∙ f) }
 
-module _ {z : Shape} {st : State} {j id k : ℕ} {ws xs ws₁ xs₁ : List ℕ} {r : Step} (call : AbsorbedLeft z st id k ws xs r ws₁ xs₁) where
-  pub merged-limit : r ≡ ExpansionLimit → (m : Absorption) (n : ℕ) (p : Pass) → MergedAt z st j id k ws xs m n p
+module _ {z : Shape} {st : State} {j id k : ℕ} {source : Source} {ws xs ws₁ xs₁ : List ℕ} {r : Step}
+    (call : AbsorbedLeft z st id k source ws xs r ws₁ xs₁) where
+  pub merged-limit : r ≡ ExpansionLimit → (m : Absorption) (n : ℕ) (p : Pass) → MergedAt z st j id k source ws xs m n p
       → SteppedAs z m 0 1 st ExpansionLimit ws₁ xs₁ (leaveZero j id (absorb (z .l) p id k))
   unfolding leaveZero setAngle withLast
   merged-limit e m n p h = as-limit (call .1 m n p (h .at) .refused e)
 
-  pub merged-zero : SomePass (λ m n p. MergedAt z st j id k ws xs m n p) → ZeroPre z j id xs₁
+  pub merged-zero : SomePass (λ m n p. MergedAt z st j id k source ws xs m n p) → ZeroPre z j id xs₁
   merged-zero s =
       let h = s .it .at .at in
       record {
@@ -77,7 +87,7 @@ module _ {z : Shape} {st : State} {j id k : ℕ} {ws xs ws₁ xs₁ : List ℕ} 
       list = λ s f. call .0 .list s (e ∙ f);
     }
 
-    pub merged-next : (m : Absorption) (n : ℕ) (p : Pass) → MergedAt z st j id k ws xs m n p
+    pub merged-next : (m : Absorption) (n : ℕ) (p : Pass) → MergedAt z st j id k source ws xs m n p
         → SteppedAs z m 0 1 st (Next after) ws₁ xs₂ (leaveZero j id (absorb (z .l) p id k))
     merged-next m n p h =
         let s = call .1 m n p (h .at) in
@@ -96,12 +106,14 @@ module _ {z : Shape} {st : State} {j id k : ℕ} {ws xs ws₁ xs₁ : List ℕ} 
 
 -- ---- merging
 
-pub record MergingAt (z : Shape) (c : StreamRules) (st : State) (j id k : ℕ) (ws xs : List ℕ) (m : Absorption) (n : ℕ)
+pub record MergingAt (z : Shape) (c : StreamRules) (st : State) (j id k a : ℕ) (ws xs : List ℕ) (m : Absorption) (n : ℕ)
     (p : Pass) : Type 0 where
   pub at : PassAt z m n st ws xs p
   pub id-in : id < st .axes
   pub place : j < st .out
   pub tag : taggedAt xs (z .u) outRow j .tag ≡ 0
+  -- F carries axis a to it
+  pub from : CarriesTo z (st .axes) a id (heldOf p)
   pub small : k ≤ 7
   pub mode : m ≡ c .absorption
   pub few-merges : st .merges < 9223372036854775808
@@ -165,8 +177,8 @@ even-quarters k e n b = record { even = even (isOdd k) refl e; some = omega arit
     even true f g = absurd (false≢true g)
     even false f g = let o : k % 2 ≡ 1 → ⊥ = eqb-false (k % 2) 1 f in omega arith
 
-module _ {z : Shape} {c : StreamRules} {st : State} {j id k : ℕ} {ws xs : List ℕ} {m : Absorption} {n : ℕ} {p : Pass}
-    (h : MergingAt z c st j id k ws xs m n p) where
+module _ {z : Shape} {c : StreamRules} {st : State} {j id k a : ℕ} {ws xs : List ℕ} {m : Absorption} {n : ℕ} {p : Pass}
+    (h : MergingAt z c st j id k a ws xs m n p) where
   pub merging-entry : EntryPre xs (z .u) outRow j
   merging-entry = record {
     long = h .at .granted .numbers-long;
@@ -211,13 +223,14 @@ module _ {z : Shape} {c : StreamRules} {st : State} {j id k : ℕ} {ws xs : List
       once : t ≡ (isAtOnce m && isEven ((old % 8 + k) % 8))
       once = said ∙ ap (λ (x : Absorption). isAtOnce x && isEven ((old % 8 + k) % 8)) (sym (h .mode))
 
-      pub merged-there : t ≡ true → MergedAt z (withMerges (st .merges + 1) st) j id ((old % 8 + k) % 8) ws xs m n (countMerge p)
+      pub merged-there : t ≡ true → MergedAt z (withMerges (st .merges + 1) st) j id ((old % 8 + k) % 8) (Axis a) ws xs m n (countMerge p)
       merged-there e = record {
         at = record {
           at = record { granted = h .at .granted; holds = counted; fine = counted-fine (h .at .fine); space = h .at .space };
           id-in = h .id-in;
           quarters = even-quarters _ (and-right (isAtOnce m) _ (sym once ∙ e)) n0 (omega arith);
           few = h .few;
+          known = λ b f. same-axis b f (unfold countMerge in (h .from));
         };
         place = h .place;
       }
@@ -230,10 +243,12 @@ module _ {z : Shape} {c : StreamRules} {st : State} {j id k : ℕ} {ws xs : List
           (stepped-from 1 1 s (omega arith) (omega arith)))
 
       module _ {xs₁ : List ℕ} (put : ItemPut xs (z .u) outRow j (taggedRotation id ((old % 8 + k) % 8)) xs₁) where
-        pub merge-name : NamePre z c (withMerges (st .merges + 1) st) j xs₁
+        pub merge-name : NamePre z c (withMerges (st .merges + 1) st) j a xs₁
         merge-name = record {
           numbers-long = omega (arith, h .at .granted .numbers-long, put .only .long);
-          place = omega (arith, h .place, out-few (h .at), h .at .granted .sized .u-small);
+          place = omega (arith, h .place, out-few (h .at));
+          axis = omega (arith, h .from .a-in, axes-few (h .at));
+          small = h .at .granted .sized .u-small;
           few = λ e. waiting-few (h .at) (h .mode ∙ e);
         }
 
@@ -327,23 +342,26 @@ named-in z merging start id xs {v} e n = go merging refl
 
 -- ---- taking a rotation
 
-pub record TakingAt (z : Shape) (c : StreamRules) (st : State) (id k : ℕ) (ws xs : List ℕ) (m : Absorption) (n : ℕ)
+pub record TakingAt (z : Shape) (c : StreamRules) (st : State) (id k a : ℕ) (ws xs : List ℕ) (m : Absorption) (n : ℕ)
     (p : Pass) : Type 0 where
   pub at : PassAt z m n st ws xs p
   pub id-in : id < st .axes
+  -- F carries axis a to it
+  pub from : CarriesTo z (st .axes) a id (heldOf p)
   pub some : 0 < k
   pub small : k ≤ 7
   pub mode : m ≡ c .absorption
   pub few-merges : st .merges < 9223372036854775808
   pub few : st .absorbed < 9223372036854775808
 
-module _ {z : Shape} {c : StreamRules} {st : State} {id k : ℕ} {ws xs : List ℕ} {m : Absorption} {n : ℕ} {p : Pass}
-    (h : TakingAt z c st id k ws xs m n p) where
-  pub taking-put : PutPre z c st id xs
+module _ {z : Shape} {c : StreamRules} {st : State} {id k a : ℕ} {ws xs : List ℕ} {m : Absorption} {n : ℕ} {p : Pass}
+    (h : TakingAt z c st id k a ws xs m n p) where
+  pub taking-put : PutPre z c st id a xs
   taking-put = record {
     numbers-long = h .at .granted .numbers-long;
     space = out-few (h .at);
     axis = omega (arith, h .id-in, axes-few (h .at));
+    source = omega (arith, h .from .a-in, axes-few (h .at));
     small = h .at .granted .sized .u-small;
     few = λ e. waiting-few (h .at) (h .mode ∙ e);
   }
@@ -354,12 +372,13 @@ module _ {z : Shape} {c : StreamRules} {st : State} {id k : ℕ} {ws xs : List �
   once-said : {t : Bool} → t ≡ (isAtOnce (c .absorption) && isEven k) → t ≡ (isAtOnce m && isEven k)
   once-said said = said ∙ ap (λ (x : Absorption). isAtOnce x && isEven k) (sym (h .mode))
 
-  pub taking-absorbs : {t : Bool} → t ≡ (isAtOnce (c .absorption) && isEven k) → t ≡ true → AbsorbingAt z st id k ws xs m n p
+  pub taking-absorbs : {t : Bool} → t ≡ (isAtOnce (c .absorption) && isEven k) → t ≡ true → AbsorbingAt z st id k (Axis a) ws xs m n p
   taking-absorbs said e = record {
     at = h .at;
     id-in = h .id-in;
     quarters = even-quarters k (and-right (isAtOnce m) _ (sym (once-said said) ∙ e)) (omega (arith, h .some)) (h .small);
     few = h .few;
+    known = λ b f. same-axis b f (h .from);
   }
 
   -- a place is named
@@ -379,12 +398,13 @@ module _ {z : Shape} {c : StreamRules} {st : State} {id k : ℕ} {ws xs : List �
       axis = h .id-in;
     })
 
-    pub taking-merges : MergingAt z c st (v - 1) id k ws xs m n p
+    pub taking-merges : MergingAt z c st (v - 1) id k a ws xs m n p
     taking-merges = record {
       at = h .at;
       id-in = h .id-in;
       place = place-in .1;
       tag = h .at .holds .segment (v - 1) (place-in .0) (place-in .1);
+      from = h .from;
       small = h .small;
       mode = h .mode;
       few-merges = h .few-merges;
@@ -401,8 +421,8 @@ module _ {z : Shape} {c : StreamRules} {st : State} {id k : ℕ} {ws xs : List �
         (h .at .holds .clifford .axes .are) (sym (h .at .holds .out-is))
 
 -- the model's, for the rules g
-module _ {z : Shape} {c : StreamRules} {g : Rules} (rules : RulesAs c g) {st : State} {id k : ℕ} {ws xs : List ℕ} {n : ℕ} {p : Pass}
-    (h : TakingAt z c st id k ws xs (g .absorption) n p) {t : Bool} (once : t ≡ (isAtOnce (c .absorption) && isEven k)) where
+module _ {z : Shape} {c : StreamRules} {g : Rules} (rules : RulesAs c g) {st : State} {id k a : ℕ} {ws xs : List ℕ} {n : ℕ} {p : Pass}
+    (h : TakingAt z c st id k a ws xs (g .absorption) n p) {t : Bool} (once : t ≡ (isAtOnce (c .absorption) && isEven k)) where
   pub take-once : t ≡ true → takeRotation (z .l) g (c .merge) p id k ≡ absorb (z .l) p id k
   unfolding takeRotation
   take-once e = if-true _ _ (sym (once-said h once) ∙ e)

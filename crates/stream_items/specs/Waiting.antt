@@ -36,8 +36,10 @@ use Rattle.stream_states.specs.States.{isWaiting, PassAt, streamRows, LeftS}
 use Rattle.stream_states.specs.States.{SteppedAs, as-next}
 use Rattle.stream_states.specs.Output.{never, with-list}
 use Rattle.stream_states.specs.Known.{out-long, out-few, out-item, out-rotation, axes-stored}
+use Rattle.absorbing.specs.declared.Source.the-variants.{Unknown}
 use Rattle.merging.specs.Steps.{LeftAbsorbed}
 use Rattle.merging.specs.Taking.{MergedAt, even-quarters}
+use Rattle.merging.specs.LookedUp.{none-told}
 
 -- ---- which rotations wait
 
@@ -259,7 +261,7 @@ module _ {z : Shape} {st : State} {all : Bool} {id i : ℕ} {ws xs : List ℕ} {
                 (ap isWaiting (getD-set-same (p .out) j (rotation (rot (x .axis) 0)) outside
                 (omega (arith, j-in, out-long (h .at .holds)))))
 
-      pub turn-merged : MergedAt z st j (x .axis) (x .angle) ws xs off n p
+      pub turn-merged : MergedAt z st j (x .axis) (x .angle) Unknown ws xs off n p
       turn-merged = record {
         at = record {
           at = h .at;
@@ -269,6 +271,7 @@ module _ {z : Shape} {st : State} {all : Bool} {id i : ℕ} {ws xs : List ℕ} {
               (clifford-some (x .angle) (waiting-angle x x-waits))
               (x-rotation .1);
           few = h .few;
+          known = λ b e. none-told b e;
         };
         place = j-in;
       }

@@ -79,7 +79,7 @@ fn waiting_turn(
         store::write(numbers, shape.u, WAITING, st.waiting, j as u32);
         return Step::Next(steps::with_waiting(st, st.waiting + 1));
     }
-    merging::absorb_merged(words, numbers, shape, st, j, axis, x.angle)
+    merging::absorb_place(words, numbers, shape, st, j, axis, x.angle)
 }
 
 // Goes over the n places of the list: rotations that wait are absorbed in order, all of them or those that anticommute with axis id.

@@ -17,16 +17,16 @@ use Rattle.model.specs.Clifford.{Touched}
 use Rattle.model.specs.Stream.{Place, nowhere, at, Pass, withLast, setAngle, putOut, setLast, putOutRotation}
 use Rattle.theory.specs.Cases.{if-true, if-false, neither}
 use Rattle.layout.specs.declared.Shape.{Shape}
-use Rattle.layout.specs.Rows.{rowCount, outRow, lastRow, waitingRow, fSlot, fPhase, imageSignature, axesRows, written-row, entry-own, entry-other}
+use Rattle.layout.specs.Rows.{rowCount, outRow, lastRow, waitingRow, carriedFrom, fSlot, fPhase, axesRows, written-row, entry-own, entry-other}
 use Rattle.layout.specs.Only.{Only, only-written}
-use Rattle.layout.specs.Wide.{wide-kept}
 use Rattle.axes.specs.Held.{held-rows}
 use Rattle.items.specs.declared.Tagged.{Tagged}
 use Rattle.items.specs.View.{itemRows, taggedAt, itemSaid, itemAt, itemsIn, said-rotation, view-length, view-other, tagged-other}
 use Rattle.items.specs.Put.{ItemPut, taggedRotation, put-set-0, put-end-0}
 use Rattle.words_wellformed.specs.Conjugation.{value-eq}
 use Rattle.waiting.specs.Places.{placeIn, Rising, Named, rising-as, named-as}
-use Rattle.clifford.specs.Holds.{imageIn, supported-same, Holds, fRows}
+use Rattle.layout.specs.Words.{OnlyWords}
+use Rattle.clifford.specs.Holds.{imageIn, Holds, fRows, maskPlace, holds-behind}
 use Rattle.steps.specs.declared.State.{State}
 use Rattle.steps.specs.State.{withOut, withWaiting}
 use Rattle.stream_states.specs.States.{heldOf, placeSaid, lastIn, isWaiting, Waits, HoldsPass}
@@ -40,8 +40,6 @@ unfolding imageIn anyOf
 holds-other {z} {ws = ws} {xs} {xs′} {rs} o d e h =
     let slot = neither (member fSlot rs) _ e in
     let phase = neither (member fPhase rs) _ (slot .1) in
-    let low = neither (member imageSignature rs) _ (phase .1) in
-    let high = neither (member (imageSignature + 1) rs) _ (low .1) in
     let same : (i : ℕ) → imageIn z ws xs′ i ≡ imageIn z ws xs i = λ i.
     value-eq (ap (λ (r : List ℕ). getD r i 0) (o .rows fPhase (omega arith) (phase .0))) refl in
     record {
@@ -52,7 +50,7 @@ holds-other {z} {ws = ws} {xs} {xs′} {rs} o d e h =
       room = h .room;
       slots = λ q b. ap (λ (r : List ℕ). getD r q 0) (o .rows fSlot (omega arith) (slot .0)) ∙ h .slots q b;
       images = λ i b. same i ∙ h .images i b;
-      supports = λ i b. supported-same (same i) (wide-kept imageSignature o (omega arith) (low .0) (high .0) i) (h .supports i b);
+      owners = h .owners;
       mask = h .mask;
     }
 
@@ -161,6 +159,28 @@ module _ {z : Shape} {m : Absorption} {st : State} {ws xs xs′ rs : List ℕ} {
     absorbed-are = absorbed;
     waits = λ e. waits-same same-item (o .rows waitingRow (omega arith) c) (h .waits e);
   }
+
+-- what is written behind the limit, but for the mask, is no part of it
+pub pass-behind : {z : Shape} {m : Absorption} {st : State} {ws xs ws′ : List ℕ} {p : Pass} → OnlyWords (z .limit) (maskPlace z) ws ws′
+    → HoldsPass z m st ws xs p → HoldsPass z m st ws′ xs p
+pass-behind k h = record {
+  clifford = holds-behind k (h .clifford);
+  out-is = h .out-is;
+  begun = h .begun;
+  segment = h .segment;
+  last-is = h .last-is;
+  named = h .named;
+  merges-are = h .merges-are;
+  absorbed-are = h .absorbed-are;
+  waits = h .waits;
+}
+
+-- a row that says nothing of the state
+pub carried-row : {z : Shape} {m : Absorption} {st : State} {ws xs xs′ : List ℕ} {p : Pass} → Only (carriedFrom ∷ []) (z .u) xs xs′
+    → HoldsPass z m st ws xs p → HoldsPass z m st ws xs′ p
+unfolding member anyOf
+carried-row {p = p} o h =
+    pass-other o refl refl refl h p (holds-other o refl refl (h .clifford)) refl refl (h .merges-are) (h .absorbed-are)
 
 -- ---- the list of waiting places changes
 

@@ -15,7 +15,7 @@ use Rattle.model.specs.Items.{Item, rotation, barrier, isClifford}
 use Rattle.model.specs.Clifford.{Touched}
 use Rattle.model.specs.Stream.{Place, nowhere, at, Pass}
 use Rattle.layout.specs.declared.Shape.{Shape}
-use Rattle.layout.specs.Rows.{outRow, lastRow, waitingRow, fSlot, fPhase, imageSignature, axesRows}
+use Rattle.layout.specs.Rows.{outRow, lastRow, waitingRow, carriedFrom, fSlot, fPhase, axesRows}
 use Rattle.layout.specs.Only.{Only, only-none, only-then}
 use Rattle.layout.specs.Words.{KeptFrom, kept-none, kept-then}
 use Rattle.layout.specs.Shape.{Granted, granted-same}
@@ -100,7 +100,7 @@ pub record RulesAs (c : StreamRules) (r : Rules) : Type 0 where
 
 abbrev pub streamRows : List ℕ
 streamRows =
-    outRow ∷ (outRow + 1) ∷ (outRow + 2) ∷ lastRow ∷ waitingRow ∷ fSlot ∷ fPhase ∷ imageSignature ∷ (imageSignature + 1) ∷ axesRows
+    outRow ∷ (outRow + 1) ∷ (outRow + 2) ∷ lastRow ∷ waitingRow ∷ carriedFrom ∷ fSlot ∷ fPhase ∷ axesRows
 
 pub record LeftS (z : Shape) (ws xs ws′ xs′ : List ℕ) : Type 0 where
   pub words : KeptFrom (maskPlace z + z .l) ws ws′

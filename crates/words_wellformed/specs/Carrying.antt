@@ -180,6 +180,12 @@ module _ (l : ℕ) (Angles : Type 0) (held : List Images) (images : HeldImages l
       against : (x : List ℕ) → IsWord l x → symplectic l x (identity l) ≡ 0
       against x k = symplectic-comm l x (identity l) ∙ symplectic-identity l x (k .long)
 
+  -- a carried word stands to a letter's image as the word does to the letter
+  pub wordImage-letter : (w : List ℕ) → IsWord l w → (q c : ℕ) → q < 64 * l → IsXYZ c
+      → symplectic l (wordImage l held w .word) (letterImage l held q c .word) ≡ symplectic l w (single l q c)
+  wordImage-letter w h q c b xyz =
+      image-alike w q c b xyz ∙ ap (λ (v : Value). symplectic l (v .word) (single l q c)) (wordImage-none l w h)
+
   -- F keeps which words commute
   pub wordImage-symplectic : (v w : List ℕ) → IsWord l v → IsWord l w
       → symplectic l (wordImage l held v .word) (wordImage l held w .word) ≡ symplectic l v w

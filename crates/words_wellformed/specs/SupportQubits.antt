@@ -91,7 +91,7 @@ rising-append : (lo mid hi : ℕ) (xs ys : List ℕ) → Rising lo mid xs → Ri
 rising-append lo mid hi [] ys h k = rising-from mid lo hi ys h k
 rising-append lo mid hi (x ∷ xs) ys h k = (h .0, rising-append (suc x) mid hi xs ys (h .1) k)
 
-setBits-rising : (k q n : ℕ) → Rising q (q + k) (setBits k q n)
+pub setBits-rising : (k q n : ℕ) → Rising q (q + k) (setBits k q n)
 unfolding setBits
 setBits-rising zero q n = omega arith
 setBits-rising (suc k) q zero = omega arith

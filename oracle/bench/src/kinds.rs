@@ -1,6 +1,8 @@
 //! The jobs of `bench --kinds`, one kind of work each, at word limits that fit.
 
-use generator::timed::{Axes, equal_sums, long_groups, repeated, rotations};
+use generator::timed::{
+    Axes, chains, equal_sums, failing_groups, long_groups, repeated, rotations,
+};
 use jobs::{Job, Lazy, MAX_LIMIT, Options};
 
 /// A name and a job.
@@ -8,7 +10,7 @@ pub type Kind = (&'static str, Job);
 
 /// All kinds.
 pub fn kinds() -> Vec<Kind> {
-    [by_size(), by_index()].concat()
+    [by_size(), by_index(), by_order()].concat()
 }
 
 fn by_size() -> Vec<Kind> {
@@ -76,6 +78,26 @@ fn by_index() -> Vec<Kind> {
         (
             "20 qubits weight 3",
             rotations(15, 20, 20_000, Axes::Weight(3)),
+        ),
+    ]
+}
+
+/// Groups of which none can be exchanged, tried at all starts and ends, or long and tried at few; and a long chain of rotations that
+/// must stay in order, measured.
+fn by_order() -> Vec<Kind> {
+    let failing = |size, candidates| {
+        with(&failing_groups(size), |o| {
+            o.lookback = 0;
+            o.window = MAX_LIMIT;
+            o.candidates = candidates;
+        })
+    };
+    vec![
+        ("all starts and ends", failing(101, MAX_LIMIT)),
+        ("long groups", failing(401, 16)),
+        (
+            "long chain",
+            with(&chains(30_000, 65_535), |o| o.measure_depth = true),
         ),
     ]
 }

@@ -13,6 +13,9 @@ include!(concat!(env!("OUT_DIR"), "/src/root.rs"));
 const RUNS: usize = 5;
 /// Of two libraries, which differ by less; as often one first as the other.
 const LIBRARY_RUNS: usize = 16;
+/// Where one run takes longer than this, two are enough.
+const LONG: Duration = Duration::from_secs(1);
+const LONG_RUNS: usize = 2;
 const LIBRARIES: [Library; 2] = [Library::Before, Library::Ours];
 
 unsafe extern "C" {
@@ -120,6 +123,9 @@ fn best_of_libraries(job: &Job) -> [f64; 2] {
         );
         least[first] = least[first].min(took);
         least[1 - first] = least[1 - first].min(took_second);
+        if turn + 1 == LONG_RUNS && least.iter().any(|&took| took > LONG) {
+            break;
+        }
     }
     least.map(|took| took.as_secs_f64() * 1e3)
 }
@@ -200,7 +206,7 @@ fn compare(job: &Job) {
 fn measure(job: &Job, scan: Scan) -> ([Vec<Duration>; 3], Given) {
     let mut times: [Vec<Duration>; 3] = Default::default();
     let mut last = None;
-    for _ in 0..RUNS {
+    for turn in 1..=RUNS {
         let (took, given) = time_rust(|run| hash::pbc::PbcCircuit::run_clocked(job, run));
         times[0].push(took);
         if scan == Scan::Timed {
@@ -212,6 +218,9 @@ fn measure(job: &Job, scan: Scan) -> ([Vec<Duration>; 3], Given) {
         assert!(by_ours == given, "ours gives something else");
         times[2].push(took);
         last = Some(given);
+        if turn == LONG_RUNS && times.iter().flatten().any(|&took| took > LONG) {
+            break;
+        }
     }
     times.iter_mut().for_each(|times| times.sort());
     (times, last.expect("there are runs"))
@@ -253,8 +262,9 @@ fn given(counted: &Counted, memory: &Memory) -> Given {
 }
 
 fn print(job: &Job, given: &Given, times: &[Vec<Duration>; 3]) {
+    let runs = times[2].len();
     println!(
-        "{} qubits, {} nodes, {} operations, {} rounds: {} operations, T {}; best and median of {RUNS}",
+        "{} qubits, {} nodes, {} operations, {} rounds: {} operations, T {}; best and median of {runs}",
         job.qubits,
         job.nodes.len(),
         job.operations.len(),
@@ -267,13 +277,13 @@ fn print(job: &Job, given: &Given, times: &[Vec<Duration>; 3]) {
         .zip(times)
     {
         let ms = |took: Duration| took.as_secs_f64() * 1e3;
-        let (best, median) = (ms(times[0]), ms(times[RUNS / 2]));
+        let (best, median) = (ms(times[0]), ms(times[runs / 2]));
         println!("  {name:<24}{best:>9.2} ms{median:>9.2} ms");
     }
     let ratio =
         |to: usize, place: usize| times[2][place].as_secs_f64() / times[to][place].as_secs_f64();
     for (name, to) in [("ours / Rust, scan", 1), ("ours / Rust, hash", 0)] {
-        let (best, median) = (ratio(to, 0), ratio(to, RUNS / 2));
+        let (best, median) = (ratio(to, 0), ratio(to, runs / 2));
         println!("  {name:<24}{best:>9.2}   {median:>9.2}");
     }
 }

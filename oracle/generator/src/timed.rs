@@ -114,6 +114,34 @@ pub fn long_groups(pairs: usize) -> Job {
     start.job(nodes.iter().map(|&node| [1, node, 0, 1, 0, 0]).collect())
 }
 
+/// Three groups of so many rotations, an odd number, of which none can be exchanged, told by the last sum alone: X of each qubit; Z of
+/// every second one, the same again by the opposite angle, and Z of the last; X of each qubit from the last on. Each start and each
+/// end share an axis. A stream leaves them so if it looks back by nothing.
+pub fn failing_groups(size: usize) -> Job {
+    let start = Start::new(size);
+    let axis = |q: usize, letter: usize| start.leaves[3 * q + letter];
+    let first: Vec<(i64, i64)> = (0..size).map(|q| (axis(q, 0), 1)).collect();
+    let by = |angle: i64| (0..size - 1).step_by(2).map(move |q| (q, angle));
+    let second = by(1).chain(by(7)).chain([(size - 1, 1)]);
+    let second: Vec<(i64, i64)> = second.map(|(q, angle)| (axis(q, 2), angle)).collect();
+    let groups = first.iter().chain(&second).chain(first.iter().rev());
+    let operations = groups.map(|&(node, angle)| [1, node, 0, angle, 0, 0]);
+    let operations = operations.collect();
+    start.job(operations)
+}
+
+/// X and Z of qubit 0 in turn, so many, then of the other 63 qubits in turn: one long chain of rotations that must stay in order,
+/// and short ones behind it.
+pub fn chains(long: usize, count: usize) -> Job {
+    let start = Start::new(64);
+    let letter = |i: usize, q: usize| start.leaves[3 * q + 2 * (i % 2)];
+    let first = (0..long).map(|i| letter(i, 0));
+    let behind = (0..count - long).map(|i| letter(i / 63, 1 + i % 63));
+    let operations = first.chain(behind).map(|node| [1, node, 0, 1, 0, 0]);
+    let operations = operations.collect();
+    start.job(operations)
+}
+
 fn pairs(left: &[i64], right: &[i64]) -> Vec<(i64, i64)> {
     let with = |&a: &i64| right.iter().map(move |&b| (a, b));
     left.iter().flat_map(with).collect()

@@ -1,4 +1,4 @@
--- The first i images are changed. Assumes nothing.
+-- The images before the i-th are changed. Assumes nothing.
 use Rattle.absorbing.specs.Turning.{TurnedTo, turned-none, turn-pre, turned-more, turned-all}
 use Prim.Native.Nat.{_-_, _≤_}
 use native.Mathlib.Omega.{arith}
@@ -6,20 +6,20 @@ use Rattle.absorbing.proofs.turn_images.Statement.{statement}
 use Rattle.absorbing.proofs.turn_images.Tie as tie
 
 abbrev Inv-loop : tie.InvT-loop
-Inv-loop ws₀ xs₀ z n b s k i₀ ws xs i = (i ≤ n) × TurnedTo z n b k ws₀ xs₀ ws xs i
+Inv-loop ws₀ xs₀ z a e b k i₀ ws xs i = (i ≤ e) × (a ≤ i) × TurnedTo z a e b k ws₀ xs₀ ws xs i
 
 abbrev μ-loop : tie.MeasureT-loop
-μ-loop ws₀ xs₀ z n b s k i₀ ws xs i = n - i
+μ-loop ws₀ xs₀ z a e b k i₀ ws xs i = e - i
 
 loop-holds : tie.Need-loop-holds Inv-loop μ-loop
-loop-holds c = (omega arith, turned-none (c .before .before .pre))
+loop-holds c = (c .before .before .pre .1, omega arith, turned-none)
 
 turn-image-requires : tie.Need-turn-image-requires Inv-loop μ-loop
 turn-image-requires c κs =
     let turn = c .before .before in
     let head = turn .before in
     let start = head .before .before .before in
-    turn-pre (start .pre) (head .loop .inv .1) (turn .loop-test .taken)
+    turn-pre (start .pre .0) (head .loop .inv .2) (turn .loop-test .taken)
 
 add-i : tie.Need-add-i Inv-loop μ-loop
 add-i c = omega arith
@@ -33,22 +33,26 @@ loop-again c =
     let turn = turn-image .before .before .before in
     let head = turn .before in
     let start = head .before .before .before in
-    (omega arith, turned-more (start .pre) (head .loop .inv .1) (turn .loop-test .taken) (turn-image .turn-image .ensures))
+    let low = head .loop .inv .1 in (
+      omega arith,
+      omega arith,
+      turned-more (start .pre .0) (head .loop .inv .2) (turn .loop-test .taken) low (turn-image .turn-image .ensures),
+    )
 
 same-length : tie.Need-same-length Inv-loop μ-loop
 same-length c =
     let at-loop = c .before in
-    at-loop .loop .inv .1 .words .long
+    at-loop .loop .inv .2 .words .long
 
 same-length-2 : tie.Need-same-length-2 Inv-loop μ-loop
 same-length-2 c =
     let at-loop = c .before in
-    at-loop .loop .inv .1 .numbers .long
+    at-loop .loop .inv .2 .numbers .long
 
 returns : tie.Need-returns Inv-loop μ-loop
 returns c =
     let at-loop = c .before in
-    turned-all (at-loop .loop .inv .1) (omega arith) (at-loop .loop .inv .0)
+    turned-all (at-loop .loop .inv .2) (omega arith) (at-loop .loop .inv .0)
 
 pub turn-images-spec : {M : Type 1} → statement M
 turn-images-spec =

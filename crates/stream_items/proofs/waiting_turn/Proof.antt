@@ -97,8 +97,8 @@ returns-2 c =
           (not-true _ (test .if2 .taken)) (write .write .ensures) (c .with-waiting .ensures),
     )
 
-absorb-merged-requires : tie.Need-absorb-merged-requires
-absorb-merged-requires c κs =
+absorb-place-requires : tie.Need-absorb-place-requires
+absorb-place-requires c κs =
     let test = c .before .before .before .before .before .before .before .before in
     let waits = test .before in
     let item-at = waits .before in
@@ -120,18 +120,18 @@ same-length-5 c = search needs
 
 returns-3 : tie.Need-returns-3
 returns-3 c =
-    let absorb-merged = c .before .before .before .before in
-    let test = absorb-merged .before .before .before in
+    let absorb-place = c .before .before .before .before in
+    let test = absorb-place .before .before .before in
     let picks = test .before in
     let sizes-of = picks .before .before .before in
     let test′ = sizes-of .before .before in
     let waits = test′ .before in
     let item-at = waits .before in
     let read = item-at .before .before in (
-      absorbed-left (absorb-merged .absorb-merged .ensures .0),
+      absorbed-left (absorb-place .absorb-place .ensures .0),
       λ n p h. turned-absorbed h (read .read .ensures) (item-at .item-at .ensures)
           (waits .waits .ensures) (not-false _ (test′ .if1 .left)) (sizes-of .sizes-of .ensures) (picks .picks .ensures) (not-false _
-          (test .if2 .left)) (absorb-merged .absorb-merged .ensures .0) (absorb-merged .absorb-merged .ensures .1 off n p
+          (test .if2 .left)) (absorb-place .absorb-place .ensures .0) (absorb-place .absorb-place .ensures .1 off n p
           (turn-merged h (read .read .ensures) (item-at .item-at .ensures) (waits .waits .ensures) (not-false _ (test′ .if1 .left)))),
     )
 
@@ -155,7 +155,7 @@ waiting-turn-spec =
     same-length-2
     same-length-3
     returns-2
-    absorb-merged-requires
+    absorb-place-requires
     same-length-4
     same-length-5
     returns-3)
