@@ -5,11 +5,10 @@ use mathlib.Core.List.{List, map}
 use mathlib.Core.Bool.{Bool, true, false, true≢false}
 use Prim.Native.Nat.{ℕ, zero, suc, _+_, _*_, _/_, _%_, _≤_, _<_, _-_, _^_}
 use native.Mathlib.Omega.{arith}
-use native.Mathlib.Decide.{ℕ-discrete}
-use lib.ListN.{length, getD, length-map}
+use lib.ListN.{getD, length-map}
 use Rattle.bits.specs.Bit.{bit}
 use Rattle.pauli.specs.Word.{symplectic}
-use Rattle.pauli.specs.Letter.{letterAt, single, acts}
+use Rattle.pauli.specs.Letter.{letterAt, single}
 use Rattle.pauli.specs.ProductLaws.{symplectic-comm}
 use Rattle.model.specs.Words.{Value, wordOf, support}
 use Rattle.model.specs.Clifford.{Touched, absorbImage, touchAll, absorbImages, absorbWord, letterImage}
@@ -17,7 +16,7 @@ use Rattle.model.specs.Lists.{if_then_else_, allOf, anyOf, member}
 use Rattle.theory.specs.Cases.{if-true, if-false}
 use Rattle.theory.specs.Every.{Every}
 use Rattle.layout.specs.declared.Shape.{Shape}
-use Rattle.layout.specs.Rows.{rowCount, fSlot}
+use Rattle.layout.specs.Rows.{fSlot}
 use Rattle.layout.specs.Only.{only-of}
 use Rattle.layout.specs.Words.{axisPlace, slots-le, kept-later, words-kept}
 use Rattle.layout.specs.Shape.{Granted}
@@ -30,13 +29,13 @@ use Rattle.words_wellformed.specs.SupportQubits.{support-each}
 use Rattle.steps.specs.declared.State.{State}
 use Rattle.steps.specs.declared.Step.{Step}
 use Rattle.steps.specs.declared.Step.the-variants.{Next, ExpansionLimit}
-use Rattle.clifford_states.specs.Slots.{slotOf, qubitAt, slot-qubit, slot-absorbed, image-absorbed, qubit-absorbed, letter-held, OneSlotEach}
+use Rattle.clifford_states.specs.Slots.{slotOf, qubitAt, slot-qubit, slot-absorbed, image-absorbed, qubit-absorbed, letter-held}
 use Rattle.clifford_states.specs.SetBits.{touchAll-axes}
 use Rattle.clifford.specs.Holds.{imageIn, Holds, SomeTouched, fRows, LeftF, TouchedAs, as-next, as-limit, left-then, granted-left, AxisAt, axis-in}
 use Rattle.absorbing.specs.declared.Source.{Source}
 use Rattle.absorbing.specs.declared.Source.the-variants.{Axis}
 use Rattle.absorbing.specs.Turning.{TurnsPre, ImagesTurned}
-use Rattle.absorbing.specs.Qubits.{slotIn, QubitsPre, changed, TurnedFor, ActedPre, SomeSlots, member-all}
+use Rattle.absorbing.specs.Qubits.{slotIn, changed, TurnedFor, ActedPre, member-all}
 
 -- F carries axis a to axis id: id stands to the image of every letter as a stands to the letter
 pub record CarriesTo (z : Shape) (n a id : ℕ) (t : Touched) : Type 0 where
@@ -131,7 +130,7 @@ module _ {z : Shape} {n m p id k : ℕ} {source : Source} {ws xs : List ℕ} {t 
       others-stay q c s b d e out =
           let found = letter-held (z .l) 0 s (t .held) q c d e in
           let image : letterImage (z .l) (t .held) q (suc c) ≡ imageIn z ws xs (3 * s + c)
-            = found .1 ∙ sym (holds .images (3 * s + c) (omega (arith, found .0, holds .count))) in
+          = found .1 ∙ sym (holds .images (3 * s + c) (omega (arith, found .0, holds .count))) in
           absorbImage-commuting (z .l) (wordOf (t .store .axes) id) k (imageIn z ws xs (3 * s + c))
           (ap (λ (v : Value). symplectic (z .l) (wordOf (t .store .axes) id) (v .word)) (sym image)
           ∙ from .commute q (suc c) b (record { some = omega arith; small = omega arith })
@@ -279,5 +278,5 @@ module _ {z : Shape} {st : State} {id k : ℕ} {source : Source} {ws xs ws₁ xs
       unfolding absorbWord
       absorb-holds t h =
           let word : wordAt (z .l) ws₁ (axisPlace (z .l) id) ≡ wordOf (t .store .axes) id
-            = axis-is (now-at h) ∙ ap (λ (axes : List (List ℕ)). wordOf axes id) (same-axes h) in
+          = axis-is (now-at h) ∙ ap (λ (axes : List (List ℕ)). wordOf axes id) (same-axes h) in
           as-next (touched .1 t (h .axis) .kept s e) (rw word at (turned-holds (now-holds h) turned))

@@ -15,19 +15,17 @@ use borrow.Author.Tests.{eq-eqb, ne-eqb, eqb-true}
 use Rattle.bits.specs.LowestBit.{clear-lt}
 use Rattle.store.specs.Row.{row}
 use Rattle.store.specs.Part.{part-at}
-use Rattle.pauli.specs.Word.{xWord, zWord}
-use Rattle.model.specs.Lists.{if_then_else_, allOf, anyOf, member}
+use Rattle.model.specs.Lists.{if_then_else_, anyOf, member}
 use Rattle.model.specs.Words.{Value, setBits, support}
 use Rattle.model.specs.Clifford.{absorbImage}
 use Rattle.theory.specs.Cases.{if-true, if-false}
 use Rattle.theory.specs.Every.{Every}
 use Rattle.layout.specs.declared.Shape.{Shape}
-use Rattle.layout.specs.Rows.{fSlot, rowCount}
+use Rattle.layout.specs.Rows.{fSlot}
 use Rattle.layout.specs.Only.{Only, only-none, only-then}
 use Rattle.layout.specs.Words.{OnlyWords, words-none, words-then, words-in, words-part, slots-le}
-use Rattle.layout.specs.Shape.{longestRow}
 use Rattle.axes.specs.View.{wordAt}
-use Rattle.words_wellformed.specs.SupportQubits.{Rising, rising-le, setBits-rising, support-rising}
+use Rattle.words_wellformed.specs.SupportQubits.{Rising, setBits-rising, support-rising}
 use Rattle.clifford_states.specs.SetBits.{setBits-none, setBits-lowest, qubitsAt, qubitsFrom, support-from, qubits-end, qubits-next, support-number}
 use Rattle.clifford.specs.Holds.{imageIn}
 use Rattle.clifford.specs.Images.{imageRows}
@@ -284,7 +282,7 @@ module _ {z : Shape} {b k j w : ℕ} {ws₀ xs₀ ws xs : List ℕ} {rest q : �
     number-more call =
         let now = loop .at m pre in
         let cut : setBits 64 (64 * j) w ≡ now .done ++ (q ∷ setBits 64 (64 * j) (bitAnd rest (rest - 1)))
-          = now .whole ∙ ap (λ (xs : List ℕ). now .done ++ xs) lowest in
+        = now .whole ∙ ap (λ (xs : List ℕ). now .done ++ xs) lowest in
         record {
           done = now .done ++ (q ∷ []);
           whole = cut ∙ sym (append-assoc (now .done) (q ∷ []) (setBits 64 (64 * j) (bitAnd rest (rest - 1))));
@@ -384,10 +382,10 @@ module _ {z : Shape} {a b k : ℕ} {ws₀ xs₀ ws xs : List ℕ} {j : ℕ} (loo
           let n : z .l - j ≡ suc (z .l - (j + 1)) = omega arith in
           let i : suc j ≡ j + 1 = omega arith in
           let later : qubitsFrom (z .l) v j (z .l - j) ≡ setBits 64 (64 * j) w ++ qubitsFrom (z .l) v (j + 1) (z .l - (j + 1))
-            = ap (qubitsFrom (z .l) v j) n ∙ qubits-next (z .l) v j (z .l - (j + 1))
-            ∙ ap₂ (λ (xs : List ℕ) (x : ℕ). xs ++ qubitsFrom (z .l) v x (z .l - (j + 1))) (sym these) i in
+          = ap (qubitsFrom (z .l) v j) n ∙ qubits-next (z .l) v j (z .l - (j + 1))
+          ∙ ap₂ (λ (xs : List ℕ) (x : ℕ). xs ++ qubitsFrom (z .l) v x (z .l - (j + 1))) (sym these) i in
           let cut : support (z .l) v ≡ now .done ++ (setBits 64 (64 * j) w ++ qubitsFrom (z .l) v (j + 1) (z .l - (j + 1)))
-            = now .whole ∙ ap (λ (xs : List ℕ). now .done ++ xs) later in
+          = now .whole ∙ ap (λ (xs : List ℕ). now .done ++ xs) later in
           record {
             done = now .done ++ setBits 64 (64 * j) w;
             whole = cut ∙ sym (append-assoc (now .done) (setBits 64 (64 * j) w) (qubitsFrom (z .l) v (j + 1) (z .l - (j + 1))));

@@ -32,5 +32,6 @@ module _ {z : Shape} {a id : ℕ} {ws xs : List ℕ} {t : Touched} (h : CarriesA
   unfolding scratchValue
   carries-told {p = p} {q} place first second said e =
       let now = axis-behind (h .other) (word .words) in
-      sym (ap (λ (v : Value). v .word) (word .value)) ∙ sym (first ∙ ap (wordAt (z .l) ws₁) place) ∙ same-true p q (sym said ∙ e) ∙ second (now .axes) (now .id-in)
+      sym (ap (λ (v : Value). v .word) (word .value)) ∙ sym (first ∙ ap (wordAt (z .l) ws₁) place) ∙ same-true p q (sym said ∙ e)
+      ∙ second (now .axes) (now .id-in)
       ∙ ap (λ (axes : List (List ℕ)). wordOf axes id) (now .at .holds .axes .are)

@@ -1,11 +1,11 @@
--- The rotations of a segment by level: lists, the union of their signatures, and what a new rotation adds. Assumes nothing.
+-- The rotations of a segment by level: lists from the oldest on, the union of their signatures, and what a new rotation adds. Assumes nothing.
 use mathlib.Core.Path.{_≡_, refl, sym, ap, _∙_, subst}
 use mathlib.Core.Bool.{false}
 use mathlib.Core.Logic.{_≢_}
 use mathlib.Core.List.{List, [], _∷_}
 use Prim.Native.Nat.{ℕ, _+_, _-_, _*_, _≤_, _<_, max}
 use native.Mathlib.Omega.{arith}
-use native.Mathlib.Decide.{ℕ-discrete, decLt}
+use native.Mathlib.Decide.{ℕ-discrete, decLt, decLe}
 use lib.Bits.{bitAnd, bitOr}
 use lib.ListN.{length, getD, set}
 use Rattle.bits.specs.Digit.{min-none}
@@ -15,7 +15,8 @@ use Rattle.store.specs.Wide.{wideAt, WrittenWide}
 use Rattle.pauli.specs.SupportLaws.{SupportWithin, apart-commute}
 use Rattle.model.specs.Lists.{allOf, anyOf, member}
 use Rattle.model.specs.Words.{wordOf, anticommute}
-use Rattle.layout.specs.Rows.{rowCount, levelHead, levelNext, levelSignature, levelTop, written-row, entry-own, entry-other}
+use Rattle.layout.specs.Rows.{rowCount, levelOldest, levelNewest, levelNext, levelSignature, levelTop}
+use Rattle.layout.specs.Rows.{written-row, entry-own, entry-other}
 use Rattle.layout.specs.Only.{Only, only-of, only-then, only-written}
 use Rattle.layout.specs.Shape.{longestRow}
 use Rattle.layout.specs.Wide.{wide-kept, wide-own, wide-other, wide-only}
@@ -23,13 +24,17 @@ use Rattle.depth.specs.Tops.{topPlace, topOf, BoundOf, Raised}
 
 -- the rows that T-depth writes
 abbrev pub levelRows : List ℕ
-levelRows = levelSignature ∷ (levelSignature + 1) ∷ levelTop ∷ levelHead ∷ levelNext ∷ []
+levelRows = levelSignature ∷ (levelSignature + 1) ∷ levelTop ∷ levelOldest ∷ levelNewest ∷ levelNext ∷ []
 
--- the newest rotation of level v, plus 1
-unfoldable pub headAt : List ℕ → ℕ → ℕ → ℕ
-headAt s u v = getD (row s u levelHead) (v - 1) 0
+-- the oldest rotation of level v
+unfoldable pub oldestAt : List ℕ → ℕ → ℕ → ℕ
+oldestAt s u v = getD (row s u levelOldest) (v - 1) 0
 
--- the next older one of the same level, plus 1, behind item j
+-- the newest
+unfoldable pub newestAt : List ℕ → ℕ → ℕ → ℕ
+newestAt s u v = getD (row s u levelNewest) (v - 1) 0
+
+-- the next newer one of the same level, behind item j
 unfoldable pub nextAt : List ℕ → ℕ → ℕ → ℕ
 nextAt s u j = getD (row s u levelNext) j 0
 
@@ -49,17 +54,29 @@ pub record IfBegun (reached v x r : ℕ) : Type 0 where
   pub new : reached < v → r ≡ 0
   pub old : v ≤ reached → r ≡ x
 
-pub record PutPre (u : ℕ) (s : List ℕ) (v i : ℕ) : Type 0 where
+pub record PutPre (u : ℕ) (s : List ℕ) (reached v i : ℕ) : Type 0 where
   pub begun : BegunPre u s v
   pub here : i < u
   pub short : u ≤ longestRow
+  pub later : v ≤ reached → newestAt s u v < i
 
-pub record PutFirst (u : ℕ) (s : List ℕ) (reached v i : ℕ) (t : List ℕ) : Type 0 where
-  pub only : Only (levelHead ∷ levelNext ∷ []) u s t
-  pub head : headAt t u v ≡ i + 1
-  pub heads : (w : ℕ) → 0 < w → w ≢ v → headAt t u w ≡ headAt s u w
-  pub next : IfBegun reached v (headAt s u v) (nextAt t u i)
-  pub nexts : (j : ℕ) → j ≢ i → nextAt t u j ≡ nextAt s u j
+-- the newest so far names item i, or the level begins with it
+pub record Linked (u : ℕ) (s : List ℕ) (reached v i : ℕ) (t : List ℕ) : Type 0 where
+  pub only : Only (levelOldest ∷ levelNext ∷ []) u s t
+  pub oldest : reached < v → oldestAt t u v ≡ i
+  pub oldests : (w : ℕ) → 0 < w → (w ≡ v → v ≤ reached) → oldestAt t u w ≡ oldestAt s u w
+  pub linked : v ≤ reached → nextAt t u (newestAt s u v) ≡ i
+  pub nexts : (j : ℕ) → (v ≤ reached → j ≢ newestAt s u v) → nextAt t u j ≡ nextAt s u j
+
+pub record PutLast (u : ℕ) (s : List ℕ) (reached v i : ℕ) (t : List ℕ) : Type 0 where
+  pub only : Only (levelOldest ∷ levelNewest ∷ levelNext ∷ []) u s t
+  pub oldest : reached < v → oldestAt t u v ≡ i
+  pub oldests : (w : ℕ) → 0 < w → (w ≡ v → v ≤ reached) → oldestAt t u w ≡ oldestAt s u w
+  pub newest : newestAt t u v ≡ i
+  pub newests : (w : ℕ) → 0 < w → w ≢ v → newestAt t u w ≡ newestAt s u w
+  pub next : nextAt t u i ≡ u
+  pub linked : v ≤ reached → nextAt t u (newestAt s u v) ≡ i
+  pub nexts : (j : ℕ) → j ≢ i → (v ≤ reached → j ≢ newestAt s u v) → nextAt t u j ≡ nextAt s u j
 
 pub record Joined (u : ℕ) (s : List ℕ) (reached v sig : ℕ) (t : List ℕ) : Type 0 where
   pub only : Only (levelSignature ∷ (levelSignature + 1) ∷ []) u s t
@@ -69,10 +86,13 @@ pub record Joined (u : ℕ) (s : List ℕ) (reached v sig : ℕ) (t : List ℕ) 
 
 pub record Entered (u : ℕ) (s : List ℕ) (reached v i sig : ℕ) (t : List ℕ) : Type 0 where
   pub only : Only levelRows u s t
-  pub head : headAt t u v ≡ i + 1
-  pub heads : (w : ℕ) → 0 < w → w ≢ v → headAt t u w ≡ headAt s u w
-  pub next : IfBegun reached v (headAt s u v) (nextAt t u i)
-  pub nexts : (j : ℕ) → j ≢ i → nextAt t u j ≡ nextAt s u j
+  pub oldest : reached < v → oldestAt t u v ≡ i
+  pub oldests : (w : ℕ) → 0 < w → (w ≡ v → v ≤ reached) → oldestAt t u w ≡ oldestAt s u w
+  pub newest : newestAt t u v ≡ i
+  pub newests : (w : ℕ) → 0 < w → w ≢ v → newestAt t u w ≡ newestAt s u w
+  pub next : nextAt t u i ≡ u
+  pub linked : v ≤ reached → nextAt t u (newestAt s u v) ≡ i
+  pub nexts : (j : ℕ) → j ≢ i → (v ≤ reached → j ≢ newestAt s u v) → nextAt t u j ≡ nextAt s u j
   pub own : (k : ℕ) → bit sig k ≡ 1 → bit (unionAt t u v) k ≡ 1
   pub kept : v ≤ reached → (k : ℕ) → bit (unionAt s u v) k ≡ 1 → bit (unionAt t u v) k ≡ 1
   pub others : (w : ℕ) → 0 < w → w ≢ v → unionAt t u w ≡ unionAt s u w
@@ -86,9 +106,13 @@ pub begun-old : {reached v x r : ℕ} → v ≤ reached → r ≡ x → IfBegun 
 begun-old h e = record { new = λ k. absurd (omega arith); old = λ _. e }
 
 -- a row of none that change
-head-kept : {rs : List ℕ} {u : ℕ} {s t : List ℕ} → Only rs u s t → member levelHead rs ≡ false → (v : ℕ) → headAt t u v ≡ headAt s u v
-unfolding headAt
-head-kept o e v = ap (λ (r : List ℕ). getD r (v - 1) 0) (o .rows levelHead (omega arith) e)
+oldest-kept : {rs : List ℕ} {u : ℕ} {s t : List ℕ} → Only rs u s t → member levelOldest rs ≡ false → (v : ℕ) → oldestAt t u v ≡ oldestAt s u v
+unfolding oldestAt
+oldest-kept o e v = ap (λ (r : List ℕ). getD r (v - 1) 0) (o .rows levelOldest (omega arith) e)
+
+newest-kept : {rs : List ℕ} {u : ℕ} {s t : List ℕ} → Only rs u s t → member levelNewest rs ≡ false → (v : ℕ) → newestAt t u v ≡ newestAt s u v
+unfolding newestAt
+newest-kept o e v = ap (λ (r : List ℕ). getD r (v - 1) 0) (o .rows levelNewest (omega arith) e)
 
 next-kept : {rs : List ℕ} {u : ℕ} {s t : List ℕ} → Only rs u s t → member levelNext rs ≡ false → (j : ℕ) → nextAt t u j ≡ nextAt s u j
 unfolding nextAt
@@ -103,26 +127,65 @@ top-kept : {rs : List ℕ} {u : ℕ} {s t : List ℕ} → Only rs u s t → memb
 unfolding topOf
 top-kept {u = u} o e k = ap (λ (r : List ℕ). getD r (topPlace u k) 0) (o .rows levelTop (omega arith) e)
 
-pub put-first : {u reached v i older : ℕ} {s a t : List ℕ} → PutPre u s v i → IfBegun reached v (headAt s u v) older
-    → Written s u levelNext i older a → Written a u levelHead (v - 1) (i + 1) t → PutFirst u s reached v i t
-unfolding headAt nextAt allOf member anyOf
-put-first {u} {reached} {v} {i} {older} {s} {a} {t} pre b f g =
-    let long : rowCount * u ≤ length a = omega (arith, pre .begun .long, f .long) in
-    let x : levelNext < rowCount = omega arith in
-    let y : levelHead < rowCount = omega arith in
+-- the level begins
+pub link-new : {u reached v i : ℕ} {s t : List ℕ} → PutPre u s reached v i → reached < v → Written s u levelOldest (v - 1) i t
+    → Linked u s reached v i t
+unfolding oldestAt allOf member anyOf
+link-new {u} {reached} {v} {i} {s} {t} pre h w =
+    let row-in : levelOldest < rowCount = omega arith in
     let at : v - 1 < u = omega (arith, pre .begun .level, pre .begun .high) in
-    let first = only-written (pre .begun .long) x (pre .here) f in
-    let second = only-written long y at g in
-    let nexts = second .rows levelNext x refl ∙ written-row (pre .begun .long) x (pre .here) f in
-    let heads : row t u levelHead ≡ set (row s u levelHead) (v - 1) (i + 1) =
-    written-row long y at g ∙ ap (λ (q : List ℕ). set q (v - 1) (i + 1)) (first .rows levelHead y refl) in
+    let only = only-written (pre .begun .long) row-in at w in
+    let changed = written-row (pre .begun .long) row-in at w in
     record {
-      only = only-then (only-of _ refl first) (only-of _ refl second);
-      head = entry-own s u levelHead (v - 1) (i + 1) heads (pre .begun .long) y at;
-      heads = λ w p n. entry-other s u levelHead (v - 1) (i + 1) heads (w - 1) (λ e. n (omega (arith, pre .begun .high)));
-      next = subst (IfBegun reached v (getD (row s u levelHead) (v - 1) 0))
-          (sym (entry-own s u levelNext i older nexts (pre .begun .long) x (pre .here))) b;
-      nexts = λ j n. entry-other s u levelNext i older nexts j n;
+      only = only-of _ refl only;
+      oldest = λ _. entry-own s u levelOldest (v - 1) i changed (pre .begun .long) row-in at;
+      oldests = λ x p n.
+          entry-other s u levelOldest (v - 1) i changed (x - 1) (λ e. absurd (omega (arith, pre .begun .high, n (omega (arith, pre .begun .high)))));
+      linked = λ k. absurd (omega arith);
+      nexts = λ j n. next-kept only refl j;
+    }
+
+-- it goes on
+pub link-old : {u reached v i newest : ℕ} {s t : List ℕ} → PutPre u s reached v i → v ≤ reached
+    → newest ≡ getD (row s u levelNewest) (v - 1) 0 → Written s u levelNext newest i t → Linked u s reached v i t
+unfolding newestAt nextAt allOf member anyOf
+link-old {u} {reached} {v} {i} {newest} {s} {t} pre h e w =
+    let row-in : levelNext < rowCount = omega arith in
+    let at : newest < u = omega (arith, pre .later h, pre .here, e) in
+    let only = only-written (pre .begun .long) row-in at w in
+    let changed = written-row (pre .begun .long) row-in at w in
+    record {
+      only = only-of _ refl only;
+      oldest = λ k. absurd (omega arith);
+      oldests = λ x p n. oldest-kept only refl x;
+      linked = λ _. ap (λ (j : ℕ). getD (row t u levelNext) j 0) (sym e) ∙ entry-own s u levelNext newest i changed (pre .begun .long) row-in at;
+      nexts = λ j n. entry-other s u levelNext newest i changed j (λ k. n h (k ∙ e));
+    }
+
+pub put-last : {u reached v i : ℕ} {s a b t : List ℕ} → PutPre u s reached v i → Linked u s reached v i a
+    → Written a u levelNext i u b → Written b u levelNewest (v - 1) i t → PutLast u s reached v i t
+unfolding newestAt nextAt allOf member anyOf
+put-last {u} {reached} {v} {i} {s} {a} {b} {t} pre k f g =
+    let long : rowCount * u ≤ length a = omega (arith, pre .begun .long, k .only .long) in
+    let long′ : rowCount * u ≤ length b = omega (arith, long, f .long) in
+    let x : levelNext < rowCount = omega arith in
+    let y : levelNewest < rowCount = omega arith in
+    let at : v - 1 < u = omega (arith, pre .begun .level, pre .begun .high) in
+    let first = only-written long x (pre .here) f in
+    let second = only-written long′ y at g in
+    let nexts : row t u levelNext ≡ set (row a u levelNext) i u = second .rows levelNext x refl ∙ written-row long x (pre .here) f in
+    let newests : row t u levelNewest ≡ set (row s u levelNewest) (v - 1) i =
+    written-row long′ y at g
+    ∙ ap (λ (q : List ℕ). set q (v - 1) i) (first .rows levelNewest y refl ∙ k .only .rows levelNewest y refl) in
+    record {
+      only = only-then (only-of _ refl (k .only)) (only-then (only-of _ refl first) (only-of _ refl second));
+      oldest = λ h. oldest-kept second refl v ∙ oldest-kept first refl v ∙ k .oldest h;
+      oldests = λ w p n. oldest-kept second refl w ∙ oldest-kept first refl w ∙ k .oldests w p n;
+      newest = entry-own s u levelNewest (v - 1) i newests (pre .begun .long) y at;
+      newests = λ w p n. entry-other s u levelNewest (v - 1) i newests (w - 1) (λ e. n (omega (arith, pre .begun .high)));
+      next = entry-own a u levelNext i u nexts long x (pre .here);
+      linked = λ h. entry-other a u levelNext i u nexts _ (λ e. omega (arith, pre .later h)) ∙ k .linked h;
+      nexts = λ j n m. entry-other a u levelNext i u nexts j n ∙ k .nexts j m;
     }
 
 pub joined : {u reached v all sig : ℕ} {s t : List ℕ} → BegunPre u s v → IfBegun reached v (unionAt s u v) all
@@ -140,23 +203,27 @@ joined {u} {reached} {v} {all} {sig} {s} {t} pre b w =
       others = λ x p n. wide-other (pre .long) rows at w (x - 1) (λ e. n (omega (arith, pre .high)));
     }
 
-module _ {u reached v i sig : ℕ} {s a b t : List ℕ} (f : PutFirst u s reached v i a) (g : Joined u a reached v sig b)
+module _ {u reached v i sig : ℕ} {s a b t : List ℕ} (f : PutLast u s reached v i a) (g : Joined u a reached v sig b)
     (h : Raised u b sig v t) where
   pub entered : Entered u s reached v i sig t
   unfolding member anyOf allOf
   entered =
       let both : Only levelRows u a t = only-then (only-of levelRows refl (g .only)) (only-of levelRows refl (h .only)) in
-      let head-same : (w : ℕ) → headAt t u w ≡ headAt a u w = λ w. head-kept (h .only) refl w ∙ head-kept (g .only) refl w in
+      let oldest-same : (w : ℕ) → oldestAt t u w ≡ oldestAt a u w = λ w. oldest-kept (h .only) refl w ∙ oldest-kept (g .only) refl w in
+      let newest-same : (w : ℕ) → newestAt t u w ≡ newestAt a u w = λ w. newest-kept (h .only) refl w ∙ newest-kept (g .only) refl w in
       let next-same : (j : ℕ) → nextAt t u j ≡ nextAt a u j = λ j. next-kept (h .only) refl j ∙ next-kept (g .only) refl j in
       let union-before : (w : ℕ) → unionAt a u w ≡ unionAt s u w = λ w. union-kept (f .only) refl refl w in
       let union-after : (w : ℕ) → unionAt t u w ≡ unionAt b u w = λ w. union-kept (h .only) refl refl w in
       let on : (x y k : ℕ) → x ≡ y → bit y k ≡ 1 → bit x k ≡ 1 = λ x y k e o. ap (λ (n : ℕ). bit n k) e ∙ o in
       record {
         only = only-then (only-of levelRows refl (f .only)) both;
-        head = head-same v ∙ f .head;
-        heads = λ w p n. head-same w ∙ f .heads w p n;
-        next = subst (IfBegun reached v (headAt s u v)) (sym (next-same i)) (f .next);
-        nexts = λ j n. next-same j ∙ f .nexts j n;
+        oldest = λ c. oldest-same v ∙ f .oldest c;
+        oldests = λ w p n. oldest-same w ∙ f .oldests w p n;
+        newest = newest-same v ∙ f .newest;
+        newests = λ w p n. newest-same w ∙ f .newests w p n;
+        next = next-same i ∙ f .next;
+        linked = λ c. next-same (newestAt s u v) ∙ f .linked c;
+        nexts = λ j n m. next-same j ∙ f .nexts j n m;
         own = λ k e. on _ _ k (union-after v) (g .own k e);
         kept = λ c k e. on _ _ k (union-after v) (g .kept c k (on _ _ k (union-before v) e));
         others = λ w p n. union-after w ∙ g .others w p n ∙ union-before w;
@@ -166,11 +233,19 @@ module _ {u reached v i sig : ℕ} {s a b t : List ℕ} (f : PutFirst u s reache
 
 -- ---- the lists of a segment, whose rotations' levels are lev
 
--- p is, plus 1, the newest of level v among those from start up to e; 0 where there is none
-pub record Newest (lev : ℕ → ℕ) (start v e p : ℕ) : Type 0 where
-  pub below : p ≤ e
-  pub level : start < p → lev (p - 1) ≡ v
-  pub none : (j : ℕ) → start ≤ j → p ≤ j → j < e → lev j ≡ v → ⊥
+-- p is the first of level v among those from a place up to i; u where there is none
+pub record First (lev : ℕ → ℕ) (u from v i p : ℕ) : Type 0 where
+  pub after : from ≤ p
+  pub below : p < u → p < i
+  pub level : p < u → lev p ≡ v
+  pub none : (j : ℕ) → from ≤ j → j < p → j < i → lev j ≡ v → ⊥
+
+-- p is the last of them
+pub record Newest (lev : ℕ → ℕ) (start v i p : ℕ) : Type 0 where
+  pub after : start ≤ p
+  pub below : p < i
+  pub level : lev p ≡ v
+  pub none : (j : ℕ) → p < j → j < i → lev j ≡ v → ⊥
 
 -- axis a is known at level v: some signature within which its support lies is part of the level's, and each of its bits has this level
 pub record Placed (l : ℕ) (axes : List (List ℕ)) (u : ℕ) (s : List ℕ) (a v : ℕ) : Type 0 where
@@ -181,8 +256,9 @@ pub record Placed (l : ℕ) (axes : List (List ℕ)) (u : ℕ) (s : List ℕ) (a
 
 -- before item i: each rotation whose level is above low stands in the list of its level, and is known there
 pub record Listed (l : ℕ) (axes : List (List ℕ)) (axis lev : ℕ → ℕ) (low start reached u : ℕ) (s : List ℕ) (i : ℕ) : Type 0 where
-  pub heads : (v : ℕ) → low < v → v ≤ reached → Newest lev start v i (headAt s u v)
-  pub nexts : (j : ℕ) → start ≤ j → j < i → low < lev j → Newest lev start (lev j) j (nextAt s u j)
+  pub oldests : (v : ℕ) → low < v → v ≤ reached → First lev u start v i (oldestAt s u v)
+  pub newests : (v : ℕ) → low < v → v ≤ reached → Newest lev start v i (newestAt s u v)
+  pub nexts : (j : ℕ) → start ≤ j → j < i → low < lev j → First lev u (j + 1) (lev j) i (nextAt s u j)
   pub placed : (j : ℕ) → start ≤ j → j < i → low < lev j → Placed l axes u s (axis j) (lev j)
   pub most : (j : ℕ) → start ≤ j → j < i → lev j ≤ reached
 
@@ -190,29 +266,58 @@ module _ (l : ℕ) (axes : List (List ℕ)) (axis lev : ℕ → ℕ) (low start 
   -- a segment begins
   pub listed-none : (s : List ℕ) (i : ℕ) → i ≤ start → Listed l axes axis lev low start low u s i
   listed-none s i h = record {
-    heads = λ v a b. absurd (omega arith);
+    oldests = λ v a b. absurd (omega arith);
+    newests = λ v a b. absurd (omega arith);
     nexts = λ j a b c. absurd (omega arith);
     placed = λ j a b c. absurd (omega arith);
     most = λ j a b. absurd (omega arith);
   }
 
   module _ {reached : ℕ} {s : List ℕ} {i : ℕ} (h : Listed l axes axis lev low start reached u s i) where
-    newest-more : {v p : ℕ} → lev i ≢ v → Newest lev start v i p → Newest lev start v (i + 1) p
-    newest-more {v} {p} n w = record {
-      below = omega (arith, w .below);
+    -- item i is of another level
+    first-more : {from v p : ℕ} → lev i ≢ v → First lev u from v i p → First lev u from v (i + 1) p
+    first-more {from} {v} {p} n w = record {
+      after = w .after;
+      below = λ a. omega (arith, w .below a);
       level = w .level;
       none = λ j a b c e. go j a b c e (ℕ-discrete j i);
     }
       where
-        go : (j : ℕ) → start ≤ j → p ≤ j → j < i + 1 → lev j ≡ v → Dec (j ≡ i) → ⊥
+        go : (j : ℕ) → from ≤ j → j < p → j < i + 1 → lev j ≡ v → Dec (j ≡ i) → ⊥
         go j a b c e (yes k) = n (ap lev (sym k) ∙ e)
         go j a b c e (no k) = w .none j a b (omega arith) e
+
+    newest-more : {v p : ℕ} → lev i ≢ v → Newest lev start v i p → Newest lev start v (i + 1) p
+    newest-more {v} {p} n w = record {
+      after = w .after;
+      below = omega (arith, w .below);
+      level = w .level;
+      none = λ j a b e. go j a b e (ℕ-discrete j i);
+    }
+      where
+        go : (j : ℕ) → p < j → j < i + 1 → lev j ≡ v → Dec (j ≡ i) → ⊥
+        go j a b e (yes k) = n (ap lev (sym k) ∙ e)
+        go j a b e (no k) = w .none j a (omega arith) e
+
+    -- one of the level stands before item i
+    first-same : {from v p m : ℕ} → from ≤ m → m < i → lev m ≡ v → First lev u from v i p → First lev u from v (i + 1) p
+    first-same {from} {v} {p} {m} a b e w = record {
+      after = w .after;
+      below = λ c. omega (arith, w .below c);
+      level = w .level;
+      none = λ j c d f g. w .none j c d (omega (arith, reached-there (decLt m p))) g;
+    }
+      where
+        reached-there : Dec (m < p) → p ≤ m
+        reached-there (yes k) = absurd (w .none m a k b e)
+        reached-there (no k) = omega arith
 
     -- item i has no level above low
     pub listed-low : lev i ≤ low → low ≤ reached → Listed l axes axis lev low start reached u s (i + 1)
     listed-low k b = record {
-      heads = λ v c d. newest-more (omega arith) (h .heads v c d);
-      nexts = λ j c d e. h .nexts j c (below j d e) e;
+      oldests = λ v c d. first-more (omega arith) (h .oldests v c d);
+      newests = λ v c d. newest-more (omega arith) (h .newests v c d);
+      nexts = λ j c d e. first-more (omega arith) (h .nexts j c (below j d e) e);
       placed = λ j c d e. h .placed j c (below j d e) e;
       most = λ j c d. up j c d (ℕ-discrete j i);
     }
@@ -229,36 +334,93 @@ module _ (l : ℕ) (axes : List (List ℕ)) (axis lev : ℕ → ℕ) (low start 
         up j c d (no q) = h .most j c (omega arith)
 
     -- item i is entered at its level, at most one above those reached
-    module _ {v sig : ℕ} {t : List ℕ} (order : start ≤ i) (e : lev i ≡ v) (high : low < v) (next : v ≤ reached + 1)
+    module _ {v sig : ℕ} {t : List ℕ} (order : start ≤ i) (here : i < u) (e : lev i ≡ v) (high : low < v) (next : v ≤ reached + 1)
         (within : SupportWithin l sig (wordOf axes (axis i))) (w : Entered u s reached v i sig t) where
-      newest-own : {p : ℕ} → p ≡ i + 1 → Newest lev start v (i + 1) p
+      -- the newest so far, where there is one
+      last : v ≤ reached → Newest lev start v i (newestAt s u v)
+      last k = h .newests v high k
+
+      oldest-own : Dec (reached < v) → First lev u start v (i + 1) (oldestAt t u v)
+      oldest-own (yes q) =
+          subst (First lev u start v (i + 1)) (sym (w .oldest q))
+          (record {
+            after = order;
+            below = λ _. omega arith;
+            level = λ _. e;
+            none = λ j a b c d. omega (arith, h .most j a b);
+          })
+      oldest-own (no q) =
+          let k : v ≤ reached = omega arith in
+          subst (First lev u start v (i + 1)) (sym (w .oldests v (omega arith) (λ _. k)))
+          (first-same (last k .after) (last k .below) (last k .level) (h .oldests v high k))
+
+      oldests-more : (x : ℕ) → low < x → x ≤ max reached v → Dec (x ≡ v) → First lev u start x (i + 1) (oldestAt t u x)
+      oldests-more x a b (yes q) =
+          subst (λ (y : ℕ). First lev u start y (i + 1) (oldestAt t u y)) (sym q) (oldest-own (decLt reached v))
+      oldests-more x a b (no q) =
+          subst (First lev u start x (i + 1)) (sym (w .oldests x (omega arith) (λ z. absurd (q z))))
+          (first-more (λ z. q (omega arith)) (h .oldests x a (omega arith)))
+
+      newest-own : {p : ℕ} → p ≡ i → Newest lev start v (i + 1) p
       newest-own {p} q = record {
+        after = omega arith;
         below = omega arith;
-        level = λ _. ap lev (let z : p - 1 ≡ i = omega arith in z) ∙ e;
-        none = λ j a b c d. absurd (omega arith);
+        level = ap lev q ∙ e;
+        none = λ j a b d. absurd (omega arith);
       }
 
-      heads-more : (x : ℕ) → low < x → x ≤ max reached v → Dec (x ≡ v) → Newest lev start x (i + 1) (headAt t u x)
-      heads-more x a b (yes q) = subst (λ (y : ℕ). Newest lev start y (i + 1) (headAt t u y)) (sym q) (newest-own (w .head))
-      heads-more x a b (no q) =
-          subst (Newest lev start x (i + 1)) (sym (w .heads x (omega arith) q))
-          (newest-more (λ z. q (omega arith)) (h .heads x a (omega arith)))
+      newests-more : (x : ℕ) → low < x → x ≤ max reached v → Dec (x ≡ v) → Newest lev start x (i + 1) (newestAt t u x)
+      newests-more x a b (yes q) = subst (λ (y : ℕ). Newest lev start y (i + 1) (newestAt t u y)) (sym q) (newest-own (w .newest))
+      newests-more x a b (no q) =
+          subst (Newest lev start x (i + 1)) (sym (w .newests x (omega arith) q))
+          (newest-more (λ z. q (omega arith)) (h .newests x a (omega arith)))
 
-      next-own : Dec (reached < v) → Newest lev start v i (nextAt t u i)
-      next-own (yes q) =
-          subst (Newest lev start v i) (sym (w .next .new q))
+      -- none is behind item i
+      next-own : First lev u (i + 1) (lev i) (i + 1) (nextAt t u i)
+      next-own =
+          subst (First lev u (i + 1) (lev i) (i + 1)) (sym (w .next))
           (record {
-            below = omega arith;
-            level = λ z. absurd (omega arith);
-            none = λ j a b c d. omega (arith, h .most j a c);
+            after = omega arith;
+            below = λ a. absurd (omega arith);
+            level = λ a. absurd (omega arith);
+            none = λ j a b c d. absurd (omega arith);
           })
-      next-own (no q) = subst (Newest lev start v i) (sym (w .next .old (omega arith))) (h .heads v high (omega arith))
 
-      nexts-more : (j : ℕ) → start ≤ j → j < i + 1 → low < lev j → Dec (j ≡ i) → Newest lev start (lev j) j (nextAt t u j)
-      nexts-more j a b c (yes q) =
-          subst (λ (y : ℕ). Newest lev start (lev y) y (nextAt t u y)) (sym q)
-          (subst (λ (y : ℕ). Newest lev start y i (nextAt t u i)) (sym e) (next-own (decLt reached v)))
-      nexts-more j a b c (no q) = subst (Newest lev start (lev j) j) (sym (w .nexts j q)) (h .nexts j a (omega arith) c)
+      -- item i is behind the newest so far
+      next-linked : (j : ℕ) → v ≤ reached → j ≡ newestAt s u v → First lev u (j + 1) (lev j) (i + 1) (nextAt t u j)
+      next-linked j k q =
+          let own : lev j ≡ v = ap lev q ∙ last k .level in
+          subst (First lev u (j + 1) (lev j) (i + 1)) (sym (ap (nextAt t u) q ∙ w .linked k))
+          (record {
+            after = omega (arith, last k .below);
+            below = λ _. omega arith;
+            level = λ _. e ∙ sym own;
+            none = λ m a b c d. last k .none m (omega arith) b (d ∙ own);
+          })
+
+      -- all others stay
+      next-same : (j : ℕ) → start ≤ j → j < i → low < lev j → (v ≤ reached → j ≢ newestAt s u v) → Dec (lev j ≡ v)
+          → First lev u (j + 1) (lev j) (i + 1) (nextAt t u j)
+      next-same j a b c n (yes q) =
+          let k : v ≤ reached = omega (arith, h .most j a b) in
+          subst (First lev u (j + 1) (lev j) (i + 1)) (sym (w .nexts j (omega arith) n))
+          (first-same (omega (arith, before k (decLt (newestAt s u v) j))) (last k .below) (last k .level ∙ sym q) (h .nexts j a b c))
+        where
+          before : v ≤ reached → Dec (newestAt s u v < j) → j < newestAt s u v
+          before k (yes m) = absurd (last k .none j m b q)
+          before k (no m) = omega (arith, n k)
+      next-same j a b c n (no q) =
+          subst (First lev u (j + 1) (lev j) (i + 1)) (sym (w .nexts j (omega arith) n)) (first-more (λ z. q (sym z ∙ e)) (h .nexts j a b c))
+
+      next-before : (j : ℕ) → start ≤ j → j < i → low < lev j → Dec (v ≤ reached) → Dec (j ≡ newestAt s u v)
+          → First lev u (j + 1) (lev j) (i + 1) (nextAt t u j)
+      next-before j a b c (yes k) (yes q) = next-linked j k q
+      next-before j a b c (yes k) (no q) = next-same j a b c (λ _. q) (ℕ-discrete (lev j) v)
+      next-before j a b c (no k) q = next-same j a b c (λ z. absurd (k z)) (ℕ-discrete (lev j) v)
+
+      nexts-more : (j : ℕ) → start ≤ j → j < i + 1 → low < lev j → Dec (j ≡ i) → First lev u (j + 1) (lev j) (i + 1) (nextAt t u j)
+      nexts-more j a b c (yes q) = subst (λ (y : ℕ). First lev u (y + 1) (lev y) (i + 1) (nextAt t u y)) (sym q) next-own
+      nexts-more j a b c (no q) = next-before j a (omega arith) c (decLe v reached) (ℕ-discrete j (newestAt s u v))
 
       -- earlier ones stay
       union-more : {x : ℕ} → low < x → x ≤ reached → (k : ℕ) → bit (unionAt s u x) k ≡ 1 → Dec (x ≡ v) → bit (unionAt t u x) k ≡ 1
@@ -286,7 +448,8 @@ module _ (l : ℕ) (axes : List (List ℕ)) (axis lev : ℕ → ℕ) (low start 
 
       pub listed-more : Listed l axes axis lev low start (max reached v) u t (i + 1)
       listed-more = record {
-        heads = λ x a b. heads-more x a b (ℕ-discrete x v);
+        oldests = λ x a b. oldests-more x a b (ℕ-discrete x v);
+        newests = λ x a b. newests-more x a b (ℕ-discrete x v);
         nexts = λ j a b c. nexts-more j a b c (ℕ-discrete j i);
         placed = λ j a b c. placed-more j a b c (ℕ-discrete j i);
         most = λ j a b. most-more j a b (ℕ-discrete j i);

@@ -56,7 +56,7 @@ module _ {z : Shape} {c : StreamRules} {st : State} {a k : ℕ} {ws xs : List �
     a-now : a < s .axes
     a-now =
         let longer : length (p .store .axes) ≤ length (carryAxis (z .l) p a .store .axes)
-          = unfold carryAxis in (intern-grows (z .l) _ (p .store) _ .longer) in
+        = unfold carryAxis in (intern-grows (z .l) _ (p .store) _ .longer) in
         omega (arith, axes-count (carried-at (h .carry) call e .holds), a-old)
 
     pub taking-there : TakingAt z c s (s .id) k′ a ws′ xs′ m n (carryAxis (z .l) p a)

@@ -2,18 +2,17 @@
 use mathlib.Core.Path.{_≡_, refl, subst}
 use mathlib.Core.Bool.{Bool, true}
 use mathlib.Core.List.{List}
-use Prim.Native.Nat.{ℕ, _+_, _*_, _≤_, _<_}
+use Prim.Native.Nat.{ℕ, _*_, _≤_, _<_}
 use native.Mathlib.Omega.{arith}
 use lib.ListN.{length}
 use Rattle.model.specs.declared.Absorption.{Absorption}
-use Rattle.model.specs.Words.{wordOf}
-use Rattle.model.specs.Clifford.{Touched, wordImage}
-use Rattle.model.specs.Stream.{Pass, leaveZero, absorb}
+use Rattle.model.specs.Clifford.{wordImage}
+use Rattle.model.specs.Stream.{Pass}
 use Rattle.layout.specs.declared.Shape.{Shape}
 use Rattle.layout.specs.Rows.{rowCount, carriedFrom}
-use Rattle.layout.specs.Words.{OnlyWords, KeptFrom, kept-then, kept-later, words-kept, words-none}
+use Rattle.layout.specs.Words.{OnlyWords, kept-then, kept-later, words-kept}
 use Rattle.layout.specs.Shape.{granted-same}
-use Rattle.clifford.specs.Holds.{SomeTouched, maskPlace}
+use Rattle.clifford.specs.Holds.{maskPlace}
 use Rattle.absorbing.specs.declared.Source.{Source}
 use Rattle.absorbing.specs.declared.Source.the-variants.{Axis, Unknown}
 use Rattle.absorbing.specs.Absorbing.{CarriesTo}
@@ -21,10 +20,10 @@ use Rattle.carrying.specs.Letters.{axisWord}
 use Rattle.carrying.specs.Carries.{CarriesAt}
 use Rattle.steps.specs.declared.State.{State}
 use Rattle.steps.specs.declared.Step.{Step}
-use Rattle.stream_states.specs.States.{heldOf, PassAt, SomePass, SteppedAs}
+use Rattle.stream_states.specs.States.{heldOf, PassAt}
 use Rattle.stream_states.specs.Output.{pass-behind}
 use Rattle.stream_states.specs.Known.{axes-count, out-few}
-use Rattle.merging.specs.Steps.{LeftAbsorbed, AbsorbingAt}
+use Rattle.merging.specs.Steps.{LeftAbsorbed}
 use Rattle.merging.specs.Taking.{MergedAt}
 use Rattle.merging.specs.Sources.{source-known}
 

@@ -6,7 +6,7 @@ use native.Mathlib.Omega.{arith}
 use lib.ListN.{length}
 use Rattle.pauli.specs.Word.{symplectic}
 use Rattle.model.specs.declared.Absorption.{Absorption}
-use Rattle.model.specs.Words.{Value, wordOf}
+use Rattle.model.specs.Words.{wordOf}
 use Rattle.model.specs.Clifford.{letterImage, wordImage}
 use Rattle.model.specs.Stream.{Pass, axisImage, imageId, carryAxis}
 use Rattle.theory.specs.Ids.{intern-grows}

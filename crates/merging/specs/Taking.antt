@@ -1,5 +1,6 @@
 -- A carried rotation: absorbed at once, merged where `last` names a place that it reaches, or put out. Assumes nothing.
 use mathlib.Core.Path.{_≡_, refl, sym, ap, ap₂, _∙_, subst}
+use mathlib.Core.Logic.{_⊎_, inl, inr}
 use mathlib.Core.Bool.{Bool, true, false, not, _&&_, false≢true}
 use mathlib.Core.List.{List}
 use Prim.Native.Nat.{ℕ, zero, suc, _+_, _-_, _*_, _%_, _≤_, _<_}
@@ -340,6 +341,34 @@ named-in z merging start id xs {v} e n = go merging refl
     go true f = inner (ltb start (lastIn z xs id)) refl (e ∙ if-true _ _ f)
     go false f = absurd (n (e ∙ if-false _ _ f))
 
+-- the place that is named, where it is reached
+pub record PlacePre (z : Shape) (c : StreamRules) (st : State) (id : ℕ) (ws xs : List ℕ) : Type 0 where
+  pub last : LastPre z id xs
+  pub reach : (v : ℕ) → v ≡ lastSaid z (c .merge) (st .start) id xs → (v ≡ 0 → ⊥) → ReachPre (sizesOf z (st .axes)) (st .out) (v - 1) id ws xs
+
+pub record PlaceFor (z : Shape) (c : StreamRules) (st : State) (id : ℕ) (ws xs : List ℕ) (r : ℕ) : Type 0 where
+  pub named : ℕ
+  pub said : named ≡ lastSaid z (c .merge) (st .start) id xs
+  pub none : r ≡ 0 → (named ≡ 0) ⊎ ((named ≡ 0 → ⊥) × (reaches (sizesOf z (st .axes)) (c .lookback) (st .out) (named - 1) id ws xs ≡ false))
+  pub some : (r ≡ 0 → ⊥) → (r ≡ named) × (reaches (sizesOf z (st .axes)) (c .lookback) (st .out) (named - 1) id ws xs ≡ true)
+
+-- what the scan says, by the sizes that were worked out
+sized-as : (z : Shape) (c : StreamRules) (st : State) (id v : ℕ) (ws xs : List ℕ) {y : Sizes} {s : Bool} → y ≡ sizesOf z (st .axes)
+    → s ≡ reaches y (c .lookback) (st .out) (v - 1) id ws xs → s ≡ reaches (sizesOf z (st .axes)) (c .lookback) (st .out) (v - 1) id ws xs
+sized-as z c st id v ws xs sizes scan = scan ∙ ap (λ (x : Sizes). reaches x (c .lookback) (st .out) (v - 1) id ws xs) sizes
+
+module _ {z : Shape} {c : StreamRules} {st : State} {id : ℕ} {ws xs : List ℕ} {v : ℕ} (last : v ≡ lastSaid z (c .merge) (st .start) id xs) where
+  pub place-nowhere : v ≡ 0 → PlaceFor z c st id ws xs 0
+  place-nowhere e = record { named = v; said = last; none = λ f. inl e; some = λ n. absurd (n refl) }
+
+  module _ (named : v ≡ 0 → ⊥) {y : Sizes} (sizes : y ≡ sizesOf z (st .axes)) {s : Bool}
+      (scan : s ≡ reaches y (c .lookback) (st .out) (v - 1) id ws xs) where
+    pub place-far : s ≡ false → PlaceFor z c st id ws xs 0
+    place-far e = record { named = v; said = last; none = λ f. inr (named, sym (sized-as z c st id v ws xs sizes scan) ∙ e); some = λ n. absurd (n refl) }
+
+    pub place-reached : s ≡ true → PlaceFor z c st id ws xs v
+    place-reached e = record { named = v; said = last; none = λ f. absurd (named f); some = λ n. (refl, sym (sized-as z c st id v ws xs sizes scan) ∙ e) }
+
 -- ---- taking a rotation
 
 pub record TakingAt (z : Shape) (c : StreamRules) (st : State) (id k a : ℕ) (ws xs : List ℕ) (m : Absorption) (n : ℕ)
@@ -420,6 +449,14 @@ module _ {z : Shape} {c : StreamRules} {st : State} {id k a : ℕ} {ws xs : List
         ∙ ap₂ (λ (axes : List (List ℕ)) (is : List Item). canReach (z .l) (c .lookback) axes is (v - 1) id)
         (h .at .holds .clifford .axes .are) (sym (h .at .holds .out-is))
 
+module _ {z : Shape} {c : StreamRules} {st : State} {id k a : ℕ} {ws xs : List ℕ} {m : Absorption} {n : ℕ} {p : Pass}
+    (h : TakingAt z c st id k a ws xs m n p) where
+  pub taking-place : PlacePre z c st id ws xs
+  taking-place = record { last = taking-last h; reach = λ v last named. taking-reach h last named refl }
+
+  pub taking-there : {r : ℕ} → PlaceFor z c st id ws xs r → (r ≡ 0 → ⊥) → MergingAt z c st (r - 1) id k a ws xs m n p
+  taking-there o some = taking-merges h (o .some some .0 ∙ o .said) some
+
 -- the model's, for the rules g
 module _ {z : Shape} {c : StreamRules} {g : Rules} (rules : RulesAs c g) {st : State} {id k a : ℕ} {ws xs : List ℕ} {n : ℕ} {p : Pass}
     (h : TakingAt z c st id k a ws xs (g .absorption) n p) {t : Bool} (once : t ≡ (isAtOnce (c .absorption) && isEven k)) where
@@ -457,6 +494,24 @@ module _ {z : Shape} {c : StreamRules} {g : Rules} (rules : RulesAs c g) {st : S
       unfolding placeNamed mergeOrPutOut
       take-merges f =
           take-place ∙ ap (λ (x : ℕ). mergeOrPutOut (z .l) g p id k (placeNamed x)) one ∙ if-true _ _ (sym reach-is ∙ f)
+
+  -- by the place that was found
+  module _ (e : t ≡ false) {r : ℕ} (o : PlaceFor z c st id ws xs r) where
+    pub take-out : r ≡ 0 → takeRotation (z .l) g (c .merge) p id k ≡ putOutRotation p id k
+    take-out f = go (o .none f)
+      where
+        go : (o .named ≡ 0) ⊎ ((o .named ≡ 0 → ⊥) × (reaches (sizesOf z (st .axes)) (c .lookback) (st .out) (o .named - 1) id ws xs ≡ false))
+            → takeRotation (z .l) g (c .merge) p id k ≡ putOutRotation p id k
+        go (inl d) = take-nowhere e (o .said) d
+        go (inr d) = take-far e (o .said) (d .0) refl refl (d .1)
+
+    pub take-there : (r ≡ 0 → ⊥) → takeRotation (z .l) g (c .merge) p id k
+        ≡ mergeAt (z .l) (g .absorption) (countMerge p) (r - 1) id ((angleAt (p .out) (r - 1) + k) % 8)
+    take-there some =
+        let w = o .some some in
+        let reached : reaches (sizesOf z (st .axes)) (c .lookback) (st .out) (r - 1) id ws xs ≡ true
+        = ap (λ (x : ℕ). reaches (sizesOf z (st .axes)) (c .lookback) (st .out) (x - 1) id ws xs) (w .0) ∙ w .1 in
+        take-merges e (w .0 ∙ o .said) some refl refl reached
 
 -- ---- the answers
 

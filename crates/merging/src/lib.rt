@@ -14,7 +14,7 @@ ghost use Rattle.absorbing.specs.Absorbing.{CarriesTo};
 ghost use Rattle.stream_states.specs.States.{heldOf, SomePass, LeftS, SteppedAs, RulesAs};
 ghost use Rattle.merging.specs.Reach.{BlocksPre, passes, ReachPre, reaches};
 ghost use Rattle.merging.specs.Steps.{isLater, NamePre, PlaceNamed, PutPre, OutPut, LeftAbsorbed, ZeroPre, ZeroLeft, AbsorbingAt};
-ghost use Rattle.merging.specs.Taking.{MergedAt, MergingAt, lastSaid, LastPre, TakingAt};
+ghost use Rattle.merging.specs.Taking.{MergedAt, MergingAt, lastSaid, LastPre, PlacePre, PlaceFor, TakingAt};
 ghost use Rattle.merging.specs.LookedUp.{SourceAt};
 ghost use Rattle.merging.specs.Carried.{CarryingAt};
 use absorbing::Source;
@@ -186,7 +186,14 @@ fn absorb_merged(
 }
 
 // Axis a, if F carries it to axis id.
-fn source_of(words: &mut [u64], numbers: &[u32], shape: Shape, st: State, a: usize, id: usize) -> Source
+fn source_of(
+    words: &mut [u64],
+    numbers: &[u32],
+    shape: Shape,
+    st: State,
+    a: usize,
+    id: usize,
+) -> Source
     requires { ⌜ SomePass (λ m n p. SourceAt shape st id (now words) (now numbers) m n p) ⌝ }
     ensures { λ r. ⌜ OnlyWords (shape .limit) (maskPlace shape) (now (words .entry)) (now (words .exit))
         × ((m : Absorption) (n : ℕ) (p : Pass) → SourceAt shape st id (now (words .entry)) (now (numbers .entry)) m n p
@@ -267,6 +274,30 @@ fn last_of(numbers: &[u32], shape: Shape, rules: StreamRules, st: State, id: usi
     if st.start < v { v } else { 0 }
 }
 
+// The place that `last` names for axis id, plus 1, if it is reached; else 0. By itself, so that a rotation is put out at one place of `take`,
+// which the compiler then puts into the loop over the items.
+fn place_for(
+    words: &[u64],
+    numbers: &[u32],
+    shape: Shape,
+    rules: StreamRules,
+    st: State,
+    id: usize,
+) -> usize
+    requires { ⌜ PlacePre shape rules st id (now words) (now numbers) ⌝ }
+    ensures { λ r. ⌜ PlaceFor shape rules st id (now (words .entry)) (now (numbers .entry)) r ⌝ }
+{
+    let last = last_of(numbers, shape, rules, st, id);
+    if last == 0 {
+        return 0;
+    }
+    let z = axes::sizes_of(shape, st.axes);
+    if !can_reach(words, numbers, z, rules.lookback, st.out, last - 1, id) {
+        return 0;
+    }
+    last
+}
+
 // A rotation by angle k about axis id, which was carried: absorbed, merged or put out.
 fn take(
     words: &mut [u64],
@@ -288,16 +319,11 @@ fn take(
     if at_once(rules, k) {
         return absorb(words, numbers, shape, st, id, k, Source::Axis(a));
     }
-    let last = last_of(&numbers[..], shape, rules, st, id);
-    if last == 0 {
+    let place = place_for(&words[..], &numbers[..], shape, rules, st, id);
+    if place == 0 {
         return Step::Next(put_out(numbers, shape, rules, st, id, k, a));
     }
-    let z = axes::sizes_of(shape, st.axes);
-    let lookback = rules.lookback;
-    if !can_reach(&words[..], &numbers[..], z, lookback, st.out, last - 1, id) {
-        return Step::Next(put_out(numbers, shape, rules, st, id, k, a));
-    }
-    merge(words, numbers, shape, rules, st, last - 1, id, k, a)
+    merge(words, numbers, shape, rules, st, place - 1, id, k, a)
 }
 
 // A rotation by an angle about axis a is carried through F, and taken.

@@ -42,9 +42,11 @@ returns-2 c =
     let turn = c .before .before .before .before in
     let t = turn .before .before .before .before in
     let touch-all = t .before .before .before .before .before .before in
-    let start = touch-all .before .before .before .before .before in
-    ( absorb-left (touch-all .touch-all .ensures) (t .t .given .1) (turn .turn .ensures) (start .pre), absorb-holds
-    (touch-all .touch-all .ensures) (t .t .given .1) (turn .turn .ensures), )
+    let start = touch-all .before .before .before .before .before in (
+      absorb-left (touch-all .touch-all .ensures) (t .t .given .1) (turn .turn .ensures) (start .pre),
+      absorb-holds
+          (touch-all .touch-all .ensures) (t .t .given .1) (turn .turn .ensures),
+    )
 
 pub absorb-spec : {M : Type 1} → statement M
 absorb-spec =

@@ -31,10 +31,12 @@ returns c =
     let word-at = axis .before in
     let scratch-at = word-at .before in
     let carry-word = scratch-at .before .before .before .before in
-    let start = carry-word .before .before .before .before in
-    ( carry-word .carry-word .ensures (start .pre .state) (start .pre .it .carry) .words, λ t h. carries-told h
-    (carry-word .carry-word .ensures t (h .carry)) (scratch-at .scratch-at .ensures) (word-at .word-at .ensures) (axis .axis .ensures)
-    (c .same .ensures), )
+    let start = carry-word .before .before .before .before in (
+      carry-word .carry-word .ensures (start .pre .state) (start .pre .it .carry) .words,
+      λ t h. carries-told h
+          (carry-word .carry-word .ensures t (h .carry)) (scratch-at .scratch-at .ensures) (word-at .word-at .ensures) (axis .axis .ensures)
+          (c .same .ensures),
+    )
 
 pub carries-spec : {M : Type 1} → statement M
 carries-spec =

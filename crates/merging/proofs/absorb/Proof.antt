@@ -40,9 +40,11 @@ returns-2 : tie.Need-returns-2
 returns-2 c =
     let t = c .before .before in
     let absorb = t .before .before .before .before .before .before in
-    let start = absorb .before .before .before .before .before in
-    (f-next (absorb .absorb .ensures) (start .pre .it) (t .t .given .1), λ m n p h. absorbed-next (absorb .absorb .ensures) h
-    (t .t .given .1))
+    let start = absorb .before .before .before .before .before in (
+      f-next (absorb .absorb .ensures) (start .pre .it) (t .t .given .1),
+      λ m n p h. absorbed-next (absorb .absorb .ensures) h
+          (t .t .given .1),
+    )
 
 pub absorb-spec : {M : Type 1} → statement M
 absorb-spec =

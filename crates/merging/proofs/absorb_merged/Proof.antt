@@ -42,9 +42,11 @@ returns-2 : tie.Need-returns-2
 returns-2 c =
     let leave-zero = c .before .before in
     let t = leave-zero .before .before .before in
-    let absorb = t .before .before .before .before .before .before in
-    (merged-left (absorb .absorb .ensures) (t .t .given .1) (leave-zero .leave-zero .ensures), merged-next (absorb .absorb .ensures)
-    (t .t .given .1) (leave-zero .leave-zero .ensures))
+    let absorb = t .before .before .before .before .before .before in (
+      merged-left (absorb .absorb .ensures) (t .t .given .1) (leave-zero .leave-zero .ensures),
+      merged-next (absorb .absorb .ensures)
+          (t .t .given .1) (leave-zero .leave-zero .ensures),
+    )
 
 pub absorb-merged-spec : {M : Type 1} → statement M
 absorb-merged-spec =

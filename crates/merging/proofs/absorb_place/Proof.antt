@@ -19,8 +19,13 @@ absorb-merged-requires : tie.Need-absorb-merged-requires
 absorb-merged-requires c κs =
     let source-of = c .before .before .before .before in
     let start = source-of .before .before .before .before .before .before .before in
-    record { absorption = start .pre .absorption; items = start .pre .items; pass = start .pre .pass; it = with-source (start .pre .it)
-    (source-of .source-of .ensures .0) (source-of .source-of .ensures .1 _ _ _ (waiting-source (start .pre .it))); }
+    record {
+      absorption = start .pre .absorption;
+      items = start .pre .items;
+      pass = start .pre .pass;
+      it = with-source (start .pre .it)
+          (source-of .source-of .ensures .0) (source-of .source-of .ensures .1 _ _ _ (waiting-source (start .pre .it)));
+    }
 
 same-length : tie.Need-same-length
 same-length c = search needs
@@ -31,10 +36,12 @@ same-length-2 c = search needs
 returns : tie.Need-returns
 returns c =
     let absorb-merged = c .before .before .before .before in
-    let source-of = absorb-merged .before .before .before .before .before in
-    ( behind-left (source-of .source-of .ensures .0) (absorb-merged .absorb-merged .ensures .0), λ m n p h.
-    absorb-merged .absorb-merged .ensures .1 m n p
-    (with-source h (source-of .source-of .ensures .0) (source-of .source-of .ensures .1 m n p (waiting-source h))), )
+    let source-of = absorb-merged .before .before .before .before .before in (
+      behind-left (source-of .source-of .ensures .0) (absorb-merged .absorb-merged .ensures .0),
+      λ m n p h.
+          absorb-merged .absorb-merged .ensures .1 m n p
+          (with-source h (source-of .source-of .ensures .0) (source-of .source-of .ensures .1 m n p (waiting-source h))),
+    )
 
 pub absorb-place-spec : {M : Type 1} → statement M
 absorb-place-spec =

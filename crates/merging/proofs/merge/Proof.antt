@@ -28,9 +28,11 @@ returns : tie.Need-returns
 returns c =
     let leave-zero = c .before .before in
     let test = leave-zero .before .before in
-    let angle-at = test .before .before in
-    (zero-left-s (leave-zero .leave-zero .ensures), λ m n p h. merge-to-zero h (angle-at .angle-at .ensures) (test .if1 .taken)
-    (leave-zero .leave-zero .ensures))
+    let angle-at = test .before .before in (
+      zero-left-s (leave-zero .leave-zero .ensures),
+      λ m n p h. merge-to-zero h (angle-at .angle-at .ensures) (test .if1 .taken)
+          (leave-zero .leave-zero .ensures),
+    )
 
 at-once-requires : tie.Need-at-once-requires
 at-once-requires c κs = search needs
@@ -42,8 +44,13 @@ absorb-merged-requires c κs =
     let test′ = at-once .before in
     let angle-at = test′ .before .before in
     let start = angle-at .before .before .before .before in
-    record { absorption = start .pre .absorption; items = start .pre .items; pass = countMerge (start .pre .pass); it = merged-there
-    (start .pre .it) (angle-at .angle-at .ensures) (test′ .if1 .left) (at-once .at-once .ensures) (test .if2 .taken); }
+    record {
+      absorption = start .pre .absorption;
+      items = start .pre .items;
+      pass = countMerge (start .pre .pass);
+      it = merged-there
+          (start .pre .it) (angle-at .angle-at .ensures) (test′ .if1 .left) (at-once .at-once .ensures) (test .if2 .taken);
+    }
 
 same-length-2 : tie.Need-same-length-2
 same-length-2 c = search needs
@@ -57,10 +64,12 @@ returns-2 c =
     let test = absorb-merged .before .before .before in
     let at-once = test .before in
     let test′ = at-once .before in
-    let angle-at = test′ .before .before in
-    ( absorbed-left (absorb-merged .absorb-merged .ensures .0), λ m n p h. merge-at-once h (angle-at .angle-at .ensures) (test′ .if1 .left)
-    (at-once .at-once .ensures) (test .if2 .taken) (absorb-merged .absorb-merged .ensures .1 m n (countMerge p)
-    (merged-there h (angle-at .angle-at .ensures) (test′ .if1 .left) (at-once .at-once .ensures) (test .if2 .taken))), )
+    let angle-at = test′ .before .before in (
+      absorbed-left (absorb-merged .absorb-merged .ensures .0),
+      λ m n p h. merge-at-once h (angle-at .angle-at .ensures) (test′ .if1 .left)
+          (at-once .at-once .ensures) (test .if2 .taken) (absorb-merged .absorb-merged .ensures .1 m n (countMerge p)
+          (merged-there h (angle-at .angle-at .ensures) (test′ .if1 .left) (at-once .at-once .ensures) (test .if2 .taken))),
+    )
 
 cast-put-rotation : tie.Need-cast-put-rotation
 cast-put-rotation c = omega (arith, merging-id (c .before .before .before .before .before .before .before .before .before .pre .it))
@@ -91,10 +100,12 @@ returns-3 c =
     let test = put-rotation .before .before in
     let at-once = test .before in
     let test′ = at-once .before in
-    let angle-at = test′ .before .before in
-    ( merge-left (put-rotation .put-rotation .ensures) (name-place .name-place .ensures), λ m n p h. merge-sets h
-    (angle-at .angle-at .ensures) (test′ .if1 .left) (at-once .at-once .ensures) (put-rotation .put-rotation .ensures) (test .if2 .left)
-    (name-place .name-place .ensures), )
+    let angle-at = test′ .before .before in (
+      merge-left (put-rotation .put-rotation .ensures) (name-place .name-place .ensures),
+      λ m n p h. merge-sets h
+          (angle-at .angle-at .ensures) (test′ .if1 .left) (at-once .at-once .ensures) (put-rotation .put-rotation .ensures) (test .if2 .left)
+          (name-place .name-place .ensures),
+    )
 
 pub merge-spec : {M : Type 1} → statement M
 merge-spec =

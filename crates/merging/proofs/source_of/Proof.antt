@@ -1,5 +1,5 @@
 -- A number that is no axis, or whose image is another word, tells nothing. Assumes nothing.
-use borrow.Author.Tests.{not-true, not-false}
+use borrow.Author.Tests.{not-false}
 use Rattle.layout.specs.Words.{words-none}
 use Rattle.stream_states.specs.States.{heldOf}
 use Rattle.merging.specs.LookedUp.{none-told, carries-at, told}
@@ -28,9 +28,11 @@ same-length-2 c = search needs
 returns-3 : tie.Need-returns-3
 returns-3 c =
     let carries = c .before .before .before in
-    let test = carries .before .before in
-    ( carries .carries .ensures .0, λ m n p h. told h (test .if1 .left)
-    (carries .carries .ensures .1 (heldOf p) (carries-at h (test .if1 .left))) (not-false _ (c .if2 .left)), )
+    let test = carries .before .before in (
+      carries .carries .ensures .0,
+      λ m n p h. told h (test .if1 .left)
+          (carries .carries .ensures .1 (heldOf p) (carries-at h (test .if1 .left))) (not-false _ (c .if2 .left)),
+    )
 
 pub source-of-spec : {M : Type 1} → statement M
 source-of-spec =
