@@ -1,4 +1,5 @@
 // F takes in a quarter, half or three quarter turn about an axis: the axis's qubits are touched, then the images change.
+#![tactic(auto)]
 ghost use Rattle.std.specs.Prelude.{◌≡◌, [], ◌∷◌, ℕ, ◌+◌, ◌*◌, ◌%◌, ◌<◌, ◌≤◌, length, get_or};
 ghost use Rattle.store.specs.Row.{row, Written};
 ghost use Rattle.product.specs.Product.{odd_phase};
@@ -171,7 +172,7 @@ fn turn_acted(words: &mut [u64], numbers: &mut [u32], shape: Shape, at: usize, b
 }
 
 // The axis that F carries to the one that is absorbed, where it is known.
-#[derive(Drop)]
+#[derive(Clone, Copy)]
 pub enum Source {
     Axis(usize),
     Unknown,

@@ -1,13 +1,14 @@
 // Rotation angles and phases.
+#![tactic(auto)]
 ghost use Rattle.std.specs.Prelude.{◌≡◌, ◌%◌};
 ghost use Rattle.angle.specs.Angle.{signed_angle, eighths_of, add_angles, neg_angle, add_phases, neg_phase};
 
 // An angle counts eighths, modulo 8.
-#[derive(Drop)]
+#[derive(Clone, Copy)]
 pub struct PauliAngle(pub u8);
 
 // A phase counts quarter turns, modulo 4: a power of i.
-#[derive(Drop)]
+#[derive(Clone, Copy)]
 pub struct Phase(pub u8);
 
 // The signed angle that each remainder stands for.

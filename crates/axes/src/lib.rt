@@ -1,4 +1,5 @@
 // Stored axes, read: words of 2 l numbers from the start of the word store, axis id at `layout::axis_at`.
+#![tactic(auto)]
 ghost use Rattle.std.specs.Prelude.{◌≡◌, ℕ, ◌+◌, ◌*◌, ◌<◌, ◌≤◌, length};
 ghost use Rattle.store.specs.Wide.{wide_at};
 ghost use Rattle.model.specs.Words.{anticommute, word_of};
@@ -12,7 +13,7 @@ use layout::{SIGNATURE, Shape};
 use pauli::anticommutes;
 
 // Where axes lie and how many there are: the length of a row of the number store, the width of a word, the word limit, the number of axes.
-#[derive(Drop)]
+#[derive(Clone, Copy)]
 pub struct Sizes {
     pub u: usize,
     pub l: usize,

@@ -1,1 +1,2 @@
 // Laws of bits, counts and remainders that the kit lacks; the crates above cite them. No code.
+#![tactic(auto)]

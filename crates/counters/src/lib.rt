@@ -1,4 +1,5 @@
 // The counters: T-counts, rotations and weights before and after.
+#![tactic(auto)]
 ghost use Rattle.std.specs.Prelude.{◌≡◌, ◌+◌, ◌*◌, ◌≤◌, ◌<◌, length};
 ghost use Rattle.model.specs.Program.{is_rotate};
 ghost use Rattle.model.specs.Results.{source_t_count, source_rotations};
@@ -169,7 +170,7 @@ pub fn weight_before(operations: &[u32], words: &[u64], numbers: &[u32], shape: 
 }
 
 // What the run itself has counted: by its passes, the T-depths of its start and end, the source's weight, the largest word sum.
-#[derive(Drop)]
+#[derive(Clone, Copy)]
 pub struct RunCounts {
     pub merges: usize,
     pub swaps: usize,

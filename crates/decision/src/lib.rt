@@ -1,4 +1,5 @@
 // A run up to its last refusal: packing, the items, the passes, the counters. Nothing but the work stores is written.
+#![tactic(auto)]
 ghost use Rattle.std.specs.Prelude.{◌≡◌};
 ghost use Rattle.model.specs.Packing.{packed};
 ghost use Rattle.axes.specs.Held.{sizes_of};
@@ -18,7 +19,7 @@ use packing_answer::Packed;
 use steps::{State, Step};
 
 // What the passes start from: items, the source's weight, its T-depth.
-#[derive(Drop)]
+#[derive(Clone, Copy)]
 pub struct Started {
     pub items: usize,
     pub weight: usize,
@@ -26,7 +27,7 @@ pub struct Started {
 }
 
 // A run that came to its end: items and axes, whether a pass absorbed anything, the counters.
-#[derive(Drop)]
+#[derive(Clone, Copy)]
 pub struct Decided {
     pub items: usize,
     pub axes: usize,
@@ -35,7 +36,7 @@ pub struct Decided {
 }
 
 // How a run ends: accepted, or refused by 9 or 10.
-#[derive(Drop)]
+#[derive(Clone, Copy)]
 pub enum Decision {
     Done(Decided),
     Refused(Answer),

@@ -1,1 +1,2 @@
 // Document 01's effect, and what keeps it. No code.
+#![tactic(auto)]

@@ -1,1 +1,2 @@
 // The exchange pass keeps the effect. No code.
+#![tactic(auto)]

@@ -3,10 +3,10 @@ use Rattle.std.specs.Prelude.{◌≡◌, ℕ, zero, suc, ℤ, pos, negsuc, neg_�
 use Rattle.std.proofs.Math.Path.{refl, sym, ap, ap₂}
 use Rattle.std.proofs.Common.{◌∙◌}
 use mathlib.Core.List.{List, [], ◌∷◌}
-use Rattle.std.proofs.Math.IntN.{-ℤ-+ℤ_cancel}
+use Rattle.std.proofs.Math.IntN.{ -ℤ-+ℤ_cancel}
 use Rattle.groups.specs.Abelian.{Ab, neg_neg, neg_zer, add_right_cancel, swap_mid, nsm, zsm, zsm_add, zsm_neg, zsm_zer, zsm_of_add}
 use Rattle.groups.specs.Abelian.{IsAdd, map_zer, map_neg, map_zsm, map_pow2, dbl, pow2, pow2_add}
-use Rattle.groups.specs.Normaliser.{at, _⊞_, ⊟_, ab, NoTorsion, halve, cancel2}
+use Rattle.groups.specs.Normaliser.{at, ◌⊞◌, ⊟◌, ab, NoTorsion, halve, cancel2}
 
 -- c m is 2 ζ^m, ζ a primitive eighth root of unity
 pub record Turns (M : Ab) : Type 0 where
@@ -31,10 +31,10 @@ pub record Rot (M : Ab) (T : Turns M) : Type 0 where
   pub ρ-neg : (x : M.C) → D x ≡ M.neg x → ρ x ≡ T.c (neg_ℤ k) x
 
 module _ (M : Ab) (T : Turns M) where
-  open M use {C, zer, add as _⊹_, neg, add_comm, add_zer, add_neg}
+  open M use {C, zer, add as ◌⊹◌, neg, add_comm, add_zer, add_neg}
   open T use {c, c_add, c_zero, c_mul, torsion}
 
-  infixl 60 _⊹_
+  infixl 60 ◌⊹◌
   -- ---- the sum of k D over a family, and the product of the rotations
 
   unfoldable pub N : List (Rot M T) → C → C
@@ -58,7 +58,7 @@ module _ (M : Ab) (T : Turns M) where
   unfolding N
   N_add [] x y = sym (add_zer zer)
   N_add (r ∷ A) x y =
-      ap₂ _⊹_ (ap (zsm M r.k) (r.D_add x y) ∙ zsm_of_add M r.k (r.D x) (r.D y)) (N_add A x y)
+      ap₂ ◌⊹◌ (ap (zsm M r.k) (r.D_add x y) ∙ zsm_of_add M r.k (r.D x) (r.D y)) (N_add A x y)
       ∙ swap_mid M (zsm M r.k (r.D x)) (zsm M r.k (r.D y)) (N A x) (N A y)
 
   pub ρs-add : (A : List (Rot M T)) → IsAdd M (ρs A)
@@ -113,7 +113,7 @@ module _ (M : Ab) (T : Turns M) where
     -- two additive maps that agree on the parts agree
     by_parts : (f g : C → C) → IsAdd M f → IsAdd M g → (x : C)
         → f (part₀ x) ≡ g (part₀ x) → f (part₊ x) ≡ g (part₊ x) → f (part₋ x) ≡ g (part₋ x) → f x ≡ g x
-    by_parts f g fa ga x h₀ h₊ h₋ = halve M torsion (f x) (g x) (sym (whole f fa) ∙ ap₂ _⊹_ (ap₂ _⊹_ h₀ h₊) h₋ ∙ whole g ga)
+    by_parts f g fa ga x h₀ h₊ h₋ = halve M torsion (f x) (g x) (sym (whole f fa) ∙ ap₂ ◌⊹◌ (ap₂ ◌⊹◌ h₀ h₊) h₋ ∙ whole g ga)
       where
         whole : (f : C → C) → IsAdd M f → (f (part₀ x) ⊹ f (part₊ x)) ⊹ f (part₋ x) ≡ dbl M (f x)
         whole f fa =
@@ -123,7 +123,7 @@ module _ (M : Ab) (T : Turns M) where
   -- ---- the parts of an eigenvector of the sum are eigenvectors of it
 
   eig_add : (A : List (Rot M T)) (m : ℤ) (x y : C) → Eigen A m x → Eigen A m y → Eigen A m (x ⊹ y)
-  eig_add A m x y p q = N_add A x y ∙ ap₂ _⊹_ p q ∙ sym (zsm_of_add M m x y)
+  eig_add A m x y p q = N_add A x y ∙ ap₂ ◌⊹◌ p q ∙ sym (zsm_of_add M m x y)
 
   eig_neg : (A : List (Rot M T)) (m : ℤ) (x : C) → Eigen A m x → Eigen A m (neg x)
   eig_neg A m x p = map_neg M (N A) (N_add A) x ∙ ap neg p ∙ sym (map_neg M (zsm M m) (zsm_of_add M m) x)
@@ -158,7 +158,7 @@ module _ (M : Ab) (T : Turns M) where
   by_eigen (r ∷ A) G f g fa ga h x = by_eigen A G.1 f g fa ga each x
     where
       one : (m : ℤ) (y : C) (p : ℤ) → zsm M r.k (r.D y) ≡ zsm M p y → Eigen A m y → f y ≡ g y
-      one m y p d e = h (p +ℤ m) y (ap₂ _⊹_ d e ∙ sym (zsm_add M p m y))
+      one m y p d e = h (p +ℤ m) y (ap₂ ◌⊹◌ d e ∙ sym (zsm_add M p m y))
 
       each : (m : ℤ) (y : C) → Eigen A m y → f y ≡ g y
       each m y e =
@@ -217,7 +217,7 @@ module _ (M : Ab) (T : Turns M) where
       gr : (y : C) → r.D (N (r ∷ A) y) ≡ N (r ∷ A) (r.D y)
       gr y =
           r.D_add (zsm M r.k (r.D y)) (N A y)
-          ∙ ap₂ _⊹_ (map_zsm M r.D r.D_add r.k (r.D y)) (G.0 y)
+          ∙ ap₂ ◌⊹◌ (map_zsm M r.D r.D_add r.k (r.D y)) (G.0 y)
 
       one : ((q : ℤ) (y : C) → Eigen A q y → dbl M (ρs A y) ≡ pow2 M (length A) (c q y)) → (y : C) (p : ℤ) → r.ρ y ≡ c p y
           → zsm M r.k (r.D y) ≡ zsm M p y → Eigen (r ∷ A) m y → dbl M (r.ρ (ρs A y)) ≡ pow2 M (suc (length A)) (c m y)
@@ -268,7 +268,7 @@ module _ (M : Ab) (T : Turns M) where
   unfolding N
   N_c [] m x = sym (map_zer M (c m) (c_add m))
   N_c (r ∷ A) m x =
-      ap₂ _⊹_ (ap (zsm M r.k) (r.D_c m x) ∙ sym (map_zsm M (c m) (c_add m) r.k (r.D x))) (N_c A m x)
+      ap₂ ◌⊹◌ (ap (zsm M r.k) (r.D_c m x) ∙ sym (map_zsm M (c m) (c_add m) r.k (r.D x))) (N_c A m x)
       ∙ sym (c_add m (zsm M r.k (r.D x)) (N A x))
 
   pub exchange : (A B : List (Rot M T)) → Good A → Good B → ((x : C) → N A (N B x) ≡ N B (N A x)) → (x : C) → ρs A (ρs B x) ≡ ρs B (ρs A x)

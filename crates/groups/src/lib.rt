@@ -1,1 +1,2 @@
 // Abelian groups, their identities by computing, and the exchange theorem. No code.
+#![tactic(auto)]

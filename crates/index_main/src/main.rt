@@ -1,4 +1,5 @@
 // Interns words one after the other, and prints each word's id by its chain and by the scan: 02, M-102, run.
+#![tactic(auto)]
 ghost use Rattle.std.specs.Prelude.{◌≡◌, ◌+◌, ◌<◌, ◌≤◌, length};
 ghost use Rattle.layout.specs.Words.{OnlyWords};
 ghost use Rattle.index_main.specs.Ready.{WordBehind, Ready, ReadyAfter};
@@ -8,7 +9,7 @@ use interning::Interned;
 use model::Counts;
 
 // A word of one number in each plane: x, then z.
-#[derive(Drop)]
+#[derive(Clone, Copy)]
 struct Word(u64, u64);
 
 const COUNT: usize = 22;

@@ -1,4 +1,5 @@
 // Axes found and stored: a word's id among the stored axes, or a new one behind them.
+#![tactic(auto)]
 ghost use Rattle.std.specs.Prelude.{◌≡◌, ◌+◌, ◌^◌, ◌<◌, ◌≤◌, true, length, slice_index};
 ghost use Rattle.model.specs.Words.{id_of};
 ghost use Rattle.layout.specs.Index.{links_place};
@@ -24,7 +25,7 @@ const LOWER: u64 = 2654435769;
 const UPPER: u64 = 2246822519;
 
 // A word among the axes: its id, how many axes there are with it, and the largest word sum that was tested by then.
-#[derive(Drop)]
+#[derive(Clone, Copy)]
 pub struct StoredAxis {
     pub id: usize,
     pub axes: usize,
@@ -32,14 +33,14 @@ pub struct StoredAxis {
 }
 
 // A word is an axis, or the word store is full: the limit leaves no room for a new word.
-#[derive(Drop)]
+#[derive(Clone, Copy)]
 pub enum Interned {
     Axis(StoredAxis),
     Full,
 }
 
 // What the index goes by: a word's numbers added modulo 2^64, and its hash.
-#[derive(Drop)]
+#[derive(Clone, Copy)]
 struct Sums {
     total: u64,
     hash: u64,
@@ -67,7 +68,7 @@ fn sums_of(w: &[u64]) -> Sums
 }
 
 // A word among the axes, or the end of the walk for it: its id, their number if it is none of them, and the place that the walk came to.
-#[derive(Drop)]
+#[derive(Clone, Copy)]
 pub struct Found {
     pub id: usize,
     pub place: usize,
@@ -85,7 +86,7 @@ fn next(z: Sizes, b: usize, digits: u64) -> usize
 }
 
 // Where a walk stands, and the digits by which it goes on.
-#[derive(Drop)]
+#[derive(Clone, Copy)]
 struct Walk {
     place: usize,
     digits: u64,

@@ -1,1 +1,2 @@
 // Rotations and items as the effect's operations. No code.
+#![tactic(auto)]

@@ -1,4 +1,5 @@
 // Jobs of the oracle: reading them, and what a job is lent. See oracle/README.md.
+#![tactic(auto)]
 ghost use Rattle.std.specs.Prelude.{◌<◌, ◌≤◌, length};
 ghost use Rattle.jobs.specs.Within.{Within};
 
@@ -11,7 +12,7 @@ pub use lend::{Lent, Room, least, part};
 pub use read::{numbers, past_blanks};
 
 // A job that is read: its counts and options, whether there is room for it, what it is lent, and the place of the next job.
-#[derive(Drop)]
+#[derive(Clone, Copy)]
 pub struct Job {
     pub counts: Counts,
     pub options: Options,

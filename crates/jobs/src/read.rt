@@ -62,7 +62,7 @@ fn value(s: &[u8]) -> u32 {
 }
 
 // A number, and the place behind it.
-#[derive(Drop)]
+#[derive(Clone, Copy)]
 struct Got {
     v: u32,
     next: usize,
@@ -111,7 +111,7 @@ pub fn pass_over(s: &[u8], from: usize, count: usize) -> usize
 }
 
 // A job's first 18 numbers, and the place behind them.
-#[derive(Drop)]
+#[derive(Clone, Copy)]
 pub struct Header {
     pub qubits: u32,
     pub nodes: u32,

@@ -1,1 +1,2 @@
 // theorems about frame rows that are no roots; no code
+#![tactic(auto)]

@@ -1,1 +1,2 @@
 // The layering pass keeps the effect. No code.
+#![tactic(auto)]

@@ -1,5 +1,6 @@
 // Memory that the gate's programs lend to a call: filled before it, printed after it. Bounds alone are promised: what is
 // printed is held to a kept file. See oracle/README.md, "Memory".
+#![tactic(auto)]
 mod numbers;
 mod out;
 mod words;

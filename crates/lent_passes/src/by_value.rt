@@ -14,19 +14,19 @@ use model::{Counters, ExchangeRules};
 use steps::Step;
 use stream_states::StreamRules;
 
-#[derive(Drop)]
+#[derive(Clone, Copy)]
 pub struct Streamed {
     pub outcome: Step,
     pub stats: Counters,
 }
 
-#[derive(Drop)]
+#[derive(Clone, Copy)]
 pub struct Swapped {
     pub outcome: Progress,
     pub stats: Counters,
 }
 
-#[derive(Drop)]
+#[derive(Clone, Copy)]
 pub struct Layered {
     pub outcome: Layering,
     pub stats: Counters,

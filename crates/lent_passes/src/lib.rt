@@ -1,4 +1,5 @@
 // Each pass, lent the run's counters: the core by value, then one adder.
+#![tactic(auto)]
 ghost use Rattle.std.specs.Prelude.{◌≡◌, ◌+◌, ◌<◌, ◌^◌};
 ghost use Rattle.lent_passes.specs.Raised.{more_merges, more_swaps};
 ghost use Rattle.stream.specs.Passing.{PassAtWork, SomeWork};
@@ -17,7 +18,7 @@ use steps::Step;
 use stream_states::StreamRules;
 
 // How a stream ends, and what it counted: 0 where it is refused.
-#[derive(Drop)]
+#[derive(Clone, Copy)]
 pub struct Counted {
     pub outcome: Step,
     pub merges: usize,

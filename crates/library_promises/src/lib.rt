@@ -1,1 +1,2 @@
 // what calls of the exported functions leave: theorems, no code
+#![tactic(auto)]

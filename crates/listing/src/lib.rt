@@ -1,4 +1,5 @@
 // Listing: 01's text in, its text out.
+#![tactic(auto)]
 ghost use Rattle.checking.specs.Call.{lent_of};
 ghost use Rattle.listing_call.specs.Call.{ListingCalled};
 ghost use Rattle.listing.specs.Listed.{RunPre, RunCall};
@@ -10,7 +11,7 @@ use model::{Answer, Counts};
 pub const MOST_BYTES: usize = 215369;
 
 // What Listing answers: the text is the first `size` bytes of the output.
-#[derive(Drop)]
+#[derive(Clone, Copy)]
 pub struct Listed {
     pub answer: Answer,
     pub size: usize,

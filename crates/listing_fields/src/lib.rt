@@ -1,4 +1,5 @@
 // A listing's line as numbers: its fields, in columns of one width, and what else a record's line must be.
+#![tactic(auto)]
 mod field;
 mod record;
 
@@ -13,7 +14,7 @@ pub use record::line;
 const MINUS: u32 = 4294967295;
 
 // What a field holds.
-#[derive(Drop)]
+#[derive(Clone, Copy)]
 pub enum Number {
     Value(u32),
     Bad,

@@ -1,1 +1,2 @@
 // what calls of Listing leave and print: theorems, no code
+#![tactic(auto)]

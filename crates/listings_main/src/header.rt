@@ -2,7 +2,7 @@
 ghost use Rattle.std.specs.Prelude.{◌≤◌, length};
 
 // The text's place, and the slices' lengths.
-#[derive(Drop)]
+#[derive(Clone, Copy)]
 pub struct Header {
     pub from: usize,
     pub to: usize,

@@ -1,5 +1,6 @@
 // Runs Listing on the texts of its input, and prints what it answers and prints and what the lent slices hold. Reading and
 // printing promise bounds alone: what is printed is held to a kept file. See oracle/README.md, "The gate's listings".
+#![tactic(auto)]
 mod call;
 mod header;
 mod memory;

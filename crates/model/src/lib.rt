@@ -1,16 +1,17 @@
 // The types of the interface. Document 01 itself is in specs/.
+#![tactic(auto)]
 ghost use Rattle.std.specs.Prelude.{◌≡◌};
 ghost use Rattle.model.specs.Interface.{number_of, no_counters, defaults_at};
 
 // Which algorithm to run.
-#[derive(Drop)]
+#[derive(Clone, Copy)]
 pub enum Strategy {
     Merge,
     Litinski,
 }
 
 // Whether even rotations wait: none, all, or those behind a measurement or conditional rotation, named by its place in the program.
-#[derive(Drop)]
+#[derive(Clone, Copy)]
 pub enum Lazy {
     Off,
     On,
@@ -18,7 +19,7 @@ pub enum Lazy {
 }
 
 // What becomes of even rotations now: they stay, are absorbed at their turn, or wait.
-#[derive(Drop)]
+#[derive(Clone, Copy)]
 pub enum Absorption {
     Off,
     AtOnce,
@@ -26,7 +27,7 @@ pub enum Absorption {
 }
 
 // The options of `OptimizeOptions`, the order of ties and the place of a change to lazy absorption, which it does not have.
-#[derive(Drop)]
+#[derive(Clone, Copy)]
 pub struct Options {
     pub lookback: usize,
     pub window: usize,
@@ -42,7 +43,7 @@ pub struct Options {
 }
 
 // What an exchange goes by, of the options.
-#[derive(Drop)]
+#[derive(Clone, Copy)]
 pub struct ExchangeRules {
     pub window: usize,
     pub candidates: usize,
@@ -73,7 +74,7 @@ pub fn defaults(limit: usize) -> Options
 pub const COLUMNS: usize = 8;
 
 // How many qubits, nodes and operations a program has.
-#[derive(Drop)]
+#[derive(Clone, Copy)]
 pub struct Counts {
     pub qubits: usize,
     pub nodes: usize,
@@ -81,7 +82,7 @@ pub struct Counts {
 }
 
 // What a call answers.
-#[derive(Drop)]
+#[derive(Clone, Copy)]
 pub enum Answer {
     Accepted,
     CountOutside,
@@ -120,7 +121,7 @@ pub fn number_of(a: Answer) -> u32
 }
 
 // The run's counters: those of `OptimizeStats`, without the axis summaries, and the largest word sum that was tested.
-#[derive(Drop)]
+#[derive(Clone, Copy)]
 pub struct Counters {
     pub t_before: usize,
     pub t_after: usize,

@@ -1,4 +1,5 @@
 // Rewriting by value: Checking, then the decision, then the results or zeros. Nothing is written into the results before the last refusal.
+#![tactic(auto)]
 ghost use Rattle.std.specs.Prelude.{◌≡◌};
 ghost use Rattle.checking.specs.Call.{job_of, lent_of};
 ghost use Rattle.optimize.specs.Reply.{reply_of, refused_by, StoppedAs};
@@ -10,7 +11,7 @@ use layout::Shape;
 use model::{Answer, Counters, Counts, Options};
 
 // What a call hands back: the answer, the counters, how many operations came out, how many axes are stored.
-#[derive(Drop)]
+#[derive(Clone, Copy)]
 pub struct Rewritten {
     pub answer: Answer,
     pub counters: Counters,

@@ -1,4 +1,5 @@
 // Packing: used nodes by rising index, each value in a slot, each root stored at its node's turn.
+#![tactic(auto)]
 ghost use Rattle.std.specs.Prelude.{◌≡◌, suc};
 ghost use Rattle.model.specs.Program.{Program};
 ghost use Rattle.packing_states.specs.References.{total};
@@ -19,7 +20,7 @@ use packing_answer::Packed;
 use records::NodeRecord;
 
 // Axes stored, the largest word sum that was tested, slots allocated, slots on the free stack, and the slot taken last.
-#[derive(Drop)]
+#[derive(Clone, Copy)]
 struct Slots {
     axes: usize,
     peak: usize,
@@ -29,14 +30,14 @@ struct Slots {
 }
 
 // Where a node's word is, and its phase.
-#[derive(Drop)]
+#[derive(Clone, Copy)]
 struct ValueHeld {
     at: usize,
     phase: u32,
 }
 
 // How a step ends: the slots then, or a refusal.
-#[derive(Drop)]
+#[derive(Clone, Copy)]
 enum PackStep {
     Next(Slots),
     NonHermitianAxis,

@@ -1,11 +1,12 @@
 // How packing ends, and the answer that this is.
+#![tactic(auto)]
 ghost use Rattle.std.specs.Prelude.{◌≡◌};
 ghost use Rattle.packing_answer.specs.Answer.{packing_answer};
 
 use model::Answer;
 
 // With so many axes and the largest word sum that was tested, or refused.
-#[derive(Drop)]
+#[derive(Clone, Copy)]
 pub enum Packed {
     Axes { count: usize, peak: usize },
     NonHermitianAxis,

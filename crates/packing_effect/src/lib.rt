@@ -1,1 +1,2 @@
 // The packed program has the source's effect. No code.
+#![tactic(auto)]

@@ -1,1 +1,2 @@
 // what calls of the public functions leave: theorems, no code
+#![tactic(auto)]

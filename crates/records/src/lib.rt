@@ -1,9 +1,10 @@
 // A program's records, read by number.
+#![tactic(auto)]
 ghost use Rattle.std.specs.Prelude.{◌≡◌, ◌+◌, ◌*◌, ◌≤◌, length};
 ghost use Rattle.records.specs.Records.{node_record, operation_record, row_record};
 
 // A node: kind 0 identity; 1 a letter on a qubit, these in the left factor's two fields; 2 a product of nodes with phases.
-#[derive(Drop)]
+#[derive(Clone, Copy)]
 pub struct NodeRecord {
     pub kind: u32,
     pub left: u32,
@@ -13,7 +14,7 @@ pub struct NodeRecord {
 }
 
 // An operation: kind 1 rotate, 2 measure, 3 conditional.
-#[derive(Drop)]
+#[derive(Clone, Copy)]
 pub struct OperationRecord {
     pub kind: u32,
     pub node: u32,
@@ -24,7 +25,7 @@ pub struct OperationRecord {
 }
 
 // A frame row: qubit, 0 x or 1 z, and the node and phase that it refers to.
-#[derive(Drop)]
+#[derive(Clone, Copy)]
 pub struct RowRecord {
     pub qubit: u32,
     pub half: u32,

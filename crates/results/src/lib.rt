@@ -1,4 +1,5 @@
 // The results of an accepted run, and zeros behind them.
+#![tactic(auto)]
 ghost use Rattle.std.specs.Prelude.{◌≡◌, ◌+◌, ◌*◌, ◌≤◌, ◌<◌, length};
 ghost use Rattle.store.specs.Part.{put};
 ghost use Rattle.model.specs.Program.{kind_of};
@@ -26,7 +27,7 @@ const NO_OUTCOME: u32 = 65535;
 const MINUS_ONE: u32 = 4294967295;
 
 // An operation that comes out: kind 1 rotate, 2 measure, 3 conditional; axis by id, sign 1 or -1.
-#[derive(Drop)]
+#[derive(Clone, Copy)]
 pub struct OperationResult {
     pub kind: u32,
     pub axis: u32,
@@ -37,7 +38,7 @@ pub struct OperationResult {
 }
 
 // A frame row that comes out: qubit, 0 x or 1 z, axis by id, sign; kept is -1, 0.
-#[derive(Drop)]
+#[derive(Clone, Copy)]
 pub struct RowResult {
     pub qubit: u32,
     pub half: u32,

@@ -1,4 +1,5 @@
 // The public call of Rewriting, the counters lent; and the same by value.
+#![tactic(auto)]
 ghost use Rattle.std.specs.Prelude.{◌≡◌};
 ghost use Rattle.checking.specs.Call.{job_of, lent_of};
 ghost use Rattle.model.specs.Rewriting.{Called};
@@ -10,7 +11,7 @@ use model::{Answer, Counters, Counts, Options};
 use optimize::Rewritten;
 
 // What a call answers beside the counters: how many operations came out, how many axes are stored.
-#[derive(Drop)]
+#[derive(Clone, Copy)]
 pub struct Answered {
     pub answer: Answer,
     pub operations: usize,

@@ -1,4 +1,5 @@
 // Runs Rewriting on the jobs of its input, and prints what it hands back and what the lent slices hold: see oracle/README.md.
+#![tactic(auto)]
 mod job;
 mod memory;
 mod numbers;

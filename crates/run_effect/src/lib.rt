@@ -1,1 +1,2 @@
 // the run keeps the effect: theorems, no code
+#![tactic(auto)]

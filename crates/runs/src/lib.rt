@@ -1,1 +1,2 @@
 // Runs of the model, by computing. No code.
+#![tactic(auto)]

@@ -1,4 +1,5 @@
 // Runs document 01's starred examples about words, angles and buckets through the code, and prints what comes out.
+#![tactic(auto)]
 ghost use Rattle.std.specs.Prelude.{◌≡◌, ◌<◌, length};
 
 use angle::PauliAngle;

@@ -1,10 +1,11 @@
 // Where a run stands beside what lies in the stores, and how a step of it ends.
+#![tactic(auto)]
 ghost use Rattle.std.specs.Prelude.{◌≡◌};
 ghost use Rattle.steps.specs.State.{first_state, with_image, with_slots, with_waiting};
 
 // Axes stored; the largest word sum that was tested; the image of the axis carried last, its id and its quarter turns; qubits that F has
 // touched; items put out, and where their last segment begins; how many places row WAITING names; merges, exchanges and absorbed rotations.
-#[derive(Drop)]
+#[derive(Clone, Copy)]
 pub struct State {
     pub axes: usize,
     pub peak: usize,
@@ -20,14 +21,14 @@ pub struct State {
 }
 
 // How a step ends: the state then, or refusal 10.
-#[derive(Drop)]
+#[derive(Clone, Copy)]
 pub enum Step {
     Next(State),
     ExpansionLimit,
 }
 
 // An axis's image: how many axes there are with it, the largest word sum that was tested by then, its id and its quarter turns.
-#[derive(Drop)]
+#[derive(Clone, Copy)]
 pub struct Image {
     pub axes: usize,
     pub peak: usize,
@@ -36,7 +37,7 @@ pub struct Image {
 }
 
 // How carrying an axis ends: its image, or refusal 10. Smaller than a `Step`, which is copied through memory.
-#[derive(Drop)]
+#[derive(Clone, Copy)]
 pub enum ImageStep {
     Next(Image),
     ExpansionLimit,

@@ -1,4 +1,5 @@
 // Lent memory: the functions over slices that every pass needs. Nothing of quantum.
+#![tactic(auto)]
 mod numbers;
 mod words;
 

@@ -1,1 +1,2 @@
 // the stream keeps the effect: theorems, no code
+#![tactic(auto)]

@@ -84,7 +84,7 @@ pack_roots_later : (l n : ℕ) (v : Value) (p : Pack) (rs : List PauliRef) → L
 unfolding pack_roots
 pack_roots_later l n v p [] k b = refl
 pack_roots_later l n v p (r ∷ rs) k b =
-    pack_roots_later l n v _ rs k b ∙ by_if (λ (q : Pack). get_or q.uses k 0 ≡ get_or p.uses k 0) _ _ _ refl (pack_root_later l n v p r k b)
+    pack_roots_later l n v (if p.refused then p else pack_root l n v p r) rs k b ∙ by_if (λ (q : Pack). get_or q.uses k 0 ≡ get_or p.uses k 0) _ _ _ refl (pack_root_later l n v p r k b)
 
 pack_node_later : (l : ℕ) (rs : List PauliRef) (vs : List Value) (n : ℕ) (node : Node) (p : Pack) → ChildrenBefore n node
     → Later n p (pack_node l rs vs n node p)
@@ -126,7 +126,7 @@ pack_root_refused l n v p r =
 pack_roots_stays : (l n : ℕ) (v : Value) (p : Pack) (rs : List PauliRef) → (pack_roots l n v p rs).refused ≡ false → p.refused ≡ false
 unfolding pack_roots
 pack_roots_stays l n v p [] h = h
-pack_roots_stays l n v p (r ∷ rs) h = go p.refused refl (pack_roots_stays l n v _ rs h)
+pack_roots_stays l n v p (r ∷ rs) h = go p.refused refl (pack_roots_stays l n v (if p.refused then p else pack_root l n v p r) rs h)
   where
     go : (t : Bool) → p.refused ≡ t → (if p.refused then p else pack_root l n v p r).refused ≡ false → p.refused ≡ false
     go true e f = absurd (true≢false (sym e ∙ sym (ap (λ (q : Pack). q.refused) (if_true p (pack_root l n v p r) e)) ∙ f))
@@ -143,7 +143,7 @@ pack_roots_grows l n v p [] = grows_refl _
 pack_roots_grows l n v p (r ∷ rs) =
     grows_trans (by_if (λ (q : Pack). Grows p.store.axes q.store.axes) p.refused p (pack_root l n v p r) (grows_refl _)
     (pack_root_grows l n v p r))
-    (pack_roots_grows l n v _ rs)
+    (pack_roots_grows l n v (if p.refused then p else pack_root l n v p r) rs)
 
 pack_root_stored : (l n : ℕ) (v : Value) (p : Pack) (r : PauliRef) → (pack_root l n v p r).refused ≡ false
     → Stored (pack_root l n v p r).store.axes v.word

@@ -4,6 +4,7 @@ use mathlib.Core.List.{List, [], ◌∷◌}
 use Rattle.std.proofs.Math.Nat.{le_refl, le_trans}
 use Rattle.std.proofs.Common.{arith}
 use Rattle.pauli.specs.Word.{width}
+use Rattle.model.specs.Lists.{if◌then◌else◌}
 use Rattle.model.specs.declared.Strategy.{Strategy}
 use Rattle.model.specs.declared.Strategy.TheVariants.{Merge, Litinski}
 use Rattle.model.specs.Program.{Node, identity, letter, product, PauliRef, Program}
@@ -62,7 +63,7 @@ pack_root_rises l n v p r = by_if (Packs p) _ _ _ (le_refl _) (intern_rises l _ 
 pack_roots_rises : (l n : ℕ) (v : Value) (p : Pack) (rs : List PauliRef) → Packs p (pack_roots l n v p rs)
 unfolding pack_roots
 pack_roots_rises l n v p [] = le_refl _
-pack_roots_rises l n v p (r ∷ rs) = le_trans (by_if (Packs p) _ _ _ (le_refl _) (pack_root_rises l n v p r)) (pack_roots_rises l n v _ rs)
+pack_roots_rises l n v p (r ∷ rs) = le_trans (by_if (Packs p) _ _ _ (le_refl _) (pack_root_rises l n v p r)) (pack_roots_rises l n v (if p.refused then p else pack_root l n v p r) rs)
 
 pack_node_rises : (l : ℕ) (rs : List PauliRef) (vs : List Value) (n : ℕ) (node : Node) (p : Pack) → Packs p (pack_node l rs vs n node p)
 unfolding pack_node
@@ -112,7 +113,7 @@ module _ (l : ℕ) where
   pub absorb_waiting_rises : (picks : ℕ → Bool) (p : Pass) (j : ℕ) (is : List Item) → Rises p (absorb_waiting l picks p j is)
   unfolding absorb_waiting
   absorb_waiting_rises picks p j [] = le_refl _
-  absorb_waiting_rises picks p j (i ∷ is) = le_trans (absorb_waiting_at_rises picks p j i) (absorb_waiting_rises picks _ (suc j) is)
+  absorb_waiting_rises picks p j (i ∷ is) = le_trans (absorb_waiting_at_rises picks p j i) (absorb_waiting_rises picks (absorb_waiting_at l picks p j i) (suc j) is)
 
   absorb_all_waiting_rises : (m : Absorption) (p : Pass) → Rises p (absorb_all_waiting l m p)
   unfolding absorb_all_waiting
@@ -153,13 +154,13 @@ module _ (l : ℕ) where
   pub stream_rises : (r : Rules) (b : Bool) (p : Pass) (is : List Item) → Rises p (stream l r b p is)
   unfolding stream
   stream_rises r b p [] = absorb_all_waiting_rises r.absorption p
-  stream_rises r b p (i ∷ is) = le_trans (stream_item_rises r b p i) (stream_rises (rules_after r i) b _ is)
+  stream_rises r b p (i ∷ is) = le_trans (stream_item_rises r b p i) (stream_rises (rules_after r i) b (stream_item l r b p i) is)
 
   -- carrying rows, from any row on
   pub carry_rows_from_rises : (p : Pass) (done rows : List SignedAxis) → Rises p (carry_rows_from l p done rows).pass
   unfolding carry_rows_from
   carry_rows_from_rises p done [] = le_refl _
-  carry_rows_from_rises p done (f ∷ rest) = le_trans (carry_axis_rises p f.axis) (carry_rows_from_rises _ _ rest)
+  carry_rows_from_rises p done (f ∷ rest) = le_trans (carry_axis_rises p f.axis) (carry_rows_from_rises (carry_axis l p f.axis) _ rest)
 
   -- carrying the rows
   pub carry_rows_rises : (p : Pass) (rows : List SignedAxis) → Rises p (carry_rows l p rows).pass

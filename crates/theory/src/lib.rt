@@ -1,1 +1,2 @@
 // Theorems about the model alone. No code.
+#![tactic(auto)]

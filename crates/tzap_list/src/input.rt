@@ -2,7 +2,7 @@
 ghost use Rattle.tzap_list.specs.Reading.{Within};
 
 // So many bytes were read; or a read failed.
-#[derive(Drop)]
+#[derive(Clone, Copy)]
 pub enum Input {
     Bytes(usize),
     Failed,

@@ -1,5 +1,6 @@
 // Checking, Rewriting and Listing for C: include/werdutxa.h declares them, rust/ has a safe form.
 // In C a slice is a pointer and a length, and `&mut [usize; 14]` a pointer to that many numbers.
+#![tactic(auto)]
 ghost use Rattle.std.specs.Prelude.{◌≡◌};
 ghost use Rattle.model.specs.Interface.{number_of};
 ghost use Rattle.model.specs.Checking.{checking};

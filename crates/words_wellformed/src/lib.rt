@@ -1,1 +1,2 @@
 // Theorems about the words of the model. No code.
+#![tactic(auto)]
