@@ -28,6 +28,12 @@ COMPONENT = r"[\w'₀-₉◌·-]+"
 warnings = []
 
 
+def same_step(cited, step):
+    """Whether a cited step is that one; the scripts took some for a library's lemma, and gave it `_lem`."""
+    cited = cited[:1].lower() + cited[1:] if "-" in cited else cited
+    return bool(step) and re.sub("_lem$", "", plain(cited)) == re.sub("_lem$", "", plain(step))
+
+
 def plain(name):
     return name.replace("-", "_")
 
@@ -41,51 +47,51 @@ class Function:
             self.needs.setdefault(plain(old), (new, at[0]))
 
     def need(self, old):
-        for form in (old, re.sub(r"^overflow-", "", old)):
-            if plain(form) in self.needs:
-                return self.needs[plain(form)]
+        for form in (old, re.sub(r"^overflow-", "", old), re.sub(r"^slice-bounds-", "part-", old), re.sub(r"^slice-bounds-", "sub-", old)):
+            for known in self.needs:
+                if same_step(form, known):
+                    return self.needs[known]
         return None
 
     def arm(self, index):
         return self.names["arms"][index] if index < len(self.names["arms"]) else None
 
+    def above(self, place):
+        """The places from `place` up to Start: an old path's number of steps back is that of an older build, so a step is found by its name."""
+        while place is not None:
+            yield place
+            place = self.names["places"][self.places[place]][1]
+
     def path(self, place, parts):
-        """(text) of c at `place` followed by `parts`, as a path of the new form; or a place's name, where the path only goes back."""
+        """("text", path) of c at `place` followed by `parts`; or ("place", None), where the path only goes back."""
+        back = 0
         while parts and parts[0] == "before":
-            parent = self.names["places"][self.places[place]][1]
-            if parent is None:
-                self.warn("goes above Start")
-                return None
-            place, parts = parent, parts[1:]
+            back, parts = back + 1, parts[1:]
         if not parts:
-            return ("place", place)
-        index = self.places[place]
-        _, _, step, callee, _ = self.names["places"][index]
+            return ("place", None)
         head, rest = parts[0], parts[1:]
-        if place == "Start" or head in ("args", "requires", "ranges", "auto", "type_inv") and plain(head) != plain(step[0] or "?"):
-            if head == "args" and rest:
-                rest = [rest[0]] + [field(p) for p in rest[1:]]
-            else:
-                rest = [field(p) for p in rest]
+        found = [p for p in self.above(place) if same_step(head, self.names["places"][self.places[p]][2][0])]
+        if not found:
+            if head not in ("args", "requires", "ranges", "auto", "type_inv"):
+                self.warn(f"no step {head} above {place}")
+                return None
+            rest = rest[:1] + [field(p) for p in rest[1:]] if head in ("args", "ranges") else [field(p) for p in rest]
             return ("text", ".".join(["c", head] + rest))
-        if plain(head) != plain(step[0]):
-            self.warn(f"{place} has the step {step[0]}, and the path has {head}")
-            return None
-        arm = self.arm(index)
-        if arm:
+        if len(found) > 1:
+            self.warn(f"several steps {head} above {place}: {found}")
+        index = self.places[found[0]]
+        step = self.names["places"][index][2]
+        arms = [a for p in self.above(place) if (a := self.arm(self.places[p]))]
+        for arm in arms:
             for new, old_step, old_path in arm[2]:
-                if plain(old_step) == plain(head) and old_path == rest[: len(old_path)] and old_path:
+                if same_step(head, old_step) and old_path == rest[: len(old_path)] and old_path:
                     return ("text", ".".join(["c", arm[0], new] + [field(p) for p in rest[len(old_path):]]))
         made = {"taken": "true", "left": "false"}
         if rest and rest[0] in made and step[1].startswith("if-"):
             rest = [made[rest[0]]] + rest[1:]
         known = {"ensures", "requires", "result", "new", "true", "false", "invariant", "auto", "is", "branch"}
-        if rest and rest[0] not in known:
-            variables = {v for _, vs in self.names["loops"] for v in vs}
-            if rest[0] in variables:
-                rest = [rest[0]] + [field(p) for p in rest[1:]]
-            else:
-                rest = [field(p) for p in rest]
+        if rest and rest[0] not in known and rest[0] not in {v for _, vs in self.names["loops"] for v in vs}:
+            rest = [field(p) for p in rest]
         else:
             rest = rest[:1] + [field(p) for p in rest[1:]]
         return ("text", ".".join(["c", step[1]] + rest))
@@ -100,24 +106,24 @@ def field(part):
 
 
 def split(text):
-    """The declarations of a proof file: (header lines, [blocks]), a block a list of lines that begins in column 0."""
-    head, blocks, comments = [], [], []
+    """The declarations of a proof file, each a list of lines: comments, the signature, `unfolding`, the clauses."""
+    blocks, comments = [], []
+
+    def own(block):
+        return name_of(next(l for l in block if not l.startswith("--")))
+
     for line in text.split("\n"):
         if line.startswith("--") or not line.strip():
             comments.append(line)
-        elif line[0] in " \t)":
+        elif line[0] in " \t)" or line.startswith(("unfolding", "where")):
             blocks[-1] += comments + [line]
             comments = []
+        elif blocks and name_of(line) == own(blocks[-1]) and not re.match(r"[^=]*? :(?!=)", line):
+            blocks[-1] += [c for c in comments if c.strip()] + [line]
+            comments = []
         else:
-            if blocks and line.startswith(("unfolding", "opaque")):
-                blocks[-1].append(line)
-            elif blocks and re.match(r"(?:abbrev |pub |unfoldable )*" + re.escape(name_of(blocks[-1][0])) + r"(\s|$)", line) and ":" not in line.split(" ")[1:2]:
-                blocks[-1] += [c for c in comments if c.strip()] + [line]
-                comments = []
-            else:
-                blocks.append([c for c in comments if c.startswith("--")] + [line])
-                comments = []
-                head.append(len(blocks))
+            blocks.append([c for c in comments if c.startswith("--")] + [line])
+            comments = []
     return blocks
 
 
@@ -140,24 +146,21 @@ def turn_term(fn, term, place, loop_args=None):
             if head in aliases:
                 r = fn.path(aliases[head], parts)
                 if r and r[0] == "place":
-                    aliases[m[1]] = r[1]
+                    aliases[m[1]] = place
                     continue
                 text = r[1] if r else head + tail
             else:
-                text = respell.snake(head) + "".join("." + field(p) for p in parts) if respell.wants(head) else head + "".join("." + field(p) for p in parts)
+                text = head + "".join("." + field(p) for p in parts)
             gap = re.search(r"\s*$", m[0])[0]
-            out.append(f"let {field(m[1])} = {text} in{gap}")
+            out.append(f"let {m[1]} = {text} in{gap}")
             aliases.pop(m[1], None)
         elif m[4]:
             head, tail = m[4], m[5]
             parts = [p for p in tail.split(".") if p]
             if head in aliases:
                 if not parts and head != "c":
-                    if aliases[head] == place:
-                        out.append("c")
-                    else:
-                        fn.warn(f"the place {head} stands alone")
-                        out.append("c")
+                    fn.warn(f"the place {head} stands alone")
+                    out.append("c")
                     continue
                 r = fn.path(aliases[head], parts) if parts else ("text", "c")
                 if r is None:
@@ -168,7 +171,7 @@ def turn_term(fn, term, place, loop_args=None):
                 else:
                     out.append(r[1])
             else:
-                out.append((respell.snake(head) if respell.wants(head) else head) + "".join("." + field(p) for p in parts))
+                out.append(head + "".join("." + field(p) for p in parts))
         else:
             out.append("".join("." + field(p) for p in m[6].split(".") if p))
     out.append(term[at:])
@@ -253,7 +256,7 @@ def turn(path, module, fn):
                 parts = [p for p in mm[2].split(".") if p]
                 base = to.get(h)
                 if base is None:
-                    base = respell.snake(h) if respell.wants(h) else h
+                    base = h
                 return base + "".join("." + field(p) for p in parts)
 
             term = re.sub(r"(?<![\w'.◌·-])([A-Za-z_][\w'₀-₉-]*)((?:\." + COMPONENT + r")*)", put, term)
@@ -263,7 +266,9 @@ def turn(path, module, fn):
         if m:
             known = fn.need(m[2])
             if known is None:
-                fn.warn(f"no need {m[2]}")
+                term = "\n".join(rest[1:]).split("=", 1)[-1]
+                if " ".join(term.split()) not in ALONE and not re.match(r"nonzero", m[2]):
+                    fn.warn(f"no need {m[2]}")
                 continue
             new, place = known
             opens = [l for l in rest[1:] if l.startswith("unfolding")]
@@ -281,13 +286,13 @@ def turn(path, module, fn):
             if " ".join(term.split()) in ALONE and not opens:
                 continue
             gap = "\n    " if "\n" in term and not term.startswith(("(", "record", "elim")) else " "
-            answers.append((comments, f"pub {new} : goal.{new}", [respell.NAME.sub(lambda k: field(k[0]), o) for o in opens], f"{new} c ={gap}{term}"))
+            answers.append((comments, f"pub {new} : goal.{new}", opens, f"{new} c ={gap}{term}"))
             continue
         # a lemma of the file's own
         both = "\n".join(rest)
         if "tie." in both:
             fn.warn(f"a lemma speaks of places: {first[:80]}")
-        both = respell.NAME.sub(lambda k: field(k[0]) if not (k.start() and k.string[k.start() - 1] == ".") else "" + field(k[0]), both)
+        both = re.sub(r"\.(" + COMPONENT + ")", lambda k: "." + field(k[1]), both)
         answers.append((comments, both, [], ""))
     texts = []
     for kind, items in (("Given", invariants), ("Goals", answers)):

@@ -135,7 +135,7 @@ module _ (l : ℕ) (Angles : Type 0) (held : List Images) (images : HeldImages l
       → Alike (multiply_images l held w u qs) (multiply_images l [] w v qs)
   unfolding multiply_images
   alike_multiply w u v [] act h = h
-  alike_multiply w u v (q ∷ qs) act h = alike_multiply w _ _ qs act.1 more
+  alike_multiply w u v (q ∷ qs) act h = alike_multiply w (multiply l u (letter_image l held q (letter_at l w q))) (multiply l v (letter_image l [] q (letter_at l w q))) qs act.1 more
     where
       more : Alike (multiply l u (letter_image l held q (letter_at l w q))) (multiply l v (letter_image l [] q (letter_at l w q)))
       more r d b hd =
@@ -149,7 +149,7 @@ module _ (l : ℕ) (Angles : Type 0) (held : List Images) (images : HeldImages l
       → symplectic l u.word (multiply_images l held w x qs).word ≡ symplectic l v.word (multiply_images l [] w y qs).word
   unfolding multiply_images
   alike_symplectic w u v x y [] act h e = e
-  alike_symplectic w u v x y (q ∷ qs) act h e = alike_symplectic w u v _ _ qs act.1 h more
+  alike_symplectic w u v x y (q ∷ qs) act h e = alike_symplectic w u v (multiply l x (letter_image l held q (letter_at l w q))) (multiply l y (letter_image l [] q (letter_at l w q))) qs act.1 h more
     where
       more : symplectic l u.word (multiply l x (letter_image l held q (letter_at l w q))).word
           ≡ symplectic l v.word (multiply l y (letter_image l [] q (letter_at l w q))).word

@@ -1,0 +1,26 @@
+-- The loop's invariant: n is the weight of the first i items. Assumes nothing.
+use native.Mathlib.Omega.{arith}
+use Prim.Native.Nat.{◌-◌}
+use Rattle.counters.specs.Weight.{weight_item, weigh_none, weigh_more, weigh_all}
+use Rattle.counters.proofs.weight_after.Goals as goal
+
+pub loop-i-init : goal.loop-i-init
+loop-i-init c = (omega arith, weigh_none _ _ _ _ _ _)
+
+pub item_weight-n-requires : goal.item_weight-n-requires
+item_weight-n-requires c = weight_item c.requires _ (omega arith)
+
+pub overflow_add-n : goal.overflow_add-n
+overflow_add-n c =
+    let p = c.requires in
+    let s = p.small in
+    let f = p.few in
+    let a = c.item_weight-n.ensures.small in
+    let b = c.loop-i.invariant.1.small in
+    omega arith
+
+pub loop-i-preserved : goal.loop-i-preserved
+loop-i-preserved c = (omega arith, weigh_more c.requires.few (omega arith) c.item_weight-n.ensures c.loop-i.invariant.1)
+
+pub returns : goal.returns
+returns c = weigh_all (omega arith) c.loop-i.invariant.1

@@ -1,0 +1,9 @@
+-- The loop's invariant: those above level v commute. Assumes nothing.
+use Rattle.depth.specs.Looking.{LookedTo}
+use Rattle.depth.proofs.level.Given as goal
+
+abbrev pub invariant-loop-v : goal.invariant-loop-v
+invariant-loop-v l = LookedTo l.z l.words l.numbers l.st l.i l.axis l.v
+
+abbrev pub decreases-loop-v : goal.decreases-loop-v
+decreases-loop-v l = l.v

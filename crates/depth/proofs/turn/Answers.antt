@@ -1,0 +1,27 @@
+-- A barrier ends the segment; a rotation gets its level. Assumes nothing.
+use mathlib.Core.Path.{ap}
+use Prim.Native.Nat.{◌%◌}
+use Rattle.items.specs.declared.Tagged.{Tagged}
+use Rattle.depth.specs.Turns.{turn_barrier, turn_rotation}
+use native.Mathlib.Omega.{arith}
+use Rattle.depth.proofs.turn.Goals as goal
+
+pub overflow_add-result : goal.overflow_add-result
+overflow_add-result c = omega (arith, c.requires.here, c.requires.short)
+
+pub returns-then-item-ne0 : goal.returns-then-item-ne0
+returns-then-item-ne0 c = turn_barrier c.requires c.item_at-item.ensures c.if-item-ne0.true
+
+pub rotation-reached-requires : goal.rotation-reached-requires
+rotation-reached-requires c = record {
+      turn = c.requires;
+      axis = ap (λ (x : Tagged). x.axis) c.item_at-item.ensures;
+      angle = ap (λ (x : Tagged). x.angle % 2)
+          c.item_at-item.ensures;
+    }
+
+pub shape_of-numbers : goal.shape_of-numbers
+shape_of-numbers c = c.rotation-reached.ensures.only.long
+
+pub returns : goal.returns
+returns c = turn_rotation c.requires c.item_at-item.ensures c.if-item-ne0.false c.rotation-reached.ensures

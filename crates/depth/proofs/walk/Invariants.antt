@@ -1,0 +1,10 @@
+-- The loop's invariant: those of the level's list before place p commute. Assumes nothing.
+use Rattle.depth.specs.Looking.{WalkedTo}
+use Prim.Native.Nat.{◌-◌}
+use Rattle.depth.proofs.walk.Given as goal
+
+abbrev pub invariant-loop-p : goal.invariant-loop-p
+invariant-loop-p l = WalkedTo l.z l.words l.numbers l.total l.start l.i l.axis l.v l.p
+
+abbrev pub decreases-loop-p : goal.decreases-loop-p
+decreases-loop-p l = l.z.u - l.p

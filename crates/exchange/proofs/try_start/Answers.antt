@@ -1,0 +1,50 @@
+-- The runs in turn, and what the search finds. Assumes nothing.
+use mathlib.Core.Path.{◌∙◌}
+use native.Mathlib.Omega.{arith}
+use Rattle.exchange.specs.Steps.{run_pre, stop_first, stop_second, runs_pre, goes_none, replace_pre, goes_swap}
+use Rattle.exchange.proofs.try_start.Goals as goal
+
+pub run_end-second-requires : goal.run_end-second-requires
+run_end-second-requires c = run_pre c.requires _ (omega arith) c.requires.start_end
+
+pub returns-then-second-end : goal.returns-then-second-end
+returns-then-second-end c = stop_first c.requires c.run_end-second.ensures c.if-second-end.true
+
+pub run_end-third-requires : goal.run_end-third-requires
+run_end-third-requires c =
+    run_pre c.requires _ (let a = c.run_end-second.ensures.after in omega arith)
+    (let a = c.run_end-second.ensures.within in omega (arith, c.if-second-end.false))
+
+pub returns-then-third-end : goal.returns-then-third-end
+returns-then-third-end c = stop_second c.requires c.run_end-second.ensures c.run_end-third.ensures c.if-third-end.true
+
+pub run_end-third_end-requires : goal.run_end-third_end-requires
+run_end-third_end-requires c =
+    run_pre c.requires _ (let a = c.run_end-second.ensures.after in let b = c.run_end-third.ensures.after in omega arith)
+    (let a = c.run_end-third.ensures.within in omega (arith, c.if-third-end.false))
+
+pub try_triple-t-requires : goal.try_triple-t-requires
+try_triple-t-requires c =
+    runs_pre c.requires c.run_end-second.ensures c.run_end-third.ensures c.run_end-third_end.ensures
+    c.if-second-end.false c.if-third-end.false
+
+pub replace-requires : goal.replace-requires
+replace-requires c =
+    replace_pre c.requires c.run_end-second.ensures c.run_end-third.ensures c.run_end-third_end.ensures
+    c.if-second-end.false c.if-third-end.false c.try_triple-t.ensures c.in-Better.is
+
+pub shape_of-numbers-in-Nothing : goal.shape_of-numbers-in-Nothing
+shape_of-numbers-in-Nothing c = c.try_triple-t.ensures.only.long
+
+pub returns-in-Nothing : goal.returns-in-Nothing
+returns-in-Nothing c =
+    goes_none c.requires c.run_end-second.ensures c.run_end-third.ensures c.run_end-third_end.ensures
+    c.if-second-end.false c.if-third-end.false c.try_triple-t.ensures c.in-Nothing.is
+
+pub shape_of-numbers-in-Better : goal.shape_of-numbers-in-Better
+shape_of-numbers-in-Better c = c.replace.ensures.only.long ∙ c.try_triple-t.ensures.only.long
+
+pub returns-in-Better : goal.returns-in-Better
+returns-in-Better c =
+    goes_swap c.requires c.run_end-second.ensures c.run_end-third.ensures c.run_end-third_end.ensures
+    c.if-second-end.false c.if-third-end.false c.try_triple-t.ensures c.in-Better.is c.replace.ensures

@@ -1,0 +1,6 @@
+-- A rotation has tag 0. Assumes nothing.
+use Rattle.items.specs.View.{rotation_test}
+use Rattle.items.proofs.is_rotation.Goals as goal
+
+pub returns : goal.returns
+returns c = rotation_test _ _ c.tag_at.ensures

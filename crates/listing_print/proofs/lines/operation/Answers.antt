@@ -1,0 +1,16 @@
+-- The six fields of the record, with -1 for 65,535 in the last two. Assumes nothing.
+use mathlib.Core.Path.{ap}
+use Rattle.model.specs.Listing.{line_of}
+use Rattle.listing_print.specs.Printed.{printed_as, room_as}
+use Rattle.listing_print.specs.Texts.{operation_fields}
+use Rattle.listing_print.proofs.lines.operation.Goals as goal
+
+pub line-requires : goal.line-requires
+line-requires c =
+    room_as _ (ap line_of (operation_fields _ c.requires.0 c.wide.ensures c.wide-2.ensures c.wide-3.ensures
+    c.wide-4.ensures c.outcome.ensures c.outcome-2.ensures)) c.requires.1
+
+pub returns : goal.returns
+returns c =
+    printed_as (ap line_of (operation_fields _ c.requires.0 c.wide.ensures c.wide-2.ensures c.wide-3.ensures
+    c.wide-4.ensures c.outcome.ensures c.outcome-2.ensures)) c.line.ensures

@@ -1,0 +1,18 @@
+-- A rotation by nothing stops no axis. Assumes nothing.
+use Rattle.merging.specs.Reach.{blocks_entry, blocks_there, blocks_zero, blocks_some}
+use Rattle.merging.proofs.blocks.Goals as goal
+
+pub angle_at-requires : goal.angle_at-requires
+angle_at-requires c = blocks_entry c.requires
+
+pub returns-then-angle_at-eq0 : goal.returns-then-angle_at-eq0
+returns-then-angle_at-eq0 c = blocks_zero c.requires c.angle_at.ensures c.if-angle_at-eq0.true
+
+pub axis_at-axis-requires : goal.axis_at-axis-requires
+axis_at-axis-requires c = blocks_entry c.requires
+
+pub anticommute-requires : goal.anticommute-requires
+anticommute-requires c = (c.requires.held, blocks_there c.requires c.axis_at-axis.ensures, c.requires.axis)
+
+pub returns : goal.returns
+returns c = blocks_some c.requires c.angle_at.ensures c.if-angle_at-eq0.false c.axis_at-axis.ensures c.anticommute.ensures

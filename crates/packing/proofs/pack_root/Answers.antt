@@ -1,0 +1,68 @@
+-- A root that is odd is refused; else its word is interned, its axis and sign are written, and its node's use is given up. Assumes nothing.
+use Rattle.packing.specs.RootLaws.{reference_in, node_held, held_small, intern_pre}
+use Rattle.packing.specs.RestKept.{rest_none}
+use Rattle.packing.specs.RootTurn.{l_small, slots_small, id_small, stored_long}
+use Rattle.packing.specs.RootTurn.{root_odd, rest_limit, root_limit, root_release, root_rest, root_next}
+use native.Mathlib.Omega.{arith}
+use Rattle.packing.proofs.pack_root.Goals as goal
+
+pub held-v-requires : goal.held-v-requires
+held-v-requires c = node_held c.requires.it
+
+pub overflow_add-total : goal.overflow_add-total
+overflow_add-total c = omega (arith, held_small c.requires.it c.held-v.ensures)
+
+pub returns-then-total-eq1 : goal.returns-then-total-eq1
+returns-then-total-eq1 c = (rest_none _ _ _, λ p h. root_odd h c.held-v.ensures c.if-total-eq1.true)
+
+pub overflow_mul-counted : goal.overflow_mul-counted
+overflow_mul-counted c = omega (arith, l_small c.requires.it)
+
+pub overflow_mul-counted-2 : goal.overflow_mul-counted-2
+overflow_mul-counted-2 c = omega (arith, slots_small c.requires.it)
+
+pub intern-i-requires : goal.intern-i-requires
+intern-i-requires c = intern_pre c.requires.it c.held-v.ensures c.sizes_of-sizes.ensures
+
+pub returns-in_default : goal.returns-in_default
+returns-in_default c = (
+      rest_limit c.requires.it c.held-v.ensures c.sizes_of-sizes.ensures c.intern-i.ensures c.in_default.is,
+      λ p h. root_limit h c.held-v.ensures c.sizes_of-sizes.ensures c.intern-i.ensures c.if-total-eq1.false
+          c.in_default.is,
+    )
+
+pub overflow_cast-a : goal.overflow_cast-a
+overflow_cast-a c = omega (arith, id_small c.requires.it c.held-v.ensures c.sizes_of-sizes.ensures c.intern-i.ensures c.in-Axis.is)
+
+pub write-requires : goal.write-requires
+write-requires c = (
+      stored_long c.requires.it c.held-v.ensures c.sizes_of-sizes.ensures c.intern-i.ensures c.in-Axis.is,
+      omega arith,
+      reference_in c.requires.it,
+    )
+
+pub write-requires-2 : goal.write-requires-2
+write-requires-2 c = (
+      omega (
+        arith,
+        stored_long c.requires.it c.held-v.ensures c.sizes_of-sizes.ensures c.intern-i.ensures
+            c.in-Axis.is,
+        c.write.ensures.long,
+      ),
+      omega arith,
+      reference_in c.requires.it,
+    )
+
+pub release-free-requires : goal.release-free-requires
+release-free-requires c =
+    root_release c.requires.it c.held-v.ensures c.sizes_of-sizes.ensures c.intern-i.ensures c.in-Axis.is
+    c.write.ensures c.write-2.ensures
+
+pub returns : goal.returns
+returns c = (
+      root_rest c.requires.it c.held-v.ensures c.sizes_of-sizes.ensures c.intern-i.ensures c.in-Axis.is
+          c.write.ensures c.write-2.ensures c.release-free.ensures,
+      λ p h. root_next h c.held-v.ensures
+          c.sizes_of-sizes.ensures c.intern-i.ensures c.in-Axis.is c.write.ensures c.write-2.ensures
+          c.release-free.ensures c.if-total-eq1.false,
+    )

@@ -1,0 +1,8 @@
+-- The machine's count is `ones`, which `popcount` equals. Assumes nothing.
+use mathlib.Core.Path.{sym}
+use Rattle.bits.specs.Popcount.{popcount_ones}
+use lib.Count.{ones-le}
+use Rattle.product.proofs.read.count.Goals as goal
+
+pub returns : goal.returns
+returns c = (sym (popcount_ones c.args.x), ones-le 64 c.args.x c.ranges.x.fits)

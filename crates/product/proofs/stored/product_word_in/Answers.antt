@@ -1,0 +1,15 @@
+-- The loop's invariant: the first j numbers of the product stand at o. Assumes nothing.
+use mathlib.Core.Path.{refl}
+use Prim.Native.Nat.{◌-◌}
+use native.Mathlib.Omega.{arith}
+use Rattle.product.proofs.Laying.{laid_none, place_more, place_all}
+use Rattle.product.proofs.stored.product_word_in.Goals as goal
+
+pub loop-j-init : goal.loop-j-init
+loop-j-init c = (refl, laid_none _ _ _ _)
+
+pub loop-j-preserved : goal.loop-j-preserved
+loop-j-preserved c = (c.loop-j.invariant.0, place_more _ _ _ _ _ _ _ c.requires c.loop-j.invariant.1 (omega arith))
+
+pub returns : goal.returns
+returns c = place_all _ _ _ _ _ _ _ c.requires c.loop-j.invariant.1 (omega arith)

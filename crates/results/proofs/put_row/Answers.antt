@@ -1,0 +1,17 @@
+-- Four writes. Assumes nothing.
+use native.Mathlib.Omega.{arith}
+use lib.ListN.{length-set}
+use Rattle.results.specs.Put.{put_four}
+use Rattle.results.proofs.put_row.Goals as goal
+
+pub bounds-to-at-2 : goal.bounds-to-at-2
+bounds-to-at-2 c = simp length-set (omega arith)
+
+pub bounds-to-at-3 : goal.bounds-to-at-3
+bounds-to-at-3 c = simp length-set (omega arith)
+
+pub bounds-to-at-4 : goal.bounds-to-at-4
+bounds-to-at-4 c = simp length-set (omega arith)
+
+pub returns : goal.returns
+returns c = put_four _ _ _ _ _ _ c.requires

@@ -1,0 +1,10 @@
+-- By whether rotations begin to wait. Assumes nothing.
+use borrow.Author.Tests.{not-true, not-false}
+use Rattle.stream_items.specs.Behind.{state_kept, state_begun}
+use Rattle.stream_items.proofs.state_behind.Goals as goal
+
+pub returns-then-not-begin : goal.returns-then-not-begin
+returns-then-not-begin c = state_kept _ (not-true _ c.if-not-begin.true)
+
+pub returns : goal.returns
+returns c = state_begun _ (not-false _ c.if-not-begin.false) c.with_waiting.ensures

@@ -1,0 +1,23 @@
+-- Its rotations move or stay, and those that stay are laid. Assumes nothing.
+use Rattle.sweeps.specs.Sweeping.{layer_moves, layer_lay, layer_swept}
+use native.Mathlib.Omega.{arith}
+use Rattle.sweeps.proofs.sweep.sweep_layer.Goals as goal
+
+pub begin_of-from-requires : goal.begin_of-from-requires
+begin_of-from-requires c = record { long = c.requires.stored.numbers_long; row = omega arith; here = omega (arith, c.requires.layer) }
+
+pub begin_of-end-requires : goal.begin_of-end-requires
+begin_of-end-requires c = record { long = c.requires.stored.numbers_long; row = omega arith; here = omega (arith, c.requires.layer) }
+
+pub move_rotations-s-requires : goal.move_rotations-s-requires
+move_rotations-s-requires c = layer_moves _ _ _ _ _ c.requires c.begin_of-from.ensures c.begin_of-end.ensures
+
+pub lay_stay-requires : goal.lay_stay-requires
+lay_stay-requires c =
+    layer_lay _ _ _ _ _ c.requires c.begin_of-from.ensures c.begin_of-end.ensures
+    c.move_rotations-s.ensures
+
+pub returns : goal.returns
+returns c =
+    layer_swept _ _ _ _ _ c.requires c.begin_of-from.ensures c.begin_of-end.ensures
+    c.move_rotations-s.ensures c.lay_stay.ensures
