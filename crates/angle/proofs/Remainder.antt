@@ -9,7 +9,7 @@ use lib.IntN.{ℤ, pos, negsuc, neg_ℤ, sub_ℕ, ◌+ℤ◌}
 use lib.Signed.{mag, rem_z, quot_z, lt_z, mag_rem}
 use mir.Syntax.{w32}
 use mir.Val.{SFits, to_z, of_z}
-use mir.Facts.{to_z_of_z, to_z_pos}
+use mir.Facts.{to_z-of_z, to_z_pos}
 use Rattle.angle.specs.Angle.{eighths_of}
 use Rattle.angle.specs.AngleLaws.{eighths_lt}
 
@@ -43,8 +43,8 @@ module _ (k : ℤ) (f : SFits w32 k) where
 
   stored : r8 ≡ rem_z k (pos 8)
   stored =
-      ap (λ (z : ℤ). to_z w32 (of_z w32 (rem_z z (pos 8)))) (to_z_of_z f)
-      ∙ to_z_of_z (record { sfits = lt_of_le_of_lt (mag_rem k (pos 8)) f.sfits })
+      ap (λ (z : ℤ). to_z w32 (of_z w32 (rem_z z (pos 8)))) (to_z-of_z f)
+      ∙ to_z-of_z {w = w32} (record { sfits = lt_of_le_of_lt (mag_rem k (pos 8)) f.sfits })
 
   pub r8_below : lt_z r8 (pos 0) ≡ true → r8 +ℤ pos 8 ≡ pos (eighths_of k)
   r8_below t = ap (λ (z : ℤ). z +ℤ pos 8) stored ∙ below k (sym (ap (λ (z : ℤ). lt_z z (pos 0)) stored) ∙ t)
@@ -61,7 +61,7 @@ mag-negℤ zero m h = omega arith
 mag-negℤ (suc n) m h = omega arith
 
 pub quot_fits : (k : ℤ) → SFits w32 k → SFits w32 (quot_z (to_z w32 (of_z w32 k)) (pos 8))
-quot_fits k f = rw (to_z_of_z f) (record { sfits = lt_of_le_of_lt (small k) f.sfits })
+quot_fits k f = rw (to_z-of_z f) (record { sfits = lt_of_le_of_lt (small k) f.sfits })
   where
     small : (k : ℤ) → mag (quot_z k (pos 8)) ≤ mag k
     small (pos n) = omega arith

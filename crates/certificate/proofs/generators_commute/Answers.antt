@@ -16,15 +16,15 @@ row_vanishes-requires c = record { groups = c.requires; from_in = c.loop-p.invar
 pub returns-then-not-row_vanishes : goal.returns-then-not-row_vanishes
 returns-then-not-row_vanishes c =
     sym (rows_all c.args.z _ _ _ _ ∙ c.loop-p.invariant.2 ∙ rows_fail _ _ _ _ _ _ c.loop-p-test.true
-    c.row_vanishes.ensures (not-true _ c.if-not-row_vanishes.true))
+    c.row_vanishes.ensures c.if-not-row_vanishes.true)
 
 pub loop-p-preserved : goal.loop-p-preserved
 loop-p-preserved c = (
       omega arith,
       omega arith,
       c.loop-p.invariant.2 ∙ rows_pass _ _ _ _ _ _ c.loop-p-test.true c.row_vanishes.ensures
-          (not-false _ c.if-not-row_vanishes.false),
-      one_row c.loop-p.invariant.3 c.row_vanishes.ensures (not-false _ c.if-not-row_vanishes.false),
+          c.if-not-row_vanishes.false,
+      one_row c.loop-p.invariant.3 c.row_vanishes.ensures c.if-not-row_vanishes.false,
     )
 
 pub returns : goal.returns

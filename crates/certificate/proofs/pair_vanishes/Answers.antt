@@ -16,12 +16,12 @@ anticommute-requires c = pair_stored c.requires c.axis_at-pa.ensures c.axis_at-q
 pub returns-then-not-anticommute : goal.returns-then-not-anticommute
 returns-then-not-anticommute c =
     pair_read c.requires c.axis_at-pa.ensures c.axis_at-qa.ensures
-    (pair_commutes c.args.z _ _ _ _ _ _ c.anticommute.ensures (not-true _ c.if-not-anticommute.true))
+    (pair_commutes c.args.z _ _ _ _ _ _ c.anticommute.ensures c.if-not-anticommute.true)
 
 pub word_vanishes-requires : goal.word_vanishes-requires
 word_vanishes-requires c =
     pair_word c.requires c.axis_at-pa.ensures c.axis_at-qa.ensures c.anticommute.ensures
-    (not-false _ c.if-not-anticommute.false)
+    c.if-not-anticommute.false
 
 pub returns : goal.returns
 returns c = pair_read c.requires c.axis_at-pa.ensures c.axis_at-qa.ensures c.word_vanishes.ensures

@@ -18,5 +18,5 @@ has_word-requires c = row_pre c.requires c.axis_at-x.ensures
 
 pub returns : goal.returns
 returns c =
-    λ e. row_found c.requires c.axis_at-x.ensures c.meets_word.ensures (not-false _ c.if-not-meets_word.false)
+    λ e. row_found c.requires c.axis_at-x.ensures c.meets_word.ensures c.if-not-meets_word.false
     (c.has_word.ensures e)

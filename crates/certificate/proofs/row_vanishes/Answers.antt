@@ -16,15 +16,15 @@ pair_vanishes-requires c = record { row = c.requires; low = c.loop-q.invariant.0
 pub returns-then-not-pair_vanishes : goal.returns-then-not-pair_vanishes
 returns-then-not-pair_vanishes c =
     sym (c.loop-q.invariant.2 ∙ row_fail _ _ _ _ _ _ _ c.loop-q-test.true c.pair_vanishes.ensures
-    (not-true _ c.if-not-pair_vanishes.true))
+    c.if-not-pair_vanishes.true)
 
 pub loop-q-preserved : goal.loop-q-preserved
 loop-q-preserved c = (
       omega arith,
       omega arith,
       c.loop-q.invariant.2 ∙ row_pass _ _ _ _ _ _ _ c.loop-q-test.true c.pair_vanishes.ensures
-          (not-false _ c.if-not-pair_vanishes.false),
-      one_passed c.loop-q.invariant.3 c.pair_vanishes.ensures (not-false _ c.if-not-pair_vanishes.false),
+          c.if-not-pair_vanishes.false,
+      one_passed c.loop-q.invariant.3 c.pair_vanishes.ensures c.if-not-pair_vanishes.false,
     )
 
 pub returns : goal.returns

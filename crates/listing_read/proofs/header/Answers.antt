@@ -16,7 +16,7 @@ returns-then-not-fields c =
     record {
       read = line_read _ _ _ _ _ c.line_end-e.ensures _
           c.if-e-text.false
-          (none_bound allowed (said_no f.result f.new.1.0 f.ensures (not-true f.result c.if-not-fields.true)));
+          (none_bound allowed (said_no f.result f.new.1.0 f.ensures c.if-not-fields.true));
       within = tt;
     }
 
@@ -27,7 +27,7 @@ returns-then-too_large c =
       read = line_read _ _ _ _ _ c.line_end-e.ensures _
           c.if-e-text.false
           (header_refused f.new.1.0 _
-          (said_yes f.result f.new.1.0 f.ensures (not-false f.result c.if-not-fields.false))
+          (said_yes f.result f.new.1.0 f.ensures c.if-not-fields.false)
           c.too_large.ensures c.if-too_large.true);
       within = tt;
     }
@@ -45,7 +45,7 @@ returns c =
     let operations = c.wide-3.ensures in
     record {
       read = same_taken (four h f.auto.1.0 qubits nodes operations c.wide-4.ensures) (line_read _ _ _ _ _ ends _ newline
-          (header_allowed h _ (said_yes f.result h f.ensures (not-false f.result c.if-not-fields.false))
+          (header_allowed h _ (said_yes f.result h f.ensures c.if-not-fields.false)
           c.too_large.ensures allowed));
       within = (
         omega (arith, ends.within, newline),

@@ -5,10 +5,10 @@ use native.Mathlib.Omega.{arith}
 use Rattle.merging.proofs.name_place.Goals as goal
 
 pub returns-then-not-later : goal.returns-then-not-later
-returns-then-not-later c = place_quiet c.later.ensures (not-true _ c.if-not-later.true)
+returns-then-not-later c = place_quiet c.later.ensures c.if-not-later.true
 
 pub insert-n-requires : goal.insert-n-requires
-insert-n-requires c = insert_pre _ c.later.ensures (not-false _ c.if-not-later.false) c.requires
+insert-n-requires c = insert_pre _ c.later.ensures c.if-not-later.false c.requires
 
 pub overflow_cast-a : goal.overflow_cast-a
 overflow_cast-a c = omega (arith, c.requires.axis, c.requires.small)

@@ -15,9 +15,9 @@ can_reach-requires c = rw c.sizes_of-z.ensures (c.requires.reach _ c.last_of-las
 pub returns-then-not-can_reach : goal.returns-then-not-can_reach
 returns-then-not-can_reach c =
     place_far c.last_of-last.ensures c.if-last-eq0.false c.sizes_of-z.ensures c.can_reach.ensures
-    (not-true _ c.if-not-can_reach.true)
+    c.if-not-can_reach.true
 
 pub returns : goal.returns
 returns c =
     place_reached c.last_of-last.ensures c.if-last-eq0.false c.sizes_of-z.ensures c.can_reach.ensures
-    (not-false _ c.if-not-can_reach.false)
+    c.if-not-can_reach.false

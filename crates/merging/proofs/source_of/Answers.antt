@@ -18,5 +18,5 @@ pub returns : goal.returns
 returns c = (
       c.carries.ensures.0,
       λ m n p h. told h c.if-st-a.false
-          (c.carries.ensures.1 (held_of p) (carries_at h c.if-st-a.false)) (not-false _ c.if-not-carries.false),
+          (c.carries.ensures.1 (held_of p) (carries_at h c.if-st-a.false)) c.if-not-carries.false,
     )

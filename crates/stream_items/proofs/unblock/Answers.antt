@@ -6,7 +6,7 @@ use Rattle.stream_items.specs.Items.{unblock_none, blocking_there, unblock_as}
 use Rattle.stream_items.proofs.unblock.Goals as goal
 
 pub returns-then-not-is_lazy : goal.returns-then-not-is_lazy
-returns-then-not-is_lazy c = (left_none _ _ _, λ m n p h. unblock_none h (sym c.is_lazy.ensures ∙ not-true _ c.if-not-is_lazy.true))
+returns-then-not-is_lazy c = (left_none _ _ _, λ m n p h. unblock_none h (sym c.is_lazy.ensures ∙ c.if-not-is_lazy.true))
 
 pub absorb_blocking-requires : goal.absorb_blocking-requires
 absorb_blocking-requires c = record {
@@ -14,13 +14,13 @@ absorb_blocking-requires c = record {
       items = c.requires.items;
       pass = c.requires.pass;
       it = blocking_there c.requires.it
-          (sym c.is_lazy.ensures ∙ not-false _ c.if-not-is_lazy.false);
+          (sym c.is_lazy.ensures ∙ c.if-not-is_lazy.false);
     }
 
 pub returns : goal.returns
 returns c = (
       c.absorb_blocking.ensures.0,
       λ m n p h.
-          let waits = sym c.is_lazy.ensures ∙ not-false _ c.if-not-is_lazy.false in
+          let waits = sym c.is_lazy.ensures ∙ c.if-not-is_lazy.false in
           unblock_as h waits (c.absorb_blocking.ensures.1 n p (blocking_there h waits)),
     )

@@ -18,12 +18,12 @@ pub returns-then-not-waits : goal.returns-then-not-waits
 returns-then-not-waits c = (
       left_none _ _ _,
       λ n p h. turned_over h c.read-j.ensures c.item_at-x.ensures c.waits.ensures
-          (not-true _ c.if-not-waits.true),
+          c.if-not-waits.true,
     )
 
 pub picks-requires : goal.picks-requires
 picks-requires c =
-    turn_picks c.requires.it c.read-j.ensures c.item_at-x.ensures c.waits.ensures (not-false _ c.if-not-waits.false)
+    turn_picks c.requires.it c.read-j.ensures c.item_at-x.ensures c.waits.ensures c.if-not-waits.false
     c.sizes_of-z.ensures
 
 pub overflow_cast-j-then-not-picks : goal.overflow_cast-j-then-not-picks
@@ -37,11 +37,11 @@ overflow_add-st c = omega (arith, c.requires.it.kept, c.requires.it.index, c.req
 
 pub returns-then-not-picks : goal.returns-then-not-picks
 returns-then-not-picks c = (
-      left_kept c.requires.it c.read-j.ensures c.item_at-x.ensures c.waits.ensures (not-false _ c.if-not-waits.false)
+      left_kept c.requires.it c.read-j.ensures c.item_at-x.ensures c.waits.ensures c.if-not-waits.false
           c.sizes_of-z.ensures c.write.ensures,
       λ n p h. turned_left h c.read-j.ensures c.item_at-x.ensures
-          c.waits.ensures (not-false _ c.if-not-waits.false) c.sizes_of-z.ensures c.picks.ensures
-          (not-true _ c.if-not-picks.true) c.write.ensures c.with_waiting.ensures,
+          c.waits.ensures c.if-not-waits.false c.sizes_of-z.ensures c.picks.ensures
+          c.if-not-picks.true c.write.ensures c.with_waiting.ensures,
     )
 
 pub absorb_place-requires : goal.absorb_place-requires
@@ -50,14 +50,14 @@ absorb_place-requires c = record {
       items = c.requires.items;
       pass = c.requires.pass;
       it = turn_merged c.requires.it c.read-j.ensures
-          c.item_at-x.ensures c.waits.ensures (not-false _ c.if-not-waits.false);
+          c.item_at-x.ensures c.waits.ensures c.if-not-waits.false;
     }
 
 pub returns : goal.returns
 returns c = (
       absorbed_left c.absorb_place.ensures.0,
       λ n p h. turned_absorbed h c.read-j.ensures c.item_at-x.ensures
-          c.waits.ensures (not-false _ c.if-not-waits.false) c.sizes_of-z.ensures c.picks.ensures (not-false _
+          c.waits.ensures c.if-not-waits.false c.sizes_of-z.ensures c.picks.ensures (not-false _
           c.if-not-picks.false) c.absorb_place.ensures.0 (c.absorb_place.ensures.1 off n p
-          (turn_merged h c.read-j.ensures c.item_at-x.ensures c.waits.ensures (not-false _ c.if-not-waits.false))),
+          (turn_merged h c.read-j.ensures c.item_at-x.ensures c.waits.ensures c.if-not-waits.false)),
     )

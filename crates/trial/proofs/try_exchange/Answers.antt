@@ -11,7 +11,7 @@ pub shape_of-numbers-then-not-commute_kept : goal.shape_of-numbers-then-not-comm
 shape_of-numbers-then-not-commute_kept c = c.commute_kept.ensures.only.long
 
 pub returns-then-not-commute_kept : goal.returns-then-not-commute_kept
-returns-then-not-commute_kept c = exchange_not c.requires c.commute_kept.ensures _ (not-true _ c.if-not-commute_kept.true)
+returns-then-not-commute_kept c = exchange_not c.requires c.commute_kept.ensures _ c.if-not-commute_kept.true
 
 pub lay-requires : goal.lay-requires
 lay-requires c = (exchange_order c.requires c.commute_kept.ensures).lay
@@ -24,5 +24,5 @@ shape_of-numbers c = c.improves.ensures.only.long âˆ™ c.lay.ensures.only.long âˆ
 
 pub returns : goal.returns
 returns c =
-    exchange_tried c.requires c.commute_kept.ensures _ (not-false _ c.if-not-commute_kept.false) c.lay.ensures
+    exchange_tried c.requires c.commute_kept.ensures _ c.if-not-commute_kept.false c.lay.ensures
     c.improves.ensures

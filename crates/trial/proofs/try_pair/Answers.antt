@@ -8,7 +8,7 @@ pub shares_axis-requires : goal.shares_axis-requires
 shares_axis-requires c = runs_pre c.requires.parts
 
 pub returns-then-not-shares_axis : goal.returns-then-not-shares_axis
-returns-then-not-shares_axis c = pair_none c.requires _ c.shares_axis.ensures (not-true _ c.if-not-shares_axis.true)
+returns-then-not-shares_axis c = pair_none c.requires _ c.shares_axis.ensures c.if-not-shares_axis.true
 
 pub try_exchange-tried-requires : goal.try_exchange-tried-requires
 try_exchange-tried-requires c = rw c.exchange_of-one.ensures (exchange_pre c.requires _)
@@ -23,7 +23,7 @@ shape_of-numbers-in-Better c = c.try_exchange-tried.ensures.tried.only.long
 
 pub returns-in-Better : goal.returns-in-Better
 returns-in-Better c =
-    pair_one c.requires _ c.shares_axis.ensures (not-false _ c.if-not-shares_axis.false)
+    pair_one c.requires _ c.shares_axis.ensures c.if-not-shares_axis.false
     (rw c.exchange_of-one.ensures at c.try_exchange-tried.ensures) c.in-Better.is
 
 pub shape_of-numbers-in-Nothing : goal.shape_of-numbers-in-Nothing
@@ -31,6 +31,6 @@ shape_of-numbers-in-Nothing c = c.try_exchange.ensures.tried.only.long ∙ c.try
 
 pub returns-in-Nothing : goal.returns-in-Nothing
 returns-in-Nothing c =
-    pair_other c.requires _ c.shares_axis.ensures (not-false _ c.if-not-shares_axis.false)
+    pair_other c.requires _ c.shares_axis.ensures c.if-not-shares_axis.false
     (rw c.exchange_of-one.ensures at c.try_exchange-tried.ensures) c.in-Nothing.is
     (rw c.exchange_of-other.ensures at c.try_exchange.ensures)

@@ -16,7 +16,7 @@ pub returns-then-not-joins : goal.returns-then-not-joins
 returns-then-not-joins c = record {
       cut = c.loop-e.invariant.2
           ∙ run_stops _ _ _ _ _ _ _ (omega arith) c.loop-e-test.true
-          (sym c.joins.ensures ∙ not-true _ c.if-not-joins.true);
+          (sym c.joins.ensures ∙ c.if-not-joins.true);
       after = c.loop-e.invariant.0;
       within = c.loop-e.invariant.1;
     }
@@ -27,7 +27,7 @@ loop-e-preserved c = (
       omega arith,
       c.loop-e.invariant.2
           ∙ run_joins _ _ _ _ _ _ _ (omega arith) c.loop-e-test.true
-          (sym c.joins.ensures ∙ not-false _ c.if-not-joins.false),
+          (sym c.joins.ensures ∙ c.if-not-joins.false),
     )
 
 pub returns : goal.returns

@@ -11,7 +11,7 @@ use Rattle.listing_fields.proofs.record.operation_line.Goals as goal
 pub returns-then-not-fields : goal.returns-then-not-fields
 returns-then-not-fields c =
     let f = c.fields in none_bound operation_line
-    (said_no f.result f.new.1.0 f.ensures (not-true f.result c.if-not-fields.true))
+    (said_no f.result f.new.1.0 f.ensures c.if-not-fields.true)
 
 pub slice_bounds-has_minus-end-2 : goal.slice_bounds-has_minus-end-2
 slice_bounds-has_minus-end-2 c = sym (length-take-le 4 c.fields.new.1.0 (omega arith))
@@ -20,7 +20,7 @@ pub returns-then-has_minus : goal.returns-then-has_minus
 returns-then-has_minus c =
     let f = c.fields in
     operation_minus f.new.1.0 _
-    (said_yes f.result f.new.1.0 f.ensures (not-false f.result c.if-not-fields.false))
+    (said_yes f.result f.new.1.0 f.ensures c.if-not-fields.false)
     _ c.has_minus.ensures c.if-has_minus.true
 
 pub returns : goal.returns
@@ -28,6 +28,6 @@ returns c =
     let f = c.fields in
     operation_rest f.new.1.0 _
     (said_yes f.result f.new.1.0 f.ensures
-    (not-false f.result c.if-not-fields.false))
+    c.if-not-fields.false)
     _ _ c.has_minus.ensures c.if-has_minus.false
     c.outcome_and_target.ensures

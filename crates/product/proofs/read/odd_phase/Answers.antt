@@ -5,7 +5,7 @@ use Rattle.product.proofs.Phase.{tell_commute, tell_phase}
 use Rattle.product.proofs.read.odd_phase.Goals as goal
 
 pub returns-then-not-anticommutes : goal.returns-then-not-anticommutes
-returns-then-not-anticommutes c = tell_commute _ _ _ (sym c.anticommutes.ensures ∙ not-true _ c.if-not-anticommutes.true)
+returns-then-not-anticommutes c = tell_commute _ _ _ (sym c.anticommutes.ensures ∙ c.if-not-anticommutes.true)
 
 pub returns : goal.returns
-returns c = tell_phase _ _ _ (sym c.anticommutes.ensures ∙ not-false _ c.if-not-anticommutes.false) c.product_phase.ensures
+returns c = tell_phase _ _ _ (sym c.anticommutes.ensures ∙ c.if-not-anticommutes.false) c.product_phase.ensures
