@@ -47,7 +47,7 @@ class Function:
             self.needs.setdefault(plain(old), (new, at[0]))
 
     def need(self, old):
-        for form in (old, re.sub(r"^overflow-", "", old), re.sub(r"^slice-bounds-", "part-", old), re.sub(r"^slice-bounds-", "sub-", old)):
+        for form in (old, re.sub(r"^(overflow|nonzero)-", "", old), re.sub(r"^slice-bounds-", "part-", old), re.sub(r"^slice-bounds-", "sub-", old)):
             for known in self.needs:
                 if same_step(form, known):
                     return self.needs[known]

@@ -143,4 +143,5 @@ module _ (l lookback : ℕ) (A C : List (List ℕ)) (ρ τ : ℕ → ℕ) (h : R
       → Follows (put_items l lookback A x is) (put_items l lookback C y (map (renamed ρ τ) is))
   unfolding put_items
   items_follow [] f = f
-  items_follow (i ∷ is) f = items_follow is (item_follows f i)
+  items_follow {x = x} {y = y} (i ∷ is) f =
+      items_follow {x = put_item l lookback A x i} {y = put_item l lookback C y (renamed ρ τ i)} is (item_follows f i)

@@ -98,7 +98,7 @@ module _ (l : ℕ) where
   unfolding values_from mentions_from
   from_within qubits vs ms [] wide leaves h = h
   from_within qubits vs ms (node ∷ rest) wide leaves h =
-      from_within qubits _ _ rest wide leaves.1
+      from_within qubits (vs ++ (node_value l (value_at vs) node ∷ [])) (ms ++ (node_mentions (mentions_at ms) node ∷ [])) rest wide leaves.1
       (within_one vs ms _ _ h (node_within qubits (value_at vs) (mentions_at ms) node wide leaves.0 (λ i. within_at vs ms i h)))
 
 -- a node's value acts only on qubits that the node mentions
