@@ -45,7 +45,7 @@ unfolding multiply_images letter_image
 multiply_free l held w v [] h = refl
 multiply_free l held w v (q ∷ qs) h =
     ap (λ (x : Value). multiply_images l held w (multiply l v x) qs) (letter_free l 0 held q (letter_at l w q) h.0)
-    ∙ multiply_free l held w _ qs h.1
+    ∙ multiply_free l held w (multiply l v (letter_image l [] q (letter_at l w q))) qs h.1
 
 -- a bit of both
 shared_bit : (x y t : ℕ) → bit_and x y ≡ 0 → bit x t ≡ 1 → bit y t ≡ 1 → ⊥

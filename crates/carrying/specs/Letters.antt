@@ -12,7 +12,7 @@ use Rattle.bits.specs.LowestBit.{clear_lt}
 use Rattle.store.specs.Part.{put, part_put_same}
 use Rattle.store.specs.Row.{row}
 use Rattle.pauli.specs.Word.{phase, identity}
-use Rattle.pauli.specs.Letter.{single, letter_at}
+use Rattle.pauli.specs.Letter.{single, letter_at as qubit_letter}
 use Rattle.model.specs.Words.{Value, word_of, as_value, set_bits, support}
 use Rattle.model.specs.Clifford.{Touched, letter_image, multiply_images, word_image}
 use Rattle.theory.specs.Every.{Every}
@@ -65,12 +65,12 @@ axis_word id t = word_of t.store.axes id
 pub record LetterAt (z : Shape) (id q e : ℕ) (ws xs : List ℕ) (t : Touched) : Type 0 where
   pub held : AxisHeld z id ws xs t
   pub qubit : q < z.qubits
-  pub letter : IsXYZ (letter_at z.l (axis_word id t) q)
+  pub letter : IsXYZ (qubit_letter z.l (axis_word id t) q)
   pub small : e < 4
 
 -- the image of its letter
 unfoldable pub letter_of_axis : Shape → ℕ → ℕ → Touched → Value
-letter_of_axis z id q t = letter_image z.l t.held q (letter_at z.l (axis_word id t) q)
+letter_of_axis z id q t = letter_image z.l t.held q (qubit_letter z.l (axis_word id t) q)
 
 module _ {z : Shape} {id q e : ℕ} {ws xs : List ℕ} {t : Touched} (h : LetterAt z id q e ws xs t) where
   pub letter_granted : Granted z ws xs
@@ -96,10 +96,10 @@ module _ {z : Shape} {id q e : ℕ} {ws xs : List ℕ} {t : Touched} (h : Letter
   letter_long f = read_long z.l ws id f letter_axis
 
   -- what was read: the letter and the slot
-  module _ {p : List ℕ} {c s : ℕ} (axis : (n : ℕ) → id < n → p ≡ word_of (axes_of z.l n ws) id) (letter : c ≡ letter_at z.l p q)
+  module _ {p : List ℕ} {c s : ℕ} (axis : (n : ℕ) → id < n → p ≡ word_of (axes_of z.l n ws) id) (letter : c ≡ qubit_letter z.l p q)
       (slot : s ≡ get_or (row xs z.u f_slot) q 0) where
-    letter_is : c ≡ letter_at z.l (axis_word id t) q
-    letter_is = letter ∙ ap (λ (w : List ℕ). letter_at z.l w q) (axis_is axis)
+    letter_is : c ≡ qubit_letter z.l (axis_word id t) q
+    letter_is = letter ∙ ap (λ (w : List ℕ). qubit_letter z.l w q) (axis_is axis)
 
     slot_is : s ≡ slot_of q t.held
     slot_is = slot ∙ h.held.at.holds.slots q h.qubit
@@ -139,7 +139,7 @@ module _ {z : Shape} {id q e : ℕ} {ws xs : List ℕ} {t : Touched} (h : Letter
       pub letter_image_lem : letter_of_axis z id q t ≡ image_in z ws xs (3 * (s - 1) + (c - 1))
       unfolding letter_of_axis
       letter_image_lem =
-          let e : suc (c - 1) ≡ letter_at z.l (axis_word id t) q = omega (arith, c_some.0, letter_is) in
+          let e : suc (c - 1) ≡ qubit_letter z.l (axis_word id t) q = omega (arith, c_some.0, letter_is) in
           ap (letter_image z.l t.held q) (sym e) ∙ found.1 ∙ sym (h.held.at.holds.images _ image_number)
 
       pub held_letter : {ws' : List ℕ} {r : ℕ} → ScratchTimes z e ws (image_in z ws xs (3 * (s - 1) + (c - 1))) ws' r
@@ -150,7 +150,7 @@ module _ {z : Shape} {id q e : ℕ} {ws xs : List ℕ} {t : Touched} (h : Letter
 
 -- qubit q is one of the program's, and the axis acts on it
 abbrev pub Acted : Shape → ℕ → Touched → ℕ → Type 0
-Acted z id t q = (q < z.qubits) × IsXYZ (letter_at z.l (axis_word id t) q)
+Acted z id t q = (q < z.qubits) × IsXYZ (qubit_letter z.l (axis_word id t) q)
 
 pub record LettersAt (z : Shape) (id j w e : ℕ) (ws xs : List ℕ) (t : Touched) : Type 0 where
   pub held : AxisHeld z id ws xs t

@@ -175,10 +175,10 @@ module _ {z : Shape} {st₀ : State} {n : ℕ} {all : Bool} {id : ℕ} {ws xs : 
       there = omega arith
 
       drops : (is : List Item) → drop (j - h.place) (drop h.place is) ≡ drop j is
-      drops is = lib.Seq.drop_drop (j - h.place) h.place is ∙ ap (λ (x : ℕ). drop x is) there
+      drops is = lib.Seq.drop-drop (j - h.place) h.place is ∙ ap (λ (x : ℕ). drop x is) there
 
       drop_long : length (drop h.place p.out) ≡ length p.out - h.place
-      drop_long = lib.ListN.length_drop h.place p.out
+      drop_long = lib.ListN.length-drop h.place p.out
 
 -- what a turn's call leaves
 abbrev pub TurnLeft : Shape → State → Bool → ℕ → ℕ → List ℕ → List ℕ → Step → List ℕ → List ℕ → Type 0
@@ -410,7 +410,7 @@ module _ {z : Shape} {st₀ : State} {n : ℕ} {all : Bool} {id : ℕ} {ws₀ xs
           where
             drop_one : (is : List Item) → drop 1 (drop (place_in z.u xs i) is) ≡ drop (suc (place_in z.u xs i)) is
             drop_one is =
-                lib.Seq.drop_drop 1 (place_in z.u xs i) is
+                lib.Seq.drop-drop 1 (place_in z.u xs i) is
                 ∙ ap (λ (v : ℕ). drop v is) (let g : place_in z.u xs i + 1 ≡ suc (place_in z.u xs i) = omega arith in g)
 
         now_next : WaitNow z st₀ n all id ws' xs' s (i + 1) k p

@@ -1,5 +1,4 @@
-// Checking, Rewriting and Listing for C: include/werdutxa.h declares them, rust/ has a safe form.
-// In C a slice is a pointer and a length, and `&mut [usize; 14]` a pointer to that many numbers.
+// Checking, Rewriting and Listing in numbers, as C calls them: `werdutxa_c` exports them, include/werdutxa.h declares them, rust/ has a safe form.
 #![tactic(auto)]
 ghost use Rattle.std.specs.Prelude.{◌≡◌};
 ghost use Rattle.model.specs.Interface.{number_of};
@@ -10,8 +9,7 @@ ghost use Rattle.werdutxa.specs.Calls.{counts_of, strategy_of, lazy_of, options_
 use model::{Counters, Counts, Lazy, Options, Strategy};
 
 // The number of Checking's answer.
-#[unsafe(no_mangle)]
-pub extern "C" fn werdutxa_check(
+pub fn werdutxa_check(
     qubits: usize,
     node_count: usize,
     operation_count: usize,
@@ -71,8 +69,7 @@ pub extern "C" fn werdutxa_check(
 }
 
 // Rewriting: the number of its answer; the counters, and how many operations and axes there are, are written.
-#[unsafe(no_mangle)]
-pub extern "C" fn werdutxa_rewrite(
+pub fn werdutxa_rewrite(
     qubits: usize,
     node_count: usize,
     operation_count: usize,
@@ -142,8 +139,7 @@ pub extern "C" fn werdutxa_rewrite(
 }
 
 // Listing: the number of its answer; the text is the first `size` bytes of the output.
-#[unsafe(no_mangle)]
-pub extern "C" fn werdutxa_list(
+pub fn werdutxa_list(
     text: &[u8],
     output: &mut [u8],
     words: &mut [u64],

@@ -15,7 +15,7 @@ pub returns : goal.returns
 returns c =
     let zeros
     = zeros_lent c.args.words.now c.scratch_at-scratch.result (2 * c.args.shape.l)
-    c.zero_words.new.0 (omega (arith, c.scratch_at-scratch.ensures, (carry_granted c.requires.it).words_long))
+    c.zero_words.new.d (omega (arith, c.scratch_at-scratch.ensures, (carry_granted c.requires.it).words_long))
     c.zero_words.ensures in
     λ t h. zeros_carried h c.scratch_at-scratch.ensures zeros
     (c.carry_letters.ensures t (zeros_carry h c.scratch_at-scratch.ensures zeros))

@@ -11,4 +11,4 @@ overflow_mul-hash-2 c =
 
 pub returns : goal.returns
 unfolding mixed
-returns c = c.wrapping_add_u64.ensures
+returns c = c.wrapping_add_u64.ensures.value

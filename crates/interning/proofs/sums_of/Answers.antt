@@ -12,8 +12,8 @@ loop-k-preserved c =
     let w = c.args.w.now in (
       omega arith,
       c.loop-k.invariant.1,
-      total_more w c.loop-k.k c.loop-k.invariant.2 c.wrapping_add_u64-total.ensures,
-      hash_more w c.loop-k.k c.loop-k.invariant.3 c.mixed_halves.ensures c.wrapping_add_u64-hash.ensures,
+      total_more w c.loop-k.k c.loop-k.invariant.2 c.wrapping_add_u64-total.ensures.value,
+      hash_more w c.loop-k.k c.loop-k.invariant.3 c.mixed_halves.ensures c.wrapping_add_u64-hash.ensures.value,
     )
 
 pub returns : goal.returns

@@ -16,7 +16,7 @@ returns-then-not-fields c =
     record {
       read = line_read _ _ _ _ _ c.line_end-e.ensures _
           c.if-e-text.false
-          (none_bound allowed (said_no f.result f.new.1.0 f.ensures c.if-not-fields.true));
+          (none_bound allowed (said_no f.result f.new.to f.ensures c.if-not-fields.true));
       within = tt;
     }
 
@@ -26,8 +26,8 @@ returns-then-too_large c =
     record {
       read = line_read _ _ _ _ _ c.line_end-e.ensures _
           c.if-e-text.false
-          (header_refused f.new.1.0 _
-          (said_yes f.result f.new.1.0 f.ensures c.if-not-fields.false)
+          (header_refused f.new.to _
+          (said_yes f.result f.new.to f.ensures c.if-not-fields.false)
           c.too_large.ensures c.if-too_large.true);
       within = tt;
     }
@@ -38,7 +38,7 @@ returns c =
     let ends = c.line_end-e.ensures in
     let newline = c.if-e-text.false in
     let allowed = c.if-too_large.false in
-    let h = f.new.1.0 in
+    let h = f.new.to in
     let small = not_too_large h c.too_large.ensures allowed in
     let qubits = c.wide.ensures in
     let nodes = c.wide-2.ensures in

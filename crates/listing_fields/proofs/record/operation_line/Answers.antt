@@ -11,23 +11,23 @@ use Rattle.listing_fields.proofs.record.operation_line.Goals as goal
 pub returns-then-not-fields : goal.returns-then-not-fields
 returns-then-not-fields c =
     let f = c.fields in none_bound operation_line
-    (said_no f.result f.new.1.0 f.ensures c.if-not-fields.true)
+    (said_no f.result f.new.to f.ensures c.if-not-fields.true)
 
 pub slice_bounds-has_minus-end-2 : goal.slice_bounds-has_minus-end-2
-slice_bounds-has_minus-end-2 c = sym (length-take-le 4 c.fields.new.1.0 (omega arith))
+slice_bounds-has_minus-end-2 c = sym (length-take-le 4 c.fields.new.to (omega arith))
 
 pub returns-then-has_minus : goal.returns-then-has_minus
 returns-then-has_minus c =
     let f = c.fields in
-    operation_minus f.new.1.0 _
-    (said_yes f.result f.new.1.0 f.ensures c.if-not-fields.false)
+    operation_minus f.new.to _
+    (said_yes f.result f.new.to f.ensures c.if-not-fields.false)
     _ c.has_minus.ensures c.if-has_minus.true
 
 pub returns : goal.returns
 returns c =
     let f = c.fields in
-    operation_rest f.new.1.0 _
-    (said_yes f.result f.new.1.0 f.ensures
+    operation_rest f.new.to _
+    (said_yes f.result f.new.to f.ensures
     c.if-not-fields.false)
     _ _ c.has_minus.ensures c.if-has_minus.false
     c.outcome_and_target.ensures

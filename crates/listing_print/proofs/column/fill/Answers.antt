@@ -6,14 +6,14 @@ use native.Mathlib.Omega.{arith}
 use Rattle.listing_print.proofs.column.fill.Goals as goal
 
 pub returns-then-v-eq-MINUS : goal.returns-then-v-eq-MINUS
-returns-then-v-eq-MINUS c = column_minus _ c.blanks.new.0 c.args.d.now c.if-v-eq-MINUS.true c.requires c.blanks.ensures
+returns-then-v-eq-MINUS c = column_minus _ c.blanks.new.d c.args.d.now c.if-v-eq-MINUS.true c.requires c.blanks.ensures
 
 pub slice_bounds-blanks-end-2 : goal.slice_bounds-blanks-end-2
 slice_bounds-blanks-end-2 c =
     let s = c.digits-a in
-    sym (length-take-le s.result s.new.0 (omega (arith, s.ensures.from, s.ensures.long)))
+    sym (length-take-le s.result s.new.d (omega (arith, s.ensures.from, s.ensures.long)))
 
 pub returns : goal.returns
 returns c =
-    column_digits _ c.digits-a.result c.digits-a.new.0 c.if-v-eq-MINUS.false c.digits-a.ensures
+    column_digits _ c.digits-a.result c.digits-a.new.d c.if-v-eq-MINUS.false c.digits-a.ensures
     c.blanks-2.ensures

@@ -6,5 +6,5 @@ use Rattle.listing_print.proofs.column.put.Goals as goal
 
 pub returns : goal.returns
 returns c =
-    printed_part c.args.out.now c.args.at columns c.fill.new.0 _ c.requires c.fill.ensures
+    printed_part c.args.out.now c.args.at columns c.fill.new.d _ c.requires c.fill.ensures
     (column_length _)

@@ -13,7 +13,7 @@ returns-then-line c =
     record {
       read = line_read _ _ _ _ _ c.line_end-e.ensures _
           c.if-e-text.false
-          (said_yes l.result l.new.1.1.0 l.ensures c.if-line.true);
+          (said_yes l.result l.new.r l.ensures c.if-line.true);
       within = omega (
         arith,
         c.line_end-e.ensures.within,
@@ -27,6 +27,6 @@ returns c =
     record {
       read = line_read _ _ _ _ _ c.line_end-e.ensures _
           c.if-e-text.false
-          (said_no l.result l.new.1.1.0 l.ensures c.if-line.false);
+          (said_no l.result l.new.r l.ensures c.if-line.false);
       within = tt;
     }

@@ -1,0 +1,10 @@
+-- The loop is before node n's turn. Assumes nothing.
+use Prim.Native.Nat.{◌-◌}
+use Rattle.packing.specs.Packing.{AtNode}
+use Rattle.packing.proofs.pack_nodes.Given as goal
+
+abbrev pub invariant-loop-n : goal.invariant-loop-n
+invariant-loop-n l = AtNode l.shape l.nodes l.operations l.rows l.initial.words l.initial.numbers l.words l.numbers l.st l.n
+
+abbrev pub decreases-loop-n : goal.decreases-loop-n
+decreases-loop-n l = l.shape.nodes - l.n
