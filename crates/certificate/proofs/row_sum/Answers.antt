@@ -19,7 +19,7 @@ overflow_add-sum c =
     let i = c.loop-q.invariant in
     let y = c.item_at-y in
     let h = c.requires in
-    add_fits row_most (omega arith) c.loop-q.sum i.2 c.term-sum.ensures (pair_bound _ _ _ _ _)
+    add_fits row_most (omega arith) c.loop-q.sum-bits i.2 c.term-sum.ensures (pair_bound _ _ _ _ _)
     (row_step _ _ _ _ _ _ _ _ _ _ i.0 y.ensures c.term-sum.ensures)
     (row_bound _ _ _ _ _ _ _ _ (room h c.loop-q-test.true))
 
@@ -30,7 +30,7 @@ loop-q-preserved c =
     let h = c.requires in (
       omega arith,
       omega arith,
-      add_read row_most (omega arith) c.loop-q.sum i.2 c.term-sum.ensures (pair_bound _ _ _ _ _)
+      add_read row_most (omega arith) c.loop-q.sum-bits i.2 c.term-sum.ensures (pair_bound _ _ _ _ _)
           (row_step _ _ _ _ _ _ _ _ _ _ i.0 y.ensures c.term-sum.ensures)
           (row_bound _ _ _ _ _ _ _ _ (room h c.loop-q-test.true)),
     )

@@ -1,15 +1,13 @@
 -- The loop's invariant: the sum of the pairs with the items before q. Assumes nothing.
 use mathlib.Core.Path.{◌≡◌}
 use Prim.Native.Nat.{◌-◌, ◌≤◌}
-use mir.Syntax.{w64}
-use mir.Val.{to_z}
 use Rattle.items.specs.View.{rot_said}
 use Rattle.certificate.specs.Turns.{row_to}
 use Rattle.certificate.proofs.row_sum.Given as goal
 
 abbrev pub invariant-loop-q : goal.invariant-loop-q
 invariant-loop-q l =
-    (l.from ≤ l.q) × (l.q ≤ l.end) × (to_z w64 l.sum ≡ row_to l.z l.words l.numbers (rot_said l.x) l.from l.q l.pa l.qa)
+    (l.from ≤ l.q) × (l.q ≤ l.end) × (l.sum ≡ row_to l.z l.words l.numbers (rot_said l.x) l.from l.q l.pa l.qa)
 
 abbrev pub decreases-loop-q : goal.decreases-loop-q
 decreases-loop-q l = l.end - l.q

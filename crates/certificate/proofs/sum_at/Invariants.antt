@@ -1,13 +1,11 @@
 -- The loop's invariant: the sum of the rows of the items before p. Assumes nothing.
 use mathlib.Core.Path.{◌≡◌}
 use Prim.Native.Nat.{◌-◌, ◌≤◌}
-use mir.Syntax.{w64}
-use mir.Val.{to_z}
 use Rattle.certificate.specs.Turns.{sum_to}
 use Rattle.certificate.proofs.sum_at.Given as goal
 
 abbrev pub invariant-loop-p : goal.invariant-loop-p
-invariant-loop-p l = (l.from ≤ l.p) × (l.p ≤ l.end) × (to_z w64 l.sum ≡ sum_to l.z l.words l.numbers l.from l.p l.b l.pa l.qa)
+invariant-loop-p l = (l.from ≤ l.p) × (l.p ≤ l.end) × (l.sum ≡ sum_to l.z l.words l.numbers l.from l.p l.b l.pa l.qa)
 
 abbrev pub decreases-loop-p : goal.decreases-loop-p
 decreases-loop-p l = l.end - l.p

@@ -4,13 +4,13 @@ use Rattle.points.specs.StreamPass.{absorption_off, absorption_by_lem}
 use Rattle.points.proofs.absorption_of.Goals as goal
 
 pub returns-then-not-options : goal.returns-then-not-options
-returns-then-not-options c = absorption_off _ c.if-not-options.true
+returns-then-not-options c = absorption_off _ (not-true _ c.if-not-options.true)
 
 pub returns-in-Off : goal.returns-in-Off
-returns-in-Off c = absorption_by_lem _ c.if-not-options.false c.in-Off.is
+returns-in-Off c = absorption_by_lem _ (not-false _ c.if-not-options.false) c.in-Off.is
 
 pub returns-in-On : goal.returns-in-On
-returns-in-On c = absorption_by_lem _ c.if-not-options.false c.in-On.is
+returns-in-On c = absorption_by_lem _ (not-false _ c.if-not-options.false) c.in-On.is
 
 pub returns-in-From : goal.returns-in-From
-returns-in-From c = absorption_by_lem _ c.if-not-options.false c.in-From.is
+returns-in-From c = absorption_by_lem _ (not-false _ c.if-not-options.false) c.in-From.is

@@ -57,7 +57,6 @@ pub returns : goal.returns
 returns c = (
       absorbed_left c.absorb_place.ensures.0,
       λ n p h. turned_absorbed h c.read-j.ensures c.item_at-x.ensures
-          c.waits.ensures c.if-not-waits.false c.sizes_of-z.ensures c.picks.ensures (not-false _
-          c.if-not-picks.false) c.absorb_place.ensures.0 (c.absorb_place.ensures.1 off n p
+          c.waits.ensures c.if-not-waits.false c.sizes_of-z.ensures c.picks.ensures c.if-not-picks.false c.absorb_place.ensures.0 (c.absorb_place.ensures.1 off n p
           (turn_merged h c.read-j.ensures c.item_at-x.ensures c.waits.ensures c.if-not-waits.false)),
     )

@@ -1,16 +1,15 @@
 -- The place that is asked first, else the first one. Assumes nothing.
 use Rattle.commuting.specs.Commuting.{entry_in, axes_stored}
 use Rattle.commuting.specs.Blocking.{blocking_at}
-use borrow.Author.Tests.{ltb-true}
 use Rattle.sweeps.proofs.sweep.blocking.Goals as goal
 
 pub axis_at-other-requires : goal.axis_at-other-requires
-axis_at-other-requires c = entry_in c.requires _ (ltb-true _ _ c.if-at-end.true)
+axis_at-other-requires c = entry_in c.requires _ c.if-at-end.true
 
 pub anticommute-requires : goal.anticommute-requires
-anticommute-requires c = axes_stored c.requires c.if-from-at.true (ltb-true _ _ c.if-at-end.true) c.axis_at-other.ensures
+anticommute-requires c = axes_stored c.requires c.if-from-at.true c.if-at-end.true c.axis_at-other.ensures
 
 pub returns-then-anticommute : goal.returns-then-anticommute
 returns-then-anticommute c =
-    blocking_at c.if-from-at.true (ltb-true _ _ c.if-at-end.true) c.axis_at-other.ensures c.anticommute.ensures
+    blocking_at c.if-from-at.true c.if-at-end.true c.axis_at-other.ensures c.anticommute.ensures
     c.if-anticommute.true
