@@ -1,16 +1,16 @@
 /* Werdutxa, a proved rotation rewriter: Checking, Rewriting and Listing.
  *
- * Link target/staticlib/libwerdutxa.a, which `rt staticlib werdutxa` writes. Nothing is allocated and nothing is kept between calls.
+ * Link target/staticlib/libwerdutxa.a, which `tools/staticlib` writes. Nothing is allocated and nothing is kept between calls.
  *
  * A slice is a pointer and a length, counted in numbers. No pointer is NULL, not even one with length 0. A slice that a call writes overlaps
  * no other. This is all that a caller must grant: every other input is answered, at worst by a refusal.
  *
- * A call takes less than 20 KiB of stack, whatever the job. Measured on x86-64 with rattle-kit-5b-plain, from the caller's frame on, as the
- * deepest of 5,453 jobs and 310 listings: Checking 8,824 bytes, Rewriting 10,696, Listing 18,440; by the machine code no path of calls takes
- * more, and none recurses (oracle/README.md, "Stack").
+ * Built by rattle-kit-5b-plain, a call took less than 20 KiB of stack, whatever the job; with a later kit run oracle/stack/run. Measured on
+ * x86-64, from the caller's frame on, as the deepest of 5,453 jobs and 310 listings: Checking 8,824 bytes, Rewriting 10,696, Listing 18,440;
+ * by the machine code no path of calls took more, and none recursed (oracle/README.md, "Stack").
  *
  * A call cannot be stopped: it ends by itself. On most jobs its time grows about as the rotations do, with a large window much faster: one
- * exchange among 3,072 rotations took 9 seconds (docs/SPEED.md, "How long a call may take"). */
+ * exchange among 3,072 rotations took 77 ms, among 1,536 14 ms (docs/SPEED.md, "How long a call may take"). */
 #ifndef WERDUTXA_H
 #define WERDUTXA_H
 

@@ -12,7 +12,7 @@ fn main() {
     println!("cargo::rerun-if-changed={}", library.display());
     assert!(
         library.exists(),
-        "{} is not there: run `rt staticlib werdutxa` in the repository's root, or set STATICLIB to the archive's folder",
+        "{} is not there: run `tools/staticlib` in the repository's root, or set STATICLIB to the archive's folder",
         library.display()
     );
     println!("cargo::rustc-link-search=native={folder}");

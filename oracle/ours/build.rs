@@ -16,7 +16,7 @@ fn main() {
     sources::rerun_if_changed(&library);
     assert!(
         library.exists(),
-        "{} is not there: run `rt staticlib werdutxa` in the repository's root",
+        "{} is not there: run `tools/staticlib` in the repository's root",
         library.display()
     );
     println!("cargo::rustc-link-search=native={folder}");

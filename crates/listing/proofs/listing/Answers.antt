@@ -22,9 +22,9 @@ run-requires c =
       small = read_small _ _ (text_read _ _ _ _ r.ensures
           c.in-Job.is);
       read_room = record {
-        nodes_room = omega (arith, r.auto.1.0);
-        operations_room = omega (arith, r.auto.1.1.0);
-        rows_room = omega (arith, r.auto.1.1.1.0);
+        nodes_room = omega (arith, r.auto.nodes);
+        operations_room = omega (arith, r.auto.operations);
+        rows_room = omega (arith, r.auto.rows);
       };
       room = omega arith;
     }

@@ -44,7 +44,7 @@ returns c =
     let nodes = c.wide-2.ensures in
     let operations = c.wide-3.ensures in
     record {
-      read = same_taken (four h f.auto.1.0 qubits nodes operations c.wide-4.ensures) (line_read _ _ _ _ _ ends _ newline
+      read = same_taken (four h f.auto.to qubits nodes operations c.wide-4.ensures) (line_read _ _ _ _ _ ends _ newline
           (header_allowed h _ (said_yes f.result h f.ensures c.if-not-fields.false)
           c.too_large.ensures allowed));
       within = (

@@ -16,13 +16,13 @@ loop-id-init c = (omega arith, joined_first _ _ _ _ (room_as _ (axes_joined _ _ 
 
 pub word-requires : goal.word-requires
 word-requires c =
-    let inside = chunk_in c.loop-id.id c.args.count (2 * c.args.l) c.loop-id-test.true in
+    let inside = chunk_in (2 * c.args.l) c.args.count c.loop-id.id c.loop-id-test.true in
     omega (arith, inside, c.requires.0)
 
 pub axis-next-requires : goal.axis-next-requires
 axis-next-requires c =
     let here = c.loop-id-test.true in
-    let inside = chunk_in c.loop-id.id c.args.count (2 * c.args.l) here in (
+    let inside = chunk_in (2 * c.args.l) c.args.count c.loop-id.id here in (
       ap length (c.word.ensures _ here ∙ axis_word _ _ _ _ here) ∙ part_length _ _ _ (omega (arith, inside, c.requires.0)),
       c.requires.1,
       room_as _

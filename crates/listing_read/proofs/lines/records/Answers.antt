@@ -13,26 +13,26 @@ pub loop-i-init : goal.loop-i-init
 loop-i-init c = (omega arith, refl, c.requires.0, records_first _ _ _ _ _ _)
 
 pub overflow_mul-a : goal.overflow_mul-a
-overflow_mul-a c = omega (arith, chunk_in c.loop-i.i c.args.count c.args.n c.loop-i-test.true)
+overflow_mul-a c = omega (arith, chunk_in c.args.n c.args.count c.loop-i.i c.loop-i-test.true)
 
 pub overflow_add-e : goal.overflow_add-e
-overflow_add-e c = omega (arith, chunk_in c.loop-i.i c.args.count c.args.n c.loop-i-test.true)
+overflow_add-e c = omega (arith, chunk_in c.args.n c.args.count c.loop-i.i c.loop-i-test.true)
 
 pub offset_bounds-to-a : goal.offset_bounds-to-a
-offset_bounds-to-a c = omega (arith, chunk_in c.loop-i.i c.args.count c.args.n c.loop-i-test.true)
+offset_bounds-to-a c = omega (arith, chunk_in c.args.n c.args.count c.loop-i.i c.loop-i-test.true)
 
 pub slice_bounds-record-count : goal.slice_bounds-record-count
-slice_bounds-record-count c = omega (arith, chunk_in c.loop-i.i c.args.count c.args.n c.loop-i-test.true)
+slice_bounds-record-count c = omega (arith, chunk_in c.args.n c.args.count c.loop-i.i c.loop-i-test.true)
 
 pub slice_bounds-record-start : goal.slice_bounds-record-start
-slice_bounds-record-start c = omega (arith, chunk_in c.loop-i.i c.args.count c.args.n c.loop-i-test.true)
+slice_bounds-record-start c = omega (arith, chunk_in c.args.n c.args.count c.loop-i.i c.loop-i-test.true)
 
 pub slice_bounds-record-end : goal.slice_bounds-record-end
-slice_bounds-record-end c = omega (arith, chunk_in c.loop-i.i c.args.count c.args.n c.loop-i-test.true)
+slice_bounds-record-end c = omega (arith, chunk_in c.args.n c.args.count c.loop-i.i c.loop-i-test.true)
 
 pub record-p-requires : goal.record-p-requires
 record-p-requires c =
-    let inside = chunk_in c.loop-i.i c.args.count c.args.n c.loop-i-test.true in
+    let inside = chunk_in c.args.n c.args.count c.loop-i.i c.loop-i-test.true in
     (c.loop-i.invariant.2, λ o. part_size c.loop-i.to _ _ (omega (arith, inside)) ∙ c.requires.1 o)
 
 pub shape_of-to-in_default : goal.shape_of-to-in_default
@@ -42,7 +42,7 @@ shape_of-to-in_default c =
 
 pub returns-in_default : goal.returns-in_default
 returns-in_default c =
-    let inside = chunk_in c.loop-i.i c.args.count c.args.n c.loop-i-test.true in
+    let inside = chunk_in c.args.n c.args.count c.loop-i.i c.loop-i-test.true in
     record {
       read = records_bad _ _ _ _ _ _ _ _ c.loop-i-test.true c.loop-i.invariant.3
           (record_lent _ _ _ _ _ _ c.record-p.ensures.read (part_size c.loop-i.to _ _ (omega (arith, inside))) c.in_default.is);
@@ -52,7 +52,7 @@ returns-in_default c =
 pub loop-i-preserved : goal.loop-i-preserved
 loop-i-preserved c =
     let a = c.loop-i.i * c.args.n in
-    let inside = chunk_in c.loop-i.i c.args.count c.args.n c.loop-i-test.true in
+    let inside = chunk_in c.args.n c.args.count c.loop-i.i c.loop-i-test.true in
     let fits : a + c.args.n ≤ length c.loop-i.to = omega (arith, inside) in (
       omega arith,
       same_len_mid a (a + c.args.n - a) c.loop-i.to c.record-p.new.r c.record-p.auto.r ∙ c.loop-i.invariant.1,

@@ -32,4 +32,4 @@ overflow_add-result-4 c =
 
 pub returns : goal.returns
 returns c =
-    evaluated_product _ _ _ c.requires.0 c.requires.1 c.held-a.ensures c.held-b.ensures c.scratch_at-at.ensures c.product_in-e.ensures
+    evaluated_product _ _ _ c.requires.1.0 c.requires.1.1 c.held-a.ensures c.held-b.ensures c.scratch_at-at.ensures c.product_in-e.ensures
