@@ -18,7 +18,7 @@ for path in sorted(glob.glob("crates/*/specs/**/*.antt", recursive=True) + glob.
         for item in [i.strip() for i in m[2].split(",") if i.strip()]:
             shown = item.split(" as ")[-1].strip()
             parts = [p for p in re.split("◌", shown) if p.strip()]
-            used = all((p in tokens) if re.fullmatch(r"[\w'₀-₉-]+", p) else p in body for p in parts)
+            used = shown in tokens or all((p in tokens) if re.fullmatch(r"[\w'₀-₉-]+", p) else p in body for p in parts)
             if used or not parts:
                 kept.append(item)
             else:

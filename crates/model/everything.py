@@ -8,26 +8,28 @@ modules = modules[: modules.index("Everything")]
 # what the model stands on
 below = [
     ("mathlib.Core.List", ["flatten"]),
-    ("mathlib.Core.Option", ["orElse", "bind"]),
-    ("Rattle·bits.specs.Bit", ["bit"]),
-    ("Rattle·bits.specs.Sum", ["sumTo"]),
-    ("Rattle·bits.specs.Popcount", ["popcountIn", "popcount"]),
-    ("Rattle·store.specs.Equal", ["sameList"]),
-    ("Rattle·store.specs.Chunk", ["chunks"]),
-    ("Rattle·angle.specs.Angle", ["eighthsOf", "pick", "signedAngle"]),
-    ("Rattle·pauli.specs.Word", ["width", "isIdentity", "common", "xorWords", "phase", "symplectic", "anticommutes"]),
-    ("Rattle·pauli.specs.Letter", ["hasX", "hasZ", "single", "weight"]),
+    ("Rattle.std.proofs.Math.Option", ["or_else", "bind"]),
+    ("Rattle.bits.specs.Bit", ["bit"]),
+    ("Rattle.bits.specs.Sum", ["sum_to"]),
+    ("Rattle.bits.specs.Popcount", ["popcount_in", "popcount"]),
+    ("Rattle.store.specs.Equal", ["same_list"]),
+    ("Rattle.store.specs.Chunk", ["chunks"]),
+    ("Rattle.angle.specs.Angle", ["eighths_of", "pick", "signed_angle"]),
+    ("Rattle.pauli.specs.Word", ["width", "is_identity", "common", "xor_words", "phase", "symplectic", "anticommutes"]),
+    ("Rattle.pauli.specs.Letter", ["has_x", "has_z", "single", "weight"]),
 ]
 
 
-def wrapped(start, words, between, end):
-    lines, line = [], ""
-    for word in words:
-        if line and len(start) + len(line) + len(between) + len(word) + len(end) > 147:
-            lines.append(start + line + end)
-            line = ""
-        line += (between if line else "") + word
-    return lines + [start + line + end]
+# lines of at most 140 characters, underscores and the end not counted
+def wrapped(start, words, between, end, later):
+    lines, line = [], start + words[0]
+    for word in words[1:]:
+        longer = line + between + word
+        if len(longer.replace("_", "")) > 140:
+            lines.append(line + end)
+            longer = later + word
+        line = longer
+    return lines + [line + end]
 
 
 def of(module):
@@ -35,14 +37,13 @@ def of(module):
     return re.findall(r"^\s*unfoldable pub (\S+) :", text, re.M)
 
 
-groups = below + [(f"Rattle·model·specs.specs.{module}", of(module)) for module in modules]
+groups = below + [(f"Rattle.model.specs.{module}", of(module)) for module in modules]
 groups = [(module, names) for module, names in groups if names]
 out = ["-- Written by everything.py: `unfolding everything` opens the whole model, so that closed runs compute. Assumes nothing."]
-out += ["use Prim.Native.Nat.{ℕ}"]
+out += ["use Rattle.std.specs.Prelude.{ℕ}"]
 for module, names in groups:
-    out += wrapped(f"use {module}.{{", names, ", ", "}")
+    out += wrapped(f"use {module}.{{", names, ", ", "}", f"use {module}.{{")
 out += ["", "unfoldable pub everything : ℕ"]
-opened = wrapped(" " * 10, [name for _, names in groups for name in names], " ", "")
-out += ["unfolding " + opened[0].strip()] + ["    " + line.strip() for line in opened[1:]]
+out += wrapped("unfolding ", [name for _, names in groups for name in names], " ", "", "    ")
 out += ["everything = 0", ""]
 (specs / "Everything.antt").write_text("\n".join(out))

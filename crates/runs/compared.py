@@ -100,9 +100,9 @@ def axes(count, qubits, letters):
 def outcome(qubits, answer):
     first = answer[0]
     if first[0] == 10:
-        return ["limitExceeded"]
+        return ["limit_exceeded"]
     if first[0] == 9:
-        return ["within (nonHermitianAt %d)" % first[14]]
+        return ["within (non_hermitian_at %d)" % first[14]]
     operations, stored = first[6], first[7]
     records = answer[1 : 1 + operations]
     rows = answer[1 + operations : 1 + operations + 2 * qubits]
@@ -128,7 +128,7 @@ def broken(line):
 
 def theorem(name, comment, head, parts, answer):
     qubits, _, _, limit, lookback, window, candidates, rounds, absorb, eager, _, lazy, strategy, depth = head
-    absorption = "off" if not absorb else "lazy" if lazy else "atOnce"
+    absorption = "off" if not absorb else "lazy" if lazy else "at_once"
     flag = lambda b: "true" if b else "false"
     lines = [
         "%s : outcome %d (rules %d %d %d %s %s %s %s) %d (program %d"
@@ -143,31 +143,28 @@ def theorem(name, comment, head, parts, answer):
     return [b for line in lines for b in broken(line)] + ["unfolding everything", "%s = refl" % name, ""]
 
 
-HEAD = """-- Written by compared.py: %s, with what the Rust makes of each. Assumes nothing.
-use mathlib.Core.Path.{_≡_, refl}
-use mathlib.Core.Bool.{true, false}
-use mathlib.Core.List.{[], _∷_}
-"""
+HEAD = "-- Written by compared.py: %s, with what the Rust makes of each. Assumes nothing.\n"
 USED = [
-    ("Rattle·model.specs.declared.Strategy.the-variants", "Merge Litinski"),
-    ("Rattle·model.specs.declared.Absorption.the-variants", "off atOnce lazy"),
-    ("Rattle·model.specs.Everything", "everything"),
-    ("Rattle·runs·specs.specs.Shown", "I X Y Z product rotate measure conditional row program rules rotated measured+ measured-"),
-    ("Rattle·runs·specs.specs.Shown", "conditioned kept given+ given- nonHermitianAt shows"),
-    ("Rattle·runs·specs.specs.Outcome", "limitExceeded within outcome"),
+    ("Rattle.std.specs.Prelude", "◌≡◌ refl true false [] ◌∷◌"),
+    ("Rattle.model.specs.declared.Strategy.TheVariants", "Merge Litinski"),
+    ("Rattle.model.specs.declared.Absorption.TheVariants", "off at_once lazy"),
+    ("Rattle.model.specs.Everything", "everything"),
+    ("Rattle.runs.specs.Shown", "I X Y Z product rotate measure conditional row program rules rotated measured+ measured-"),
+    ("Rattle.runs.specs.Shown", "conditioned kept given+ given- non_hermitian_at shows"),
+    ("Rattle.runs.specs.Outcome", "limit_exceeded within outcome"),
 ]
 
 
 # the enum's cases in 01's words
-CASES = {"off": "Off as off", "atOnce": "AtOnce as atOnce", "lazy": "Lazy as lazy"}
+CASES = {"off": "Off as off", "at_once": "AtOnce as at_once", "lazy": "Lazy as lazy"}
 
 
 # the names of each module that the text uses
 def imports(text):
-    words = set(re.findall(r"[^\s()]+", text))
+    words = set(re.findall(r"[^\s()]+", re.sub(r"(?m)^--.*", "", text)))
     lines = []
     for module, names in USED:
-        used = [CASES.get(n, n) for n in names.split() if n in words]
+        used = [CASES.get(n, n) for n in names.split() if n.strip("◌") in words]
         lines += ["use %s.{%s}\n" % (module, ", ".join(used))] if used else []
     return "".join(lines)
 
@@ -185,7 +182,7 @@ def theorems(folder, name, wanted):
     pairs = zip(jobs(folder / (name + ".jobs")), answers(folder / (name + ".out")))
     # settings of document 02 have runs of their own
     pairs = [(job, answer) for job, answer in pairs if not re.match("M-1", job[0])]
-    return [theorem("job-%d" % i, *job, answer) for i, (job, answer) in enumerate(pairs) if wanted(i, *job)]
+    return [theorem("job_%d" % i, *job, answer) for i, (job, answer) in enumerate(pairs) if wanted(i, *job)]
 
 
 def small(i, comment, head, parts):

@@ -11,7 +11,7 @@ use Rattle.pauli.specs.Letter.{letter_at, single}
 use Rattle.pauli.specs.ProductLaws.{symplectic_comm}
 use Rattle.model.specs.Words.{Value, word_of, support}
 use Rattle.model.specs.Clifford.{Touched, absorb_image, touch_all, absorb_images, absorb_word, letter_image}
-use Rattle.model.specs.Lists.{if◌then◌else◌, all_of, any_of, member}
+use Rattle.model.specs.Lists.{all_of, any_of, member}
 use Rattle.theory.specs.Cases.{if_true, if_false}
 use Rattle.theory.specs.Every.{Every}
 use Rattle.layout.specs.declared.Shape.{Shape}

@@ -1,5 +1,6 @@
 // F takes in a quarter, half or three quarter turn about an axis: the axis's qubits are touched, then the images change.
 #![tactic(auto)]
+
 ghost use Rattle.std.specs.Prelude.{◌≡◌, [], ◌∷◌, ℕ, ◌+◌, ◌*◌, ◌%◌, ◌<◌, ◌≤◌, length, get_or};
 ghost use Rattle.store.specs.Row.{row, Written};
 ghost use Rattle.product.specs.Product.{odd_phase};

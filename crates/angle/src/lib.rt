@@ -1,5 +1,6 @@
 // Rotation angles and phases.
 #![tactic(auto)]
+
 ghost use Rattle.std.specs.Prelude.{◌≡◌, ◌%◌};
 ghost use Rattle.angle.specs.Angle.{signed_angle, eighths_of, add_angles, neg_angle, add_phases, neg_phase};
 

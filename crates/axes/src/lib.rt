@@ -1,5 +1,6 @@
 // Stored axes, read: words of 2 l numbers from the start of the word store, axis id at `layout::axis_at`.
 #![tactic(auto)]
+
 ghost use Rattle.std.specs.Prelude.{◌≡◌, ℕ, ◌+◌, ◌*◌, ◌<◌, ◌≤◌, length};
 ghost use Rattle.store.specs.Wide.{wide_at};
 ghost use Rattle.model.specs.Words.{anticommute, word_of};

@@ -1,5 +1,6 @@
 // 01's `Axes`: a view of the word store that carries the width l. Thin functions over the ones that take slice and width.
 #![tactic(auto)]
+
 ghost use Rattle.std.specs.Prelude.{◌≡◌, ℕ, ◌+◌, ◌*◌, ◌<◌, ◌≤◌, length};
 ghost use Rattle.model.specs.Words.{word_of};
 ghost use Rattle.layout.specs.Words.{axis_place};

@@ -1,5 +1,5 @@
 -- Bit i of a number; the bit operations by their bits; numbers are equal if their bits are. Assumes nothing.
-use Rattle.std.specs.Prelude.{◌≡◌, refl, ℕ, zero, suc, ◌-◌, ◌/◌, ◌%◌, ◌^◌, ◌≤◌, ◌<◌, min, max}
+use Rattle.std.specs.Prelude.{◌≡◌, refl, ℕ, zero, suc, ◌/◌, ◌%◌, ◌^◌, ◌≤◌, ◌<◌, min, max}
 use Rattle.std.proofs.Common.{sym, ap, ◌∙◌, div-one, pow-suc, mul_comm, mul-div_cancel, arith, pow_mono}
 use Rattle.std.proofs.Math.Nat.{div-div-eq-div-mul, mul-mod_left, div-eq_of_lt}
 use Rattle.std.proofs.Math.Arith.{bin_ind}

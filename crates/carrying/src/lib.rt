@@ -1,5 +1,6 @@
 // Axes carried through F.
 #![tactic(auto)]
+
 ghost use Rattle.std.specs.Prelude.{◌≡◌, true, ◌+◌, ◌*◌, ◌<◌, ◌≤◌, length};
 ghost use Rattle.pauli.specs.Letter.{single};
 ghost use Rattle.model.specs.Words.{as_value, set_bits, support};

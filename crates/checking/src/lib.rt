@@ -1,5 +1,6 @@
 // Checking: refusals 1 to 8 and 16. It takes no lent slice by &mut, so it writes no lent memory.
 #![tactic(auto)]
+
 ghost use Rattle.std.specs.Prelude.{◌≡◌, false, List, [], ℕ, ◌+◌, ◌*◌, ◌<◌, ◌≤◌, length};
 ghost use Rattle.model.specs.Checking.{bad_count, bad_option, program_short, lent_short};
 ghost use Rattle.model.specs.Checking.{check_node_of_kind, check_node, check_nodes, bad_reference, check_row, check_rows};

@@ -1,5 +1,6 @@
 // Whether an axis commutes with all rotations of a part of a list: what runs and layers ask.
 #![tactic(auto)]
+
 ghost use Rattle.std.specs.Prelude.{◌≡◌, ◌-◌};
 ghost use Rattle.model.specs.Items.{rot};
 ghost use Rattle.model.specs.Layering.{commutes_with_all};

@@ -1,5 +1,5 @@
 -- The counters of the program that was handed in. Assumes nothing.
-use Rattle.std.specs.Prelude.{◌≡◌, refl, Bool, not, ◌&&◌, List, ℕ, zero, suc, ◌+◌, ◌-◌, ◌%◌, ◌<◌, eqb, ltb}
+use Rattle.std.specs.Prelude.{◌≡◌, refl, Bool, not, ◌&&◌, List, ℕ, zero, suc, ◌+◌, ◌%◌, ◌<◌, eqb, ltb}
 use Rattle.std.proofs.Common.{sym, ap, ◌∙◌, arith, ext_get_or, ne_eqb, le-ltb}
 use Rattle.store.specs.From.{list_from, from_length, from_at}
 use Rattle.model.specs.Lists.{count_of, is_odd}

@@ -1,5 +1,6 @@
 // The counters: T-counts, rotations and weights before and after.
 #![tactic(auto)]
+
 ghost use Rattle.std.specs.Prelude.{◌≡◌, ◌+◌, ◌*◌, ◌≤◌, ◌<◌, length};
 ghost use Rattle.model.specs.Program.{is_rotate};
 ghost use Rattle.model.specs.Results.{source_t_count, source_rotations};

@@ -1,5 +1,6 @@
 // A run up to its last refusal: packing, the items, the passes, the counters. Nothing but the work stores is written.
 #![tactic(auto)]
+
 ghost use Rattle.std.specs.Prelude.{◌≡◌};
 ghost use Rattle.model.specs.Packing.{packed};
 ghost use Rattle.axes.specs.Held.{sizes_of};

@@ -1,5 +1,6 @@
 // Frame rows are carried through F, if anything was absorbed.
 #![tactic(auto)]
+
 ghost use Rattle.std.specs.Prelude.{[], ℕ, ◌-◌};
 ghost use Rattle.model.specs.declared.Absorption.{Absorption};
 ghost use Rattle.model.specs.Stream.{Pass, carry_rows_from};

@@ -1,12 +1,14 @@
 // Interns words one after the other, and prints each word's id by its chain and by the scan: 02, M-102, run.
 #![tactic(auto)]
-ghost use Rattle.std.specs.Prelude.{◌≡◌, ◌+◌, ◌<◌, ◌≤◌, length};
+
+ghost use Rattle.std.specs.Prelude.{◌≡◌, ◌+◌, ◌<◌, ◌≤◌, length, IfOk};
 ghost use Rattle.layout.specs.Words.{OnlyWords};
 ghost use Rattle.index_main.specs.Ready.{WordBehind, Ready, ReadyAfter};
 
 use axes::Sizes;
 use interning::Interned;
 use model::Counts;
+use std::io;
 
 // A word of one number in each plane: x, then z.
 #[derive(Clone, Copy)]
@@ -54,18 +56,18 @@ fn lay(words: &mut [u64], at: usize, x: u64, z: u64)
     words[at + 1] = z;
 }
 
-fn show(number: usize, end: &[u8]) {
-    io::print_decimal(1, number as u64);
-    io::write_all(1, end);
+fn show(rt: &impl Print, number: usize, end: &[u8]) -> io::Result<()> {
+    rt.print(number)?;
+    rt.write_all(end)
 }
 
 // The end of a line: the id that a word is stored with, and 1 if chain and scan agreed before and after.
-fn show_stored(id: usize, agreed: bool) {
-    show(id, b" ");
+fn show_stored(rt: &impl Print, id: usize, agreed: bool) -> io::Result<()> {
+    show(rt, id, b" ")?;
     if agreed {
-        io::write_all(1, b"1\n");
+        rt.println("1")
     } else {
-        io::write_all(1, b"0\n");
+        rt.println("0")
     }
 }
 
@@ -78,25 +80,31 @@ fn agree(words: &[u64], numbers: &[u32], sizes: Sizes) -> bool
 }
 
 // The start of a line: the word's id by its chain, and by the scan.
-fn show_ids(words: &[u64], numbers: &[u32], sizes: Sizes)
+fn show_ids(rt: &impl Print, words: &[u64], numbers: &[u32], sizes: Sizes) -> io::Result<()>
     requires { WordBehind sizes words.now numbers.now }
 {
     let w = axes::word_at(words, sizes.limit, sizes.l);
     let found = interning::find(words, numbers, sizes, w);
-    show(found.id, b" ");
-    show(interning::scan(words, sizes.l, sizes.axes, w), b" ");
+    show(rt, found.id, b" ")?;
+    show(rt, interning::scan(words, sizes.l, sizes.axes, w), b" ")
 }
 
 // The word behind the limit, looked for both ways, stored, and looked for again: a line.
-fn store(words: &mut [u64], numbers: &mut [u32], sizes: Sizes, peak: usize) -> Interned
+fn store(
+    rt: &impl Print,
+    words: &mut [u64],
+    numbers: &mut [u32],
+    sizes: Sizes,
+    peak: usize,
+) -> io::Result<Interned>
     requires { Ready sizes peak words.old numbers.old }
-    ensures { ReadyAfter sizes result words.new numbers.new }
+    ensures { IfOk result (λ stored. ReadyAfter sizes stored words.new numbers.new) }
 {
-    show_ids(&words[..], &numbers[..], sizes);
+    show_ids(rt, &words[..], &numbers[..], sizes)?;
     let before = agree(&words[..], &numbers[..], sizes);
     let stored = interning::intern(words, numbers, sizes, 0, peak, sizes.limit);
     let Interned::Axis(a) = stored else {
-        return stored;
+        return Ok(stored);
     };
     let after = agree(
         &words[..],
@@ -108,38 +116,46 @@ fn store(words: &mut [u64], numbers: &mut [u32], sizes: Sizes, peak: usize) -> I
             axes: a.axes,
         },
     );
-    show_stored(a.id, before & after);
-    stored
+    show_stored(rt, a.id, before & after)?;
+    Ok(stored)
 }
 
 // Word k, laid behind the limit and stored.
-fn step(words: &mut [u64], numbers: &mut [u32], sizes: Sizes, peak: usize, k: usize) -> Interned
+fn step(
+    rt: &impl Print,
+    words: &mut [u64],
+    numbers: &mut [u32],
+    sizes: Sizes,
+    peak: usize,
+    k: usize,
+) -> io::Result<Interned>
     requires { Ready sizes peak words.old numbers.old × (k < 22) }
-    ensures { ReadyAfter sizes result words.new numbers.new }
+    ensures { IfOk result (λ stored. ReadyAfter sizes stored words.new numbers.new) }
 {
     let w = WORDS[k];
     lay(words, sizes.limit, w.0, w.1);
-    store(words, numbers, sizes, peak)
+    store(rt, words, numbers, sizes, peak)
 }
 
 // All words, one after the other. The limit has room for all: a word that is refused would end it, and its lines be missing.
-fn run(words: &mut [u64], numbers: &mut [u32], none: Sizes)
+fn run(rt: &impl Print, words: &mut [u64], numbers: &mut [u32], none: Sizes) -> io::Result<()>
     requires { Ready none 0 words.old numbers.old }
 {
     let mut sizes = none;
     let mut peak = 0;
     for k in 0..COUNT {
-        let stored = step(words, numbers, sizes, peak, k);
+        let stored = step(rt, words, numbers, sizes, peak, k)?;
         let Interned::Axis(a) = stored else {
-            return;
+            return Ok(());
         };
         sizes.axes = a.axes;
         peak = a.peak;
     }
+    Ok(())
 }
 
 // Memory as long as refusal 3 asks, 24 × 162 + 1,024 + 32 numbers, and not zeros: chains must be cleared.
-fn main() {
+fn main(rt: HostRuntime) -> io::Result<()> {
     let mut words = [7u64; 80];
     let mut numbers = [7u32; 4944];
     let shape = layout::shape_of(
@@ -151,5 +167,5 @@ fn main() {
         64,
     );
     interning::clear_chains(&mut numbers, shape.u);
-    run(&mut words, &mut numbers, axes::sizes_of(shape, 0));
+    run(&rt, &mut words, &mut numbers, axes::sizes_of(shape, 0))
 }

@@ -1,5 +1,6 @@
 // Axes found and stored: a word's id among the stored axes, or a new one behind them.
 #![tactic(auto)]
+
 ghost use Rattle.std.specs.Prelude.{◌≡◌, ◌+◌, ◌^◌, ◌<◌, ◌≤◌, true, length, slice_index};
 ghost use Rattle.model.specs.Words.{id_of};
 ghost use Rattle.layout.specs.Index.{links_place};

@@ -1,13 +1,16 @@
 // Jobs of the oracle: reading them, and what a job is lent. See oracle/README.md.
 #![tactic(auto)]
+
 ghost use Rattle.std.specs.Prelude.{◌<◌, ◌≤◌, length};
 ghost use Rattle.jobs.specs.Within.{Within};
 
 use model::{Counts, Options};
 
+mod input;
 mod lend;
 mod read;
 
+pub use input::read_full;
 pub use lend::{Lent, Room, least, part};
 pub use read::{numbers, past_blanks};
 

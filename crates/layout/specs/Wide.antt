@@ -1,11 +1,11 @@
 -- 64-bit numbers in two rows of the number store: what writing one leaves, and where they stay. Assumes nothing.
 use Rattle.std.specs.Prelude.{◌≡◌, Bool, false, ◌&&◌, ◌≢◌, ℕ, ◌+◌, ◌*◌, ◌/◌, ◌%◌, ◌≤◌, ◌<◌, length, get_or, set}
-use Rattle.std.proofs.Common.{sym, ap, ◌∙◌}
+use Rattle.std.proofs.Common.{ap, ◌∙◌}
 use Rattle.std.proofs.Math.Path.{ap₂}
 use Rattle.std.proofs.Math.Bool.{true}
 use mathlib.Core.List.{List, [], ◌∷◌}
 use native.Mathlib.Omega.{arith}
-use Rattle.store.specs.Row.{row, Written, row_set_other}
+use Rattle.store.specs.Row.{row, row_set_other}
 use Rattle.store.specs.Wide.{wide_at, WrittenWide}
 use Rattle.model.specs.Lists.{all_of, member}
 use Rattle.layout.specs.Rows.{row_count, written_row, entry_own, entry_other}

@@ -1,22 +1,22 @@
 // What is printed of places that hold the same.
+use std::io;
 
 // How often a number comes, where that is more than once.
-fn times(count: usize) {
+fn times(rt: &impl Print, count: usize) -> io::Result<()> {
     if 1 < count {
-        io::write_all(1, b"*");
-        io::print_decimal(1, count as u64);
+        return print!(rt; "*{count}");
     }
+    Ok(())
 }
 
 // So many places that are as they were lent.
-pub fn unchanged(count: usize) {
-    io::write_all(1, b" =");
-    times(count);
+pub fn unchanged(rt: &impl Print, count: usize) -> io::Result<()> {
+    rt.print(" =")?;
+    times(rt, count)
 }
 
 // A number that so many places hold.
-pub fn repeated(v: u64, count: usize) {
-    io::write_all(1, b" ");
-    io::print_decimal(1, v);
-    times(count);
+pub fn repeated(rt: &impl Print, v: u64, count: usize) -> io::Result<()> {
+    print!(rt; " {v}")?;
+    times(rt, count)
 }

@@ -1,7 +1,8 @@
 // Slices of u64: what a place holds before a call, and a line for what it holds after it.
-ghost use Rattle.std.specs.Prelude.{◌<◌, ◌≤◌, length};
+ghost use Rattle.std.specs.Prelude.{◌<◌, ◌≤◌, length, IfOk};
 
 use crate::out;
+use std::io;
 
 // What a place holds before a call: a number that no run stores, another at each place.
 fn lent(place: usize) -> u64 {
@@ -42,25 +43,25 @@ fn equal_to(s: &[u64], from: usize) -> usize
 }
 
 // Prints what a place and those like it hold; the end of these.
-fn print_run(s: &[u64], from: usize) -> usize
+fn print_run(rt: &impl Print, s: &[u64], from: usize) -> io::Result<usize>
     requires { from < length s.now }
-    ensures { (from < result) × (result ≤ length s.now) }
+    ensures { IfOk result (λ end. (from < end) × (end ≤ length s.now)) }
 {
     if s[from] == lent(from) {
         let end = unchanged_to(s, from);
-        out::unchanged(end - from);
-        return end;
+        out::unchanged(rt, end - from)?;
+        return Ok(end);
     }
     let end = equal_to(s, from);
-    out::repeated(s[from], end - from);
-    end
+    out::repeated(rt, s[from], end - from)?;
+    Ok(end)
 }
 
 // The line of a slice, behind its name.
-pub fn print(s: &[u64]) {
+pub fn print(rt: &impl Print, s: &[u64]) -> io::Result<()> {
     let mut at: usize = 0;
     while at < s.len() {
-        at = print_run(s, at);
+        at = print_run(rt, s, at)?;
     }
-    io::write_all(1, b"\n");
+    rt.println("")
 }

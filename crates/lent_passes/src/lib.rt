@@ -1,5 +1,6 @@
 // Each pass, lent the run's counters: the core by value, then one adder.
 #![tactic(auto)]
+
 ghost use Rattle.std.specs.Prelude.{◌≡◌, ◌+◌, ◌<◌, ◌^◌};
 ghost use Rattle.lent_passes.specs.Raised.{more_merges, more_swaps};
 ghost use Rattle.stream.specs.Passing.{PassAtWork, SomeWork};

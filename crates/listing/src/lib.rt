@@ -1,5 +1,6 @@
 // Listing: 01's text in, its text out.
 #![tactic(auto)]
+
 ghost use Rattle.checking.specs.Call.{lent_of};
 ghost use Rattle.listing_call.specs.Call.{ListingCalled};
 ghost use Rattle.listing.specs.Listed.{RunPre, RunCall};

@@ -1,5 +1,6 @@
 // A listing's line as numbers: its fields, in columns of one width, and what else a record's line must be.
 #![tactic(auto)]
+
 mod field;
 mod record;
 

@@ -5,7 +5,7 @@ use Rattle.std.proofs.Math.Path.{ap}
 use Rattle.std.proofs.Math.Option.{Option, none, some, bind}
 use Rattle.model.specs.Lists.{is_empty}
 use Rattle.model.specs.Program.{field_of}
-use Rattle.model.specs.Listing.{plain_line, operation_line, Read, read_of, read}
+use Rattle.model.specs.Listing.{plain_line, operation_line, Read, read_of}
 use Rattle.theory.specs.Cases.{if_true, if_false}
 use Rattle.listing_read.specs.declared.Place.{Place}
 use Rattle.listing_read.specs.declared.Place.TheVariants.{At, Bad}

@@ -1,17 +1,15 @@
 // One listing: memory filled, Listing, and what it answers, prints and leaves.
-ghost use Rattle.std.specs.Prelude.{◌<◌, ◌≤◌, length};
+ghost use Rattle.std.specs.Prelude.{◌<◌, ◌≤◌, length, IfOk};
 
 use crate::header::Header;
 use crate::{header, output};
 use listing::Listed;
 use model::Answer;
+use std::io;
 
 // The line in front of what a call prints: its answer, and how many bytes follow.
-fn print_answer(answer: Answer, size: usize) {
-    io::print_decimal(1, model::number_of(answer) as u64);
-    io::write_all(1, b" ");
-    io::print_decimal(1, size as u64);
-    io::write_all(1, b"\n");
+fn print_answer(rt: &impl Print, answer: Answer, size: usize) -> io::Result<()> {
+    println!(rt; "{} {size}", model::number_of(answer))
 }
 
 // Listing in memory that is filled.
@@ -32,23 +30,25 @@ fn list(
 
 // A listing whose slices are lent.
 fn call(
+    rt: &impl Print,
     text: &[u8],
     out: &mut [u8],
     words: &mut [u64],
     numbers: &mut [u32],
     operations: &mut [u32],
     rows: &mut [u32],
-) {
+) -> io::Result<()> {
     let listed = list(text, out, words, numbers, operations, rows);
     let answer = listed.answer;
-    print_answer(answer, listed.size);
-    output::print(&out[..], listed.size);
-    lent_memory::print(&words[..], &numbers[..], &operations[..], &rows[..]);
-    io::write_all(1, b"end\n");
+    print_answer(rt, answer, listed.size)?;
+    output::print(rt, &out[..], listed.size)?;
+    lent_memory::print(rt, &words[..], &numbers[..], &operations[..], &rows[..])?;
+    rt.println("end")
 }
 
 // A listing in the memory that it is lent, as much of it as there is.
 fn lend(
+    rt: &impl Print,
     h: Header,
     text: &[u8],
     out: &mut [u8],
@@ -56,24 +56,26 @@ fn lend(
     numbers: &mut [u32],
     operations: &mut [u32],
     rows: &mut [u32],
-) {
+) -> io::Result<()> {
     let b = jobs::least(h.output, out.len());
     let w = jobs::least(h.words, words.len());
     let n = jobs::least(h.numbers, numbers.len());
     let o = jobs::least(h.operations, operations.len());
     let r = jobs::least(h.rows, rows.len());
     call(
+        rt,
         text,
         &mut out[..b],
         &mut words[..w],
         &mut numbers[..n],
         &mut operations[..o],
         &mut rows[..r],
-    );
+    )
 }
 
 // Reads the listing at a place of the input, runs it, and prints what comes of it; the place of the next listing.
 pub fn run(
+    rt: &impl Print,
     input: &[u8],
     at: usize,
     out: &mut [u8],
@@ -81,13 +83,22 @@ pub fn run(
     numbers: &mut [u32],
     operations: &mut [u32],
     rows: &mut [u32],
-) -> usize
+) -> io::Result<usize>
     requires { at < length input.now }
-    ensures { (at < result) × (result ≤ length input.now) }
+    ensures { IfOk result (λ next. (at < next) × (next ≤ length input.now)) }
 {
     let h = header::read(input, at);
     let from = h.from;
     let to = h.to;
-    lend(h, &input[from..to], out, words, numbers, operations, rows);
-    jobs::behind(at, jobs::past_blanks(input, to), input.len())
+    lend(
+        rt,
+        h,
+        &input[from..to],
+        out,
+        words,
+        numbers,
+        operations,
+        rows,
+    )?;
+    Ok(jobs::behind(at, jobs::past_blanks(input, to), input.len()))
 }

@@ -1,6 +1,8 @@
 // The output slice: what a place holds before a call, and whether the call leaves it behind the text.
 ghost use Rattle.std.specs.Prelude.{◌≤◌, length};
 
+use std::io;
+
 // What a place holds before a call, another byte at each place up to the next that is alike.
 fn lent(place: usize) -> u8 {
     (place % 251) as u8
@@ -25,13 +27,12 @@ fn unchanged(s: &[u8], from: usize) -> bool
 }
 
 // The text, and whether anything changed behind it.
-pub fn print(s: &[u8], size: usize)
+pub fn print(rt: &impl Print, s: &[u8], size: usize) -> io::Result<()>
     requires { size ≤ length s.now }
 {
-    io::write_all(1, &s[..size]);
+    rt.write_all(&s[..size])?;
     if unchanged(s, size) {
-        io::write_all(1, b"output =\n");
-        return;
+        return rt.println("output =");
     }
-    io::write_all(1, b"output changed\n");
+    rt.println("output changed")
 }

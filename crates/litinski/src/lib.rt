@@ -1,5 +1,6 @@
 // Litinski's strategy: a stream, then rounds of layers and streams.
 #![tactic(auto)]
+
 ghost use Rattle.model.specs.Program.{Program};
 ghost use Rattle.model.specs.Rules.{rules_of};
 ghost use Rattle.model.specs.Rounds.{Work, litinski_from, litinski_rounds};

@@ -1,5 +1,6 @@
 // Which nodes mention a qubit that an operation's nodes mention: what makes a frame row a root.
 #![tactic(auto)]
+
 ghost use Rattle.std.specs.Prelude.{◌≡◌};
 ghost use Rattle.mentions.specs.Nodes.{NodesPre, NodePre};
 ghost use Rattle.mentions.specs.Operations.{OperationsPre, MarkedOperations};

@@ -1,5 +1,6 @@
 // The merge strategy: rounds of stream and exchange, and one more stream.
 #![tactic(auto)]
+
 ghost use Rattle.std.specs.Prelude.{ℕ, ◌+◌, true};
 ghost use Rattle.model.specs.Program.{Program};
 ghost use Rattle.model.specs.Rules.{rules_of};

@@ -8,7 +8,7 @@ use Prim.Native.Nat.{ℕ, zero, suc, ◌+◌, ◌-◌, ◌≤◌, ◌<◌}
 use Rattle.std.proofs.Math.Seq.{drop-length}
 use Rattle.model.specs.Lists.{all_of}
 use Rattle.model.specs.Words.{anticommute}
-use Rattle.model.specs.Items.{rotation, barrier}
+use Rattle.model.specs.Items.{barrier}
 use Rattle.model.specs.Stream.{lets_pass, can_reach}
 use Rattle.layout.specs.Rows.{out_row}
 use Rattle.axes.specs.declared.Sizes.{Sizes}

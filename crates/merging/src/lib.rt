@@ -1,5 +1,6 @@
 // A carried rotation: absorbed at once, merged, or put out.
 #![tactic(auto)]
+
 ghost use Rattle.std.specs.Prelude.{◌≡◌, ◌&&◌, not, ℕ, ◌+◌, ◌%◌};
 ghost use Rattle.model.specs.declared.Absorption.{Absorption};
 ghost use Rattle.model.specs.Rules.{Rules, is_at_once};

@@ -1,5 +1,6 @@
 // The types of the interface. Document 01 itself is in specs/.
 #![tactic(auto)]
+
 ghost use Rattle.std.specs.Prelude.{◌≡◌};
 ghost use Rattle.model.specs.Interface.{number_of, no_counters, defaults_at};
 

@@ -1,5 +1,6 @@
 // Rewriting by value: Checking, then the decision, then the results or zeros. Nothing is written into the results before the last refusal.
 #![tactic(auto)]
+
 ghost use Rattle.std.specs.Prelude.{◌≡◌};
 ghost use Rattle.checking.specs.Call.{job_of, lent_of};
 ghost use Rattle.optimize.specs.Reply.{reply_of, refused_by, StoppedAs};

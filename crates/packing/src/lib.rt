@@ -1,5 +1,6 @@
 // Packing: used nodes by rising index, each value in a slot, each root stored at its node's turn.
 #![tactic(auto)]
+
 ghost use Rattle.std.specs.Prelude.{◌≡◌, suc};
 ghost use Rattle.model.specs.Program.{Program};
 ghost use Rattle.packing_states.specs.References.{total};

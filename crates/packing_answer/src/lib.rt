@@ -1,5 +1,6 @@
 // How packing ends, and the answer that this is.
 #![tactic(auto)]
+
 ghost use Rattle.std.specs.Prelude.{◌≡◌};
 ghost use Rattle.packing_answer.specs.Answer.{packing_answer};
 

@@ -1,5 +1,6 @@
 // Packed Pauli words: l x-words, then l z-words.
 #![tactic(auto)]
+
 ghost use Rattle.std.specs.Prelude.{◌≡◌, ◌*◌, length};
 ghost use Rattle.store.specs.Equal.{same_list};
 ghost use Rattle.pauli.specs.Word.{width, is_identity, anticommutes};

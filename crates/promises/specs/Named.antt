@@ -14,7 +14,6 @@ use Rattle.model.specs.declared.Answer.TheVariants.{Accepted, BadPlace, BadOpera
 use Rattle.model.specs.Program.{field_of, Job, operation_records, Kind, rotate, measure, conditional, kind_of, Operation, operation_of, Program, program_of}
 use Rattle.model.specs.Checking.{Lent, and_then, bad_operation, measured, check_operation, check_operations, check_nodes, check_program}
 use Rattle.model.specs.Checking.{bad_place, check_place, check_records, checking}
-use Rattle.model.specs.Lists.{if◌then◌else◌}
 use Rattle.model.specs.declared.Absorption.{Absorption}
 use Rattle.model.specs.declared.Absorption.TheVariants.{Off as off, AtOnce as at_once, Lazy as lazy}
 use Rattle.model.specs.Rules.{names, to_lazy, absorption_by, Rules, absorption_of, rules_of, after_barrier}

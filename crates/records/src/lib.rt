@@ -1,5 +1,6 @@
 // A program's records, read by number.
 #![tactic(auto)]
+
 ghost use Rattle.std.specs.Prelude.{◌≡◌, ◌+◌, ◌*◌, ◌≤◌, length};
 ghost use Rattle.records.specs.Records.{node_record, operation_record, row_record};
 

@@ -8,10 +8,9 @@ use Prim.Native.Nat.{ℕ, zero, suc, ◌+◌, ◌*◌, ◌%◌, ◌≤◌, ◌<�
 use native.Mathlib.Omega.{arith}
 use Rattle.std.proofs.Math.Dec.{eqb}
 use Rattle.std.proofs.lemmas.Bool.{eqb-false}
-use Rattle.bits.specs.Digit.{Digit, off, on}
 use Rattle.bits.specs.Bit.{bit_digit}
 use Rattle.pauli.specs.Word.{IsWord}
-use Rattle.pauli.specs.Letter.{letter_of, letter_at}
+use Rattle.pauli.specs.Letter.{letter_at}
 use Rattle.pauli.specs.LetterLaws.{letters_ext, from_letters, from_letters_word, from_letters_letter}
 use Rattle.model.specs.Words.{support, word_of}
 use Rattle.model.specs.Listing.{letter_lines}

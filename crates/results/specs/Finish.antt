@@ -1,5 +1,5 @@
 -- The last step of an accepted run: results written, both work stores cleaned. Assumes nothing.
-use Rattle.std.specs.Prelude.{◌≡◌, refl, Bool, not, ℕ, ◌-◌, ◌*◌, ◌≤◌, eqb, length}
+use Rattle.std.specs.Prelude.{◌≡◌, refl, Bool, not, ℕ, ◌*◌, ◌≤◌, eqb, length}
 use Rattle.std.proofs.Common.{ap, ◌∙◌, arith}
 use mathlib.Core.List.{List, flatten}
 use Rattle.model.specs.Rounds.{Work}

@@ -1,5 +1,6 @@
 // The results of an accepted run, and zeros behind them.
 #![tactic(auto)]
+
 ghost use Rattle.std.specs.Prelude.{◌≡◌, ◌+◌, ◌*◌, ◌≤◌, ◌<◌, length};
 ghost use Rattle.store.specs.Part.{put};
 ghost use Rattle.model.specs.Program.{kind_of};

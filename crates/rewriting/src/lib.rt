@@ -1,5 +1,6 @@
 // The public call of Rewriting, the counters lent; and the same by value.
 #![tactic(auto)]
+
 ghost use Rattle.std.specs.Prelude.{◌≡◌};
 ghost use Rattle.checking.specs.Call.{job_of, lent_of};
 ghost use Rattle.model.specs.Rewriting.{Called};

@@ -1,13 +1,15 @@
 // One job: memory filled, Rewriting, and what it hands back and leaves.
-ghost use Rattle.std.specs.Prelude.{◌<◌, ◌≤◌, length};
+ghost use Rattle.std.specs.Prelude.{◌<◌, ◌≤◌, length, IfOk};
 ghost use Rattle.jobs.specs.Within.{Within, room_of};
 
 use crate::{numbers, out};
 use jobs::{Job, Room};
 use model::{Counts, Options};
+use std::io;
 
 // A job whose slices are lent.
 fn call(
+    rt: &impl Print,
     c: Counts,
     o: Options,
     nodes: &[u32],
@@ -17,7 +19,7 @@ fn call(
     m: &mut [u32],
     result_operations: &mut [u32],
     result_rows: &mut [u32],
-) {
+) -> io::Result<()> {
     lent_memory::fill(w, m, result_operations, result_rows);
     let r = rewriting::by_value::rewriting(
         c,
@@ -30,19 +32,20 @@ fn call(
         result_operations,
         result_rows,
     );
-    out::rewritten(r);
-    lent_memory::print(&w[..], &m[..], &result_operations[..], &result_rows[..]);
+    out::rewritten(rt, r)?;
+    lent_memory::print(rt, &w[..], &m[..], &result_operations[..], &result_rows[..])
 }
 
 // A job that is read, in the memory that it is lent.
 fn lend(
+    rt: &impl Print,
     j: Job,
     records: &[u32],
     words: &mut [u64],
     numbers: &mut [u32],
     result_operations: &mut [u32],
     result_rows: &mut [u32],
-)
+) -> io::Result<()>
     requires { Within j.lent (room_of (length records.now) (length words.old) (length numbers.old)
         (length result_operations.old) (length result_rows.old)) }
 {
@@ -52,6 +55,7 @@ fn lend(
     let o = l.result_operations;
     let r = l.result_rows;
     call(
+        rt,
         j.counts,
         j.options,
         jobs::part(records, 0, l.nodes),
@@ -61,11 +65,12 @@ fn lend(
         &mut numbers[..m],
         &mut result_operations[..o],
         &mut result_rows[..r],
-    );
+    )
 }
 
 // Reads the job at a place of the input, runs it, and prints what comes of it; the place of the next job.
 pub fn run(
+    rt: &impl Print,
     input: &[u8],
     at: usize,
     records: &mut [u32],
@@ -74,9 +79,9 @@ pub fn run(
     numbers: &mut [u32],
     result_operations: &mut [u32],
     result_rows: &mut [u32],
-) -> usize
+) -> io::Result<usize>
     requires { at < length input.now }
-    ensures { (at < result) × (result ≤ length input.now) }
+    ensures { IfOk result (λ next. (at < next) × (next ≤ length input.now)) }
 {
     let room = Room {
         records: records.len(),
@@ -87,18 +92,19 @@ pub fn run(
     };
     let j = jobs::read_job(input, at, records, room);
     if !j.has_room {
-        out::no_room();
-        return j.next;
+        out::no_room(rt)?;
+        return Ok(j.next);
     }
     numbers::copy(&records[..], kept);
     lend(
+        rt,
         j,
         &records[..],
         words,
         numbers,
         result_operations,
         result_rows,
-    );
-    out::program(&records[..], &kept[..]);
-    j.next
+    )?;
+    out::program(rt, &records[..], &kept[..])?;
+    Ok(j.next)
 }

@@ -1,12 +1,16 @@
 // Runs Rewriting on the jobs of its input, and prints what it hands back and what the lent slices hold: see oracle/README.md.
 #![tactic(auto)]
+
 mod job;
 mod memory;
 mod numbers;
 mod out;
 
+use std::io;
+
 // All jobs, in memory that each uses again.
 fn run(
+    rt: &impl Print,
     input: &[u8],
     records: &mut [u32],
     kept: &mut [u32],
@@ -14,10 +18,11 @@ fn run(
     numbers: &mut [u32],
     result_operations: &mut [u32],
     result_rows: &mut [u32],
-) {
+) -> io::Result<()> {
     let mut at = jobs::past_blanks(input, 0);
     while at < input.len() {
         at = job::run(
+            rt,
             input,
             at,
             records,
@@ -26,13 +31,14 @@ fn run(
             numbers,
             result_operations,
             result_rows,
-        );
+        )?;
     }
+    Ok(())
 }
 
-fn main() {
+fn main(rt: HostRuntime) -> io::Result<()> {
     let mut input = memory::input();
-    let n = io::read_full(0, &mut input);
+    let n = jobs::read_full(&mut rt.stdin(), &mut input)?;
     let mut records = memory::records();
     let mut kept = memory::records();
     let mut words = memory::words();
@@ -40,6 +46,7 @@ fn main() {
     let mut result_operations = memory::records();
     let mut result_rows = memory::records();
     run(
+        &rt,
         &input[..n],
         &mut records,
         &mut kept,
@@ -47,5 +54,5 @@ fn main() {
         &mut numbers,
         &mut result_operations,
         &mut result_rows,
-    );
+    )
 }

@@ -2,54 +2,53 @@
 use crate::numbers;
 use model::Counters;
 use optimize::Rewritten;
+use std::io;
 
-fn next_number(v: usize) {
-    io::write_all(1, b" ");
-    io::print_decimal(1, v as u64);
+fn next_number(rt: &impl Print, v: usize) -> io::Result<()> {
+    print!(rt; " {v}")
 }
 
 // The counters behind the number of axes.
-fn sizes(c: Counters) {
-    next_number(c.rotations_before);
-    next_number(c.rotations_after);
-    next_number(c.t_depth_before);
-    next_number(c.t_depth_after);
-    next_number(c.weight_before);
-    next_number(c.weight_after);
-    next_number(c.packed_words);
-    io::write_all(1, b"\n");
+fn sizes(rt: &impl Print, c: Counters) -> io::Result<()> {
+    next_number(rt, c.rotations_before)?;
+    next_number(rt, c.rotations_after)?;
+    next_number(rt, c.t_depth_before)?;
+    next_number(rt, c.t_depth_after)?;
+    next_number(rt, c.weight_before)?;
+    next_number(rt, c.weight_after)?;
+    next_number(rt, c.packed_words)?;
+    rt.println("")
 }
 
 // The counters before the number of operations.
-fn rewrites(c: Counters) {
-    next_number(c.t_before);
-    next_number(c.t_after);
-    next_number(c.merges);
-    next_number(c.swaps);
-    next_number(c.cliffords_to_frame);
+fn rewrites(rt: &impl Print, c: Counters) -> io::Result<()> {
+    next_number(rt, c.t_before)?;
+    next_number(rt, c.t_after)?;
+    next_number(rt, c.merges)?;
+    next_number(rt, c.swaps)?;
+    next_number(rt, c.cliffords_to_frame)
 }
 
 // The line of what a call hands back.
-pub fn rewritten(r: Rewritten) {
+pub fn rewritten(rt: &impl Print, r: Rewritten) -> io::Result<()> {
     let c = r.counters;
     let a = r.answer;
-    io::print_decimal(1, model::number_of(a) as u64);
-    rewrites(c);
-    next_number(r.operations);
-    next_number(r.axes);
-    sizes(c);
+    rt.print(model::number_of(a))?;
+    rewrites(rt, c)?;
+    next_number(rt, r.operations)?;
+    next_number(rt, r.axes)?;
+    sizes(rt, c)
 }
 
 // A job that there is no room for.
-pub fn no_room() {
-    io::write_all(1, b"no room\nend\n");
+pub fn no_room(rt: &impl Print) -> io::Result<()> {
+    rt.println("no room\nend")
 }
 
 // Whether the program is what it was; the end of a job.
-pub fn program(records: &[u32], kept: &[u32]) {
+pub fn program(rt: &impl Print, records: &[u32], kept: &[u32]) -> io::Result<()> {
     if numbers::equal(records, kept) {
-        io::write_all(1, b"program =\nend\n");
-        return;
+        return rt.println("program =\nend");
     }
-    io::write_all(1, b"program changed\nend\n");
+    rt.println("program changed\nend")
 }

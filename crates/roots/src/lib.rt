@@ -1,5 +1,6 @@
 // Each node's roots, linked in root order, and how often each node is used.
 #![tactic(auto)]
+
 ghost use Rattle.std.specs.Prelude.{◌*◌, ◌<◌, ◌≤◌, length};
 ghost use Rattle.model.specs.Program.{Program};
 ghost use Rattle.layout.specs.Rows.{row_count};

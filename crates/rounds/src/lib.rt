@@ -1,5 +1,6 @@
 // The rounds of both strategies.
 #![tactic(auto)]
+
 ghost use Rattle.model.specs.Program.{Program};
 ghost use Rattle.model.specs.Rules.{rules_of};
 ghost use Rattle.model.specs.Rounds.{Work, passes};

@@ -3,7 +3,7 @@ use Rattle.std.specs.Prelude.{◌≡◌, Bool, true, false, ◌&&◌, ℕ, zero,
 use Rattle.std.proofs.lemmas.Bool.{false≢true, eqb-false, not-true}
 use Rattle.std.proofs.Common.{arith}
 use Rattle.model.specs.Lists.{is_even}
-use Rattle.model.specs.Items.{Rot, Item, rotation, barrier, with_sign, is_clifford, angle_of}
+use Rattle.model.specs.Items.{Rot, Item, with_sign, is_clifford, angle_of}
 use Rattle.theory.specs.Cases.{by_if, and_left, and_right}
 use Rattle.theory.specs.Segments.{KeptByMerging}
 use Rattle.words_wellformed.specs.RunWords.{Turns}

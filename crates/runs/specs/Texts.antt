@@ -1,5 +1,5 @@
 -- Refusal 11 of Listing, each by a small text, and texts at each bound; all bytes are literal. Assumes nothing.
-use Rattle.std.specs.Prelude.{◌≡◌, refl, List, [], ◌∷◌, ◌++◌, ℕ, zero, suc}
+use Rattle.std.specs.Prelude.{◌≡◌, refl, List, [], ◌++◌, ℕ, zero, suc}
 use Prim.Native.String.{String}
 use Rattle.model.specs.Listing.{listing}
 use Rattle.model.specs.Everything.{everything}

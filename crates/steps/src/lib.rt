@@ -1,5 +1,6 @@
 // Where a run stands beside what lies in the stores, and how a step of it ends.
 #![tactic(auto)]
+
 ghost use Rattle.std.specs.Prelude.{◌≡◌};
 ghost use Rattle.steps.specs.State.{first_state, with_image, with_slots, with_waiting};
 

@@ -3,7 +3,7 @@
 use Rattle.std.specs.Prelude.{◌≡◌, refl, ◌≢◌, ◌⊎◌, ℕ, ◌+◌, ◌*◌, ◌≤◌, ◌<◌, List, length, get_or, set}
 use Rattle.std.proofs.Common.{inl, inr, suc-mul, mul-le-mul_right, arith, length-set}
 use Rattle.std.proofs.Math.Decide.{dec_lt}
-use Rattle.store.specs.Part.{part, put, Apart, part_length, part_at, part_set_in, part_set_out, part_put_same, part_put_apart}
+use Rattle.store.specs.Part.{part, put, Apart, part_length, part_at, part_set_in, part_set_out, part_put_apart}
 
 unfoldable pub row : List ℕ → ℕ → ℕ → List ℕ
 row s u r = part s (r * u) u

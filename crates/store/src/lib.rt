@@ -1,5 +1,6 @@
 // Lent memory: the functions over slices that every pass needs. Nothing of quantum.
 #![tactic(auto)]
+
 mod numbers;
 mod words;
 

@@ -1,5 +1,6 @@
 // The items of a stream, one after the other.
 #![tactic(auto)]
+
 ghost use Rattle.std.specs.Prelude.{◌≡◌, ℕ, ◌+◌, ◌-◌};
 ghost use Rattle.model.specs.declared.Absorption.{Absorption};
 ghost use Rattle.model.specs.declared.Absorption.TheVariants.{Lazy as lazy};

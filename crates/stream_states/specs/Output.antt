@@ -6,7 +6,7 @@ use mathlib.Core.List.{List, [], ◌∷◌, ◌++◌}
 use Rattle.std.proofs.Math.Decide.{ℕ_discrete}
 use Rattle.std.proofs.Math.ListN.{set}
 use Rattle.store.specs.Row.{row, Written}
-use Rattle.model.specs.Lists.{if◌then◌else◌, any_of, member}
+use Rattle.model.specs.Lists.{any_of, member}
 use Rattle.model.specs.declared.Absorption.{Absorption}
 use Rattle.model.specs.declared.Absorption.TheVariants.{Off as off, Lazy as lazy}
 use Rattle.model.specs.Items.{rot, Item, rotation, is_clifford}

@@ -1,5 +1,7 @@
-// Standard input, read to its end: `io::read_full` does not tell the end from a read that failed.
-ghost use Rattle.tzap_list.specs.Reading.{Within};
+// A reader, as standard input, read to its end, or as far as there is room.
+ghost use Rattle.tzap_list.specs.Reading.{Within, Consumed, EndsAt, Whole};
+
+use std::io::Read;
 
 // So many bytes were read; or a read failed.
 #[derive(Clone, Copy)]
@@ -9,23 +11,26 @@ pub enum Input {
 }
 
 // One read; no bytes at the input's end.
-fn read_some(to: &mut [u8]) -> Input
-    ensures { Within result to.new }
+fn read_some<R: Read>(from: &mut R, to: &mut [u8]) -> Input
+    ensures bound { Within result to.new }
+    ensures bytes { Consumed (R.remaining from.old) (R.remaining from.new) result to.new }
+    ensures end { EndsAt (R.remaining from.new) result to.new }
 {
-    let got = libc::read(0, to);
-    if got < 0 {
-        return Input::Failed;
+    match from.read(to) {
+        Ok(n) => Input::Bytes(n),
+        Err(_) => Input::Failed,
     }
-    Input::Bytes(io::count(got, &to[..]))
 }
 
 // Reads until the input ends or there is no more room.
-pub fn read(to: &mut [u8]) -> Input
-    ensures { Within result to.new }
+pub fn read<R: Read>(from: &mut R, to: &mut [u8]) -> Input
+    ensures bound { Within result to.new }
+    ensures bytes { Consumed (R.remaining from.old) (R.remaining from.new) result to.new }
+    ensures whole { Whole (R.remaining from.new) result to.new }
 {
     let mut n = 0;
     while n < to.len() {
-        let some = read_some(&mut to[n..]);
+        let some = read_some(from, &mut to[n..]);
         let Input::Bytes(more) = some else {
             return Input::Failed;
         };

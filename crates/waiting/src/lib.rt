@@ -1,5 +1,6 @@
 // Row WAITING: a list of places of the output, rising.
 #![tactic(auto)]
+
 ghost use Rattle.std.specs.Prelude.{◌≡◌, ◌+◌, ◌*◌, ◌≤◌, ◌<◌, length};
 ghost use Rattle.store.specs.Row.{Written};
 ghost use Rattle.layout.specs.Rows.{row_count, waiting_row};

@@ -1,5 +1,6 @@
 // Checking, Rewriting and Listing in numbers, as C calls them: `werdutxa_c` exports them, include/werdutxa.h declares them, rust/ has a safe form.
 #![tactic(auto)]
+
 ghost use Rattle.std.specs.Prelude.{◌≡◌};
 ghost use Rattle.model.specs.Interface.{number_of};
 ghost use Rattle.model.specs.Checking.{checking};

@@ -1,6 +1,7 @@
 // Checking, Rewriting and Listing for C: include/werdutxa.h declares them, rust/ has a safe form. Each is the library's function.
 // In C a slice is a pointer and a length, and `&mut [usize; 14]` a pointer to that many numbers.
 #![tactic(auto)]
+
 ghost use Rattle.std.specs.Prelude.{◌≡◌};
 ghost use Rattle.model.specs.Interface.{number_of};
 ghost use Rattle.model.specs.Checking.{checking};

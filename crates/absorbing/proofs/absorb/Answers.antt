@@ -10,7 +10,7 @@ turn-requires c = absorb_turns c.touch_all-t.ensures c.in-Next.is c.requires
 
 pub returns : goal.returns
 returns c = (
-      absorb_left c.touch_all-t.ensures c.in-Next.is c.turn.ensures c.requires,
-      absorb_holds
-          c.touch_all-t.ensures c.in-Next.is c.turn.ensures,
-    )
+  absorb_left c.touch_all-t.ensures c.in-Next.is c.turn.ensures c.requires,
+  absorb_holds
+      c.touch_all-t.ensures c.in-Next.is c.turn.ensures,
+)

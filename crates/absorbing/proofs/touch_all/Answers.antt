@@ -1,7 +1,6 @@
 -- The numbers from the j-th on are still to be gone through. Assumes nothing.
 use Rattle.absorbing.specs.AxisQubits.{axis_small, numbers_word, numbers_first, numbers_turn, numbers_left, numbers_next}
 use Rattle.absorbing.specs.AxisQubits.{numbers_limit, numbers_end}
-use Prim.Native.Nat.{◌-◌}
 use native.Mathlib.Omega.{arith}
 use Rattle.absorbing.proofs.touch_all.Goals as goal
 
@@ -27,11 +26,11 @@ shape_of-numbers-in-ExpansionLimit c = (numbers_left c.loop-j.invariant c.loop-j
 
 pub returns-in-ExpansionLimit : goal.returns-in-ExpansionLimit
 returns-in-ExpansionLimit c = (
-      numbers_left c.loop-j.invariant c.loop-j-test.true c.axis_at-at.ensures c.acted_at-acted.ensures
-          c.touch_bits-t.ensures,
-      numbers_limit c.loop-j.invariant c.loop-j-test.true c.axis_at-at.ensures
-          c.acted_at-acted.ensures c.touch_bits-t.ensures c.in-ExpansionLimit.is,
-    )
+  numbers_left c.loop-j.invariant c.loop-j-test.true c.axis_at-at.ensures c.acted_at-acted.ensures
+      c.touch_bits-t.ensures,
+  numbers_limit c.loop-j.invariant c.loop-j-test.true c.axis_at-at.ensures
+      c.acted_at-acted.ensures c.touch_bits-t.ensures c.in-ExpansionLimit.is,
+)
 
 pub overflow_step-j : goal.overflow_step-j
 overflow_step-j c = omega (arith, c.loop-j-test.true, c.requires.it.at.granted.sized.few)

@@ -29,10 +29,10 @@ shape_of-numbers-in-ExpansionLimit c = (bits_left c.loop-rest.invariant c.loop-r
 
 pub returns-in-ExpansionLimit : goal.returns-in-ExpansionLimit
 returns-in-ExpansionLimit c = (
-      bits_left c.loop-rest.invariant c.loop-rest-test.true refl c.touch-t.ensures,
-      bits_limit c.loop-rest.invariant
-          c.loop-rest-test.true refl c.touch-t.ensures c.in-ExpansionLimit.is,
-    )
+  bits_left c.loop-rest.invariant c.loop-rest-test.true refl c.touch-t.ensures,
+  bits_limit c.loop-rest.invariant
+      c.loop-rest-test.true refl c.touch-t.ensures c.in-ExpansionLimit.is,
+)
 
 pub loop-rest-smaller : goal.loop-rest-smaller
 loop-rest-smaller c = clear_lt _ (omega arith)

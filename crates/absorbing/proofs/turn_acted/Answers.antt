@@ -1,6 +1,5 @@
 -- The images of the qubits of the numbers from the j-th on are still to be changed. Assumes nothing.
 use Rattle.absorbing.specs.Qubits.{acted_first, acted_there, acted_turn, acted_next, acted_end}
-use Prim.Native.Nat.{◌-◌}
 use native.Mathlib.Omega.{arith}
 use Rattle.absorbing.proofs.turn_acted.Goals as goal
 

@@ -1,6 +1,5 @@
 -- The images before the i-th are changed. Assumes nothing.
 use Rattle.absorbing.specs.Turning.{turned_none, turn_pre, turned_more, turned_all}
-use Prim.Native.Nat.{◌-◌}
 use native.Mathlib.Omega.{arith}
 use Rattle.absorbing.proofs.turn_images.Goals as goal
 

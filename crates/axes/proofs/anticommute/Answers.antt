@@ -22,9 +22,9 @@ axis-requires-2 c = held_axis c.requires.0 _ c.requires.2
 
 pub anticommutes-requires : goal.anticommutes-requires
 anticommutes-requires c = (
-      read_long _ _ _ c.axis.ensures (held_axis c.requires.0 _ c.requires.1),
-      read_long _ _ _ c.axis-2.ensures (held_axis c.requires.0 _ c.requires.2),
-    )
+  read_long _ _ _ c.axis.ensures (held_axis c.requires.0 _ c.requires.1),
+  read_long _ _ _ c.axis-2.ensures (held_axis c.requires.0 _ c.requires.2),
+)
 
 pub returns : goal.returns
 returns c =

@@ -10,8 +10,8 @@ axis-requires c = axis_there c.requires.it (c.carry_word.ensures c.requires.stat
 
 pub returns : goal.returns
 returns c = (
-      (c.carry_word.ensures c.requires.state c.requires.it.carry).words,
-      λ t h. carries_told h
-          (c.carry_word.ensures t h.carry) c.scratch_at.ensures c.word_at-image.ensures c.axis.ensures
-          c.same.ensures,
-    )
+  (c.carry_word.ensures c.requires.state c.requires.it.carry).words,
+  λ t h. carries_told h
+      (c.carry_word.ensures t h.carry) c.scratch_at.ensures c.word_at-image.ensures c.axis.ensures
+      c.same.ensures,
+)

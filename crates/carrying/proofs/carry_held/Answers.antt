@@ -11,17 +11,17 @@ axis_at-at-requires c = omega (arith, carry_words c.requires.it, carry_numbers c
 
 pub fixes-requires : goal.fixes-requires
 fixes-requires c = (
-      omega (arith, c.axis_at-at.ensures, carry_words c.requires.it),
-      omega
-          (arith, c.mask_at-mask.ensures, carry_words c.requires.it),
-    )
+  omega (arith, c.axis_at-at.ensures, carry_words c.requires.it),
+  omega
+      (arith, c.mask_at-mask.ensures, carry_words c.requires.it),
+)
 
 pub returns-then-fixes : goal.returns-then-fixes
 unfolding step_with
 returns-then-fixes c = (
-      left_fixed _ _ _,
-      λ t h. fixed_to h c.axis_at-at.ensures c.mask_at-mask.ensures (c.fixes.ensures c.if-fixes.true) refl,
-    )
+  left_fixed _ _ _,
+  λ t h. fixed_to h c.axis_at-at.ensures c.mask_at-mask.ensures (c.fixes.ensures c.if-fixes.true) refl,
+)
 
 pub carry_word-turns-requires : goal.carry_word-turns-requires
 carry_word-turns-requires c = record { state = c.requires.state; it = carry_at c.requires.it }
@@ -34,12 +34,12 @@ intern-i-requires c =
 pub returns-in_default : goal.returns-in_default
 unfolding step_with
 returns-in_default c = (
-      limit_left c.requires.it (c.carry_word-turns.ensures _ (carry_at c.requires.it)) c.scratch_at-scratch.ensures
-          c.sizes_of-z.ensures c.intern-i.ensures c.in_default.is,
-      λ t h. carry_limit h
-          (c.carry_word-turns.ensures t (carry_at h)) c.scratch_at-scratch.ensures c.sizes_of-z.ensures
-          c.intern-i.ensures c.in_default.is,
-    )
+  limit_left c.requires.it (c.carry_word-turns.ensures _ (carry_at c.requires.it)) c.scratch_at-scratch.ensures
+      c.sizes_of-z.ensures c.intern-i.ensures c.in_default.is,
+  λ t h. carry_limit h
+      (c.carry_word-turns.ensures t (carry_at h)) c.scratch_at-scratch.ensures c.sizes_of-z.ensures
+      c.intern-i.ensures c.in_default.is,
+)
 
 pub shape_of-words : goal.shape_of-words
 shape_of-words c = (carry_left c.requires.it (c.carry_word-turns.ensures _ (carry_at c.requires.it)) c.scratch_at-scratch.ensures
@@ -48,9 +48,9 @@ shape_of-words c = (carry_left c.requires.it (c.carry_word-turns.ensures _ (carr
 pub returns : goal.returns
 unfolding step_with
 returns c = (
-      carry_left c.requires.it (c.carry_word-turns.ensures _ (carry_at c.requires.it)) c.scratch_at-scratch.ensures
-          c.sizes_of-z.ensures c.intern-i.ensures c.in-Axis.is,
-      λ t h. carry_to h
-          (c.carry_word-turns.ensures t (carry_at h)) c.scratch_at-scratch.ensures c.sizes_of-z.ensures
-          c.intern-i.ensures c.in-Axis.is refl,
-    )
+  carry_left c.requires.it (c.carry_word-turns.ensures _ (carry_at c.requires.it)) c.scratch_at-scratch.ensures
+      c.sizes_of-z.ensures c.intern-i.ensures c.in-Axis.is,
+  λ t h. carry_to h
+      (c.carry_word-turns.ensures t (carry_at h)) c.scratch_at-scratch.ensures c.sizes_of-z.ensures
+      c.intern-i.ensures c.in-Axis.is refl,
+)

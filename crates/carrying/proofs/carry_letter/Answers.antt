@@ -25,11 +25,11 @@ overflow_sub-i-2 c =
 
 pub times_image-requires : goal.times_image-requires
 times_image-requires c = (
-      letter_times c.requires.it,
-      letter_image_there c.requires.it c.axis.ensures c.letter_at-letter.ensures c.read-slot.ensures
-          c.if-slot-eq0.false,
-      c.requires.it.small,
-    )
+  letter_times c.requires.it,
+  letter_image_there c.requires.it c.axis.ensures c.letter_at-letter.ensures c.read-slot.ensures
+      c.if-slot-eq0.false,
+  c.requires.it.small,
+)
 
 pub returns : goal.returns
 returns c =

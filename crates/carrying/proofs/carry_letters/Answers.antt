@@ -1,6 +1,5 @@
 -- The numbers from the j-th on are still to be gone through. Assumes nothing.
 use Rattle.carrying.specs.Letters.{carry_granted, carry_axis, word_first, word_there, word_turn, word_next, word_end}
-use Prim.Native.Nat.{◌-◌}
 use native.Mathlib.Omega.{arith}
 use Rattle.carrying.proofs.carry_letters.Goals as goal
 

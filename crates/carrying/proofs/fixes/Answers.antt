@@ -1,7 +1,6 @@
 -- The first j numbers have no bit where the mask has one. Assumes nothing.
 use Rattle.carrying.specs.Fixed.{none_first, none_next, none_all}
 use mathlib.Core.Bool.{false≢true}
-use Prim.Native.Nat.{◌-◌}
 use native.Mathlib.Omega.{arith}
 use Rattle.carrying.proofs.fixes.Goals as goal
 

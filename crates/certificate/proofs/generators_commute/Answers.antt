@@ -1,7 +1,5 @@
 -- The loop's invariant: what is left of the test decides, and the rows before p have passed. Assumes nothing.
 use mathlib.Core.Path.{refl, sym, ◌∙◌}
-use Prim.Native.Nat.{◌-◌}
-use borrow.Author.Tests.{not-true, not-false}
 use Rattle.certificate.specs.Turns.{rows_all, rows_pass, rows_fail, rows_done}
 use Rattle.certificate.specs.Earlier.{no_rows, one_row}
 use native.Mathlib.Omega.{arith}
@@ -20,12 +18,12 @@ returns-then-not-row_vanishes c =
 
 pub loop-p-preserved : goal.loop-p-preserved
 loop-p-preserved c = (
-      omega arith,
-      omega arith,
-      c.loop-p.invariant.2 ∙ rows_pass _ _ _ _ _ _ c.loop-p-test.true c.row_vanishes.ensures
-          c.if-not-row_vanishes.false,
-      one_row c.loop-p.invariant.3 c.row_vanishes.ensures c.if-not-row_vanishes.false,
-    )
+  omega arith,
+  omega arith,
+  c.loop-p.invariant.2 ∙ rows_pass _ _ _ _ _ _ c.loop-p-test.true c.row_vanishes.ensures
+      c.if-not-row_vanishes.false,
+  one_row c.loop-p.invariant.3 c.row_vanishes.ensures c.if-not-row_vanishes.false,
+)
 
 pub returns : goal.returns
 returns c = sym (rows_all c.args.z _ _ _ _ ∙ c.loop-p.invariant.2 ∙ rows_done _ _ _ _ _ _ c.loop-p-test.false)

@@ -1,6 +1,5 @@
 -- The loop's invariant: the place lies between. The first item that has the word is told. Assumes nothing.
 use mathlib.Core.Bool.{false≢true}
-use Prim.Native.Nat.{◌-◌}
 use Rattle.certificate.specs.Earlier.{has_entry, has_axes, has_found}
 use native.Mathlib.Omega.{arith}
 use Rattle.certificate.proofs.has_word.Goals as goal

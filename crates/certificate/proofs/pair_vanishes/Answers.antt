@@ -1,5 +1,4 @@
 -- Items that commute, or their word's sum. Assumes nothing.
-use borrow.Author.Tests.{not-true, not-false}
 use Rattle.certificate.specs.Turns.{pair_commutes}
 use Rattle.certificate.specs.Earlier.{first_entry, second_entry, pair_stored, pair_word, pair_read}
 use Rattle.certificate.proofs.pair_vanishes.Goals as goal

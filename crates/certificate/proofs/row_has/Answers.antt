@@ -1,6 +1,5 @@
 -- The item meets the word, and has it with one of the group. Assumes nothing.
 use mathlib.Core.Bool.{false≢true}
-use borrow.Author.Tests.{not-false}
 use Rattle.certificate.specs.Earlier.{row_entry, row_meets, row_pre, row_found}
 use Rattle.certificate.proofs.row_has.Goals as goal
 

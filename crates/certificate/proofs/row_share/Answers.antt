@@ -1,5 +1,4 @@
 -- A rotation that commutes with the word adds nothing. Assumes nothing.
-use borrow.Author.Tests.{not-true}
 use Rattle.certificate.specs.Meets.{share_meets, share_none}
 use Rattle.certificate.proofs.row_share.Goals as goal
 

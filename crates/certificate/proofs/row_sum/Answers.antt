@@ -1,5 +1,4 @@
 -- The loop's invariant: the sum of the pairs with the items before q. Assumes nothing.
-use Prim.Native.Nat.{◌-◌}
 use native.Mathlib.Omega.{arith}
 use Rattle.certificate.proofs.SignedSum.{add_fits, add_read}
 use Rattle.certificate.specs.Turns.{row_start, row_step, row_bound, row_most, pair_bound, row_end, group_entry, row_term, room}

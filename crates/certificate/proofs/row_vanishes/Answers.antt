@@ -1,7 +1,5 @@
 -- The loop's invariant: what is left of the row's test decides, and the pairs before q have passed. Assumes nothing.
 use mathlib.Core.Path.{refl, sym, ◌∙◌}
-use Prim.Native.Nat.{◌-◌}
-use borrow.Author.Tests.{not-true, not-false}
 use Rattle.certificate.specs.Turns.{row_pass, row_fail, row_done}
 use Rattle.certificate.specs.Earlier.{none_passed, one_passed}
 use native.Mathlib.Omega.{arith}
@@ -20,12 +18,12 @@ returns-then-not-pair_vanishes c =
 
 pub loop-q-preserved : goal.loop-q-preserved
 loop-q-preserved c = (
-      omega arith,
-      omega arith,
-      c.loop-q.invariant.2 ∙ row_pass _ _ _ _ _ _ _ c.loop-q-test.true c.pair_vanishes.ensures
-          c.if-not-pair_vanishes.false,
-      one_passed c.loop-q.invariant.3 c.pair_vanishes.ensures c.if-not-pair_vanishes.false,
-    )
+  omega arith,
+  omega arith,
+  c.loop-q.invariant.2 ∙ row_pass _ _ _ _ _ _ _ c.loop-q-test.true c.pair_vanishes.ensures
+      c.if-not-pair_vanishes.false,
+  one_passed c.loop-q.invariant.3 c.pair_vanishes.ensures c.if-not-pair_vanishes.false,
+)
 
 pub returns : goal.returns
 returns c = sym (c.loop-q.invariant.2 ∙ row_done _ _ _ _ _ _ _ c.loop-q-test.false)

@@ -1,6 +1,5 @@
 -- The loop's invariant: the item lies between. Assumes nothing.
 use mathlib.Core.Bool.{false≢true}
-use Prim.Native.Nat.{◌-◌}
 use Rattle.certificate.specs.Earlier.{rows_row, rows_found}
 use native.Mathlib.Omega.{arith}
 use Rattle.certificate.proofs.rows_have.Goals as goal

@@ -1,5 +1,4 @@
 -- The loop's invariant: the sum of the rows of the items before p. Assumes nothing.
-use Prim.Native.Nat.{◌-◌}
 use native.Mathlib.Omega.{arith}
 use Rattle.certificate.proofs.SignedSum.{add_fits, add_read}
 use Rattle.certificate.specs.Turns.{sum_most, sum_start, sum_step, row_within, sum_within, sum_end, group_entry, sum_row}

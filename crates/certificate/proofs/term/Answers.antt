@@ -1,6 +1,5 @@
 -- Another product adds nothing; else the phase says what is added. Assumes nothing.
 use native.Mathlib.Omega.{arith}
-use borrow.Author.Tests.{not-true, not-false}
 use Rattle.certificate.specs.Sums.{pair_small}
 use Rattle.certificate.specs.Terms.{term_other, term_same}
 use Rattle.certificate.proofs.SignedSum.{read_as}

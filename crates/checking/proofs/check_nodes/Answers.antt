@@ -1,5 +1,4 @@
 -- The loop's invariant: what is left to check from record i on answers for all. Assumes nothing.
-use Prim.Native.Nat.{◌-◌}
 use lib.ListN.{length-take, length-drop}
 use Rattle.checking.specs.Walk.{all_left, none_left, passes, refused, nodes_walk}
 use native.Mathlib.Omega.{arith}

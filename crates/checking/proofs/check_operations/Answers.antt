@@ -1,5 +1,4 @@
 -- The loop's invariant: what is left to check from operation i on, with the outcomes before it, answers for all, and the table has these
-use Prim.Native.Nat.{◌-◌}
 use lib.ListN.{length-take, length-drop}
 use Rattle.checking.specs.Walk.{all_left, none_left, passes, refused}
 use Rattle.checking.specs.Outcomes.{seen_by, none_seen, seen_next, operations_walk}
@@ -20,11 +19,11 @@ returns-then-number_of-ne0 c =
 
 pub loop-i-preserved : goal.loop-i-preserved
 loop-i-preserved c = (
-      passes (operations_walk _ _) c.loop-i.invariant.0 (omega arith)
-          (c.check_operation-a.ensures _ c.loop-i.invariant.1).answer c.number_of.ensures c.if-number_of-ne0.false,
-      seen_next _ _
-          ((c.check_operation-a.ensures _ c.loop-i.invariant.1).entered (omega arith)),
-    )
+  passes (operations_walk _ _) c.loop-i.invariant.0 (omega arith)
+      (c.check_operation-a.ensures _ c.loop-i.invariant.1).answer c.number_of.ensures c.if-number_of-ne0.false,
+  seen_next _ _
+      ((c.check_operation-a.ensures _ c.loop-i.invariant.1).entered (omega arith)),
+)
 
 pub returns : goal.returns
 unfolding seen_by

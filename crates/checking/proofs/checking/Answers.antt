@@ -16,9 +16,9 @@ program_short-requires c = sym c.bad_count.ensures ∙ c.if-bad_count.false
 
 pub lent_short-requires : goal.lent_short-requires
 lent_short-requires c = (
-      sym c.bad_count.ensures ∙ c.if-bad_count.false,
-      limit_fits _ (sym c.bad_option.ensures ∙ c.if-bad_option.false),
-    )
+  sym c.bad_count.ensures ∙ c.if-bad_count.false,
+  limit_fits _ (sym c.bad_option.ensures ∙ c.if-bad_option.false),
+)
 
 pub returns-then-program_short-lent_short : goal.returns-then-program_short-lent_short
 returns-then-program_short-lent_short c =

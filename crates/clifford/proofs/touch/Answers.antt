@@ -31,10 +31,10 @@ overflow_cast-st c = omega (arith, slots_small c.requires.it c.read.ensures c.if
 
 pub write-requires : goal.write-requires
 write-requires c = (
-      own_long c.requires.it c.read.ensures c.if-read-ne0.false c.if-shape-sum.false c.put_images.ensures,
-      omega arith,
-      qubit_entry c.requires.it,
-    )
+  own_long c.requires.it c.read.ensures c.if-read-ne0.false c.if-shape-sum.false c.put_images.ensures,
+  omega arith,
+  qubit_entry c.requires.it,
+)
 
 pub overflow_add-st-2 : goal.overflow_add-st-2
 overflow_add-st-2 c = omega (arith, slots_small c.requires.it c.read.ensures c.if-read-ne0.false c.if-shape-sum.false)
@@ -49,9 +49,9 @@ shape_of-numbers c = (touch_left c.requires.it c.read.ensures c.if-read-ne0.fals
 
 pub returns : goal.returns
 returns c = (
-      touch_left c.requires.it c.read.ensures c.if-read-ne0.false c.if-shape-sum.false c.put_images.ensures
-          c.mask_at.ensures c.mark.ensures c.write.ensures,
-      λ t h. as_slots c.with_slots.ensures (touch_next h
-          c.read.ensures c.if-read-ne0.false c.if-shape-sum.false c.put_images.ensures c.mask_at.ensures
-          c.mark.ensures c.write.ensures c.peak_with.ensures),
-    )
+  touch_left c.requires.it c.read.ensures c.if-read-ne0.false c.if-shape-sum.false c.put_images.ensures
+      c.mask_at.ensures c.mark.ensures c.write.ensures,
+  λ t h. as_slots c.with_slots.ensures (touch_next h
+      c.read.ensures c.if-read-ne0.false c.if-shape-sum.false c.put_images.ensures c.mask_at.ensures
+      c.mark.ensures c.write.ensures c.peak_with.ensures),
+)

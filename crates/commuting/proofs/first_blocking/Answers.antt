@@ -1,6 +1,5 @@
 -- The loop's invariant: what is left from place i on decides. Assumes nothing.
 use mathlib.Core.Path.{refl, ◌∙◌}
-use Prim.Native.Nat.{◌-◌}
 use Rattle.commuting.specs.Commuting.{commutes_more, entry_in, axes_stored}
 use Rattle.commuting.specs.Blocking.{blocking_at, blocking_none}
 use native.Mathlib.Omega.{arith}
@@ -22,10 +21,10 @@ returns-then-anticommute c =
 
 pub loop-i-preserved : goal.loop-i-preserved
 loop-i-preserved c = (
-      omega (arith, c.loop-i.invariant.0),
-      c.loop-i.invariant.1 ∙ commutes_more _ _ _ _ _ _ c.loop-i-test.true c.axis_at-other.ensures
-          c.anticommute.ensures c.if-anticommute.false,
-    )
+  omega (arith, c.loop-i.invariant.0),
+  c.loop-i.invariant.1 ∙ commutes_more _ _ _ _ _ _ c.loop-i-test.true c.axis_at-other.ensures
+      c.anticommute.ensures c.if-anticommute.false,
+)
 
 pub returns : goal.returns
 returns c = blocking_none c.loop-i-test.false c.loop-i.invariant.1

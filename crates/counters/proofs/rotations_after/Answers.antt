@@ -1,7 +1,6 @@
 -- The loop's invariant: n is the number among the first i items. Assumes nothing.
 use native.Mathlib.Omega.{arith}
 use mathlib.Core.Path.{ap, ◌∙◌}
-use Prim.Native.Nat.{◌-◌}
 use Rattle.counters.specs.Total.{one_if, total_none, total_more, total_all}
 use Rattle.counters.specs.After.{rotations_are}
 use Rattle.counters.proofs.rotations_after.Goals as goal

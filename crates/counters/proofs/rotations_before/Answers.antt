@@ -1,7 +1,6 @@
 -- The loop's invariant: n is the number among the first i operations. Assumes nothing.
 use native.Mathlib.Omega.{arith}
 use mathlib.Core.Path.{◌∙◌}
-use Prim.Native.Nat.{◌-◌}
 use Rattle.counters.specs.Source.{source_rotations_lem}
 use Rattle.counters.specs.Total.{total_none, total_more, total_all}
 use Rattle.counters.proofs.rotations_before.Goals as goal

@@ -1,6 +1,5 @@
 -- The loop's invariant: n is the number among the first i items. Assumes nothing.
 use native.Mathlib.Omega.{arith}
-use Prim.Native.Nat.{◌-◌}
 use Rattle.results.specs.Record.{items_item}
 use Rattle.counters.specs.After.{odd_none, odd_more, odd_all}
 use Rattle.counters.proofs.t_after.Goals as goal

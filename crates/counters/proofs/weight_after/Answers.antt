@@ -1,6 +1,5 @@
 -- The loop's invariant: n is the weight of the first i items. Assumes nothing.
 use native.Mathlib.Omega.{arith}
-use Prim.Native.Nat.{◌-◌}
 use Rattle.counters.specs.Weight.{weight_item, weigh_none, weigh_more, weigh_all}
 use Rattle.counters.proofs.weight_after.Goals as goal
 

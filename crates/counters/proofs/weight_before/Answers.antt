@@ -1,6 +1,5 @@
 -- The loop's invariant: n is the weight of the first i operations. Assumes nothing.
 use native.Mathlib.Omega.{arith}
-use Prim.Native.Nat.{◌-◌}
 use Rattle.counters.specs.SourceWeight.{source_item, source_begin, source_more, source_end}
 use Rattle.counters.proofs.weight_before.Goals as goal
 

@@ -37,10 +37,10 @@ returns-in_default c = decide_refused c.pack-p.ensures c.args.options c.answer.e
 
 pub passes-requires : goal.passes-requires
 passes-requires c = (
-      record { ws₀ = _; xs₀ = _; answer = _; peak = _; pre = c.requires.0; done = c.pack-p.ensures; accepted = c.in-Axes.is },
-      c.requires.1,
-      packed_peak c.pack-p.ensures c.in-Axes.is,
-    )
+  record { ws₀ = _; xs₀ = _; answer = _; peak = _; pre = c.requires.0; done = c.pack-p.ensures; accepted = c.in-Axes.is },
+  c.requires.1,
+  packed_peak c.pack-p.ensures c.in-Axes.is,
+)
 
 pub shape_of-words : goal.shape_of-words
 shape_of-words c = (decide_passes c.pack-p.ensures c.passes.ensures).long.words

@@ -7,9 +7,9 @@ start_run-s-requires c = c.requires.0
 
 pub passes-e-requires : goal.passes-e-requires
 passes-e-requires c = (
-      record { program = _; work = _; at = first_run c.requires.0 c.start_run-s.ensures c.requires.2 c.first_state-first.ensures },
-      c.requires.1,
-    )
+  record { program = _; work = _; at = first_run c.requires.0 c.start_run-s.ensures c.requires.2 c.first_state-first.ensures },
+  c.requires.1,
+)
 
 pub shape_of-words-in_default : goal.shape_of-words-in_default
 shape_of-words-in_default c = (passes_limit c.args.options c.requires.0 c.start_run-s.ensures c.requires.2 c.first_state-first.ensures

@@ -1,5 +1,4 @@
 -- Whatever is left, its depth from the state that memory holds is the whole T-depth. Assumes nothing.
-use Prim.Native.Nat.{◌-◌}
 use Rattle.depth.specs.ItemsLoop.{depth_start, depth_need, depth_turn, depth_end}
 use Rattle.depth.proofs.over_items.Goals as goal
 

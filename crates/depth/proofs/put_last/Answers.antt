@@ -11,11 +11,11 @@ write-requires c = (omega (arith, c.requires.begun.long, c.link.ensures.only.lon
 
 pub write-requires-2 : goal.write-requires-2
 write-requires-2 c = (
-      omega (arith, c.requires.begun.long, c.link.ensures.only.long, c.write.ensures.long),
-      omega arith,
-      omega
-          (arith, c.requires.begun.high, c.requires.begun.level),
-    )
+  omega (arith, c.requires.begun.long, c.link.ensures.only.long, c.write.ensures.long),
+  omega arith,
+  omega
+      (arith, c.requires.begun.high, c.requires.begun.level),
+)
 
 pub shape_of-numbers : goal.shape_of-numbers
 shape_of-numbers c = omega (arith, c.link.ensures.only.long, c.write.ensures.long, c.write-2.ensures.long)

@@ -14,11 +14,11 @@ returns-then-item-ne0 c = turn_barrier c.requires c.item_at-item.ensures c.if-it
 
 pub rotation-reached-requires : goal.rotation-reached-requires
 rotation-reached-requires c = record {
-      turn = c.requires;
-      axis = ap (λ (x : Tagged). x.axis) c.item_at-item.ensures;
-      angle = ap (λ (x : Tagged). x.angle % 2)
-          c.item_at-item.ensures;
-    }
+  turn = c.requires;
+  axis = ap (λ (x : Tagged). x.axis) c.item_at-item.ensures;
+  angle = ap (λ (x : Tagged). x.angle % 2)
+      c.item_at-item.ensures;
+}
 
 pub shape_of-numbers : goal.shape_of-numbers
 shape_of-numbers c = c.rotation-reached.ensures.only.long

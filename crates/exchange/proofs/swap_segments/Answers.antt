@@ -1,6 +1,5 @@
 -- The loop's invariant: the rest of the pass from the state that memory holds now. Assumes nothing.
 use mathlib.Core.Path.{◌∙◌}
-use Prim.Native.Nat.{◌-◌}
 use native.Mathlib.Omega.{arith}
 use Rattle.exchange.specs.Segments.{exchange_none, pass_begin, pass_pre, pass_next, pass_copy, pass_end}
 use Rattle.exchange.proofs.swap_segments.Goals as goal
@@ -19,9 +18,9 @@ loop-st-smaller c = let a = c.segment-st.ensures.later in let b = c.segment-st.e
 
 pub loop-st-preserved : goal.loop-st-preserved
 loop-st-preserved c = (
-      c.segment-st.ensures.only.long ∙ c.loop-st.invariant.0,
-      pass_next c.requires c.if-rules-eq0.false c.loop-st.invariant.1 c.segment-st.ensures,
-    )
+  c.segment-st.ensures.only.long ∙ c.loop-st.invariant.0,
+  pass_next c.requires c.if-rules-eq0.false c.loop-st.invariant.1 c.segment-st.ensures,
+)
 
 pub copy_items-requires : goal.copy_items-requires
 copy_items-requires c = pass_copy c.requires c.if-rules-eq0.false c.loop-st.invariant.1

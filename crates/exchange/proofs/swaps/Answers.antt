@@ -1,6 +1,5 @@
 -- The loop's invariant: the rest of the steps from the state that memory holds now. Assumes nothing.
 use mathlib.Core.Path.{◌∙◌}
-use Prim.Native.Nat.{◌-◌}
 use native.Mathlib.Omega.{arith}
 use Rattle.exchange.specs.Swaps.{swaps_begin, swaps_start, swaps_out, stop_out, next_later, swaps_next, swaps_stop}
 use Rattle.exchange.specs.Swaps.{swaps_end}
@@ -32,10 +31,10 @@ loop-start-smaller c =
 
 pub loop-start-preserved : goal.loop-start-preserved
 loop-start-preserved c = (
-      c.try_start-step.ensures.only.long ∙ c.loop-start.invariant.0,
-      swaps_next c.requires c.loop-start.invariant.1 c.loop-start-test.true c.try_start-step.ensures
-          c.in-Next.is,
-    )
+  c.try_start-step.ensures.only.long ∙ c.loop-start.invariant.0,
+  swaps_next c.requires c.loop-start.invariant.1 c.loop-start-test.true c.try_start-step.ensures
+      c.in-Next.is,
+)
 
 pub copy_out-requires-2 : goal.copy_out-requires-2
 copy_out-requires-2 c = swaps_out c.requires c.loop-start.invariant.1

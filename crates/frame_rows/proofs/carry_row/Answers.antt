@@ -15,10 +15,10 @@ carry_held-c-requires c = record { state = held_of c.requires.pass; it = carry_p
 
 pub returns-in_default : goal.returns-in_default
 returns-in_default c = (
-      row_left c.carry_held-c.ensures.0,
-      λ m n p h. row_limit h c.root_at-x.ensures c.if-x.false c.carry_held-c.ensures
-          (with_limit _ c.in_default.is),
-    )
+  row_left c.carry_held-c.ensures.0,
+  λ m n p h. row_limit h c.root_at-x.ensures c.if-x.false c.carry_held-c.ensures
+      (with_limit _ c.in_default.is),
+)
 
 pub overflow_cast-moved : goal.overflow_cast-moved
 overflow_cast-moved c =
@@ -37,14 +37,14 @@ overflow_add-moved c =
 
 pub put_root-requires : goal.put_root-requires
 put_root-requires c = record {
-      long = omega (arith, c.requires.it.at.granted.numbers_long, c.carry_held-c.ensures.0.numbers.long);
-      here =
-          c.requires.it.here;
-    }
+  long = omega (arith, c.requires.it.at.granted.numbers_long, c.carry_held-c.ensures.0.numbers.long);
+  here =
+      c.requires.it.here;
+}
 
 pub returns : goal.returns
 returns c = (
-      row_put_left c.carry_held-c.ensures.0 c.put_root.ensures,
-      λ m n p h. row_next h c.root_at-x.ensures
-          c.if-x.false c.carry_held-c.ensures (with_next _ c.in-Next.is c.with_image-to.ensures) c.put_root.ensures,
-    )
+  row_put_left c.carry_held-c.ensures.0 c.put_root.ensures,
+  λ m n p h. row_next h c.root_at-x.ensures
+      c.if-x.false c.carry_held-c.ensures (with_next _ c.in-Next.is c.with_image-to.ensures) c.put_root.ensures,
+)

@@ -1,5 +1,4 @@
 -- References j and later are still to be carried. Assumes nothing.
-use Prim.Native.Nat.{◌-◌}
 use Rattle.frame_rows.specs.FrameRows.{rows_first, rows_turn, rows_left, rows_limit, rows_next, rows_end_lem, rows_refused}
 use native.Mathlib.Omega.{arith}
 use Rattle.frame_rows.proofs.carry_rows.Goals as goal
@@ -24,11 +23,11 @@ shape_of-numbers-in-ExpansionLimit c = (rows_left c.loop-j.invariant c.loop-j-te
 
 pub returns-in-ExpansionLimit : goal.returns-in-ExpansionLimit
 returns-in-ExpansionLimit c = (
-      rows_left c.loop-j.invariant c.loop-j-test.true c.carry_row-t.ensures,
-      λ m n p h. rows_refused _
-          (rows_limit c.loop-j.invariant c.loop-j-test.true c.carry_row-t.ensures
-          c.in-ExpansionLimit.is m n p h),
-    )
+  rows_left c.loop-j.invariant c.loop-j-test.true c.carry_row-t.ensures,
+  λ m n p h. rows_refused _
+      (rows_limit c.loop-j.invariant c.loop-j-test.true c.carry_row-t.ensures
+      c.in-ExpansionLimit.is m n p h),
+)
 
 pub overflow_step-j : goal.overflow_step-j
 overflow_step-j c =

@@ -1,7 +1,6 @@
--- The stores are as long as refusal 3 asks. Assumes nothing.
-use mathlib.Core.Path.{refl}
+-- The stores are as long as refusal 3 asks.
+use Rattle.std.proofs.Common.{refl, arith}
 use Rattle.index_main.specs.Ready.{small_counts, small_is, ready_none}
-use native.Mathlib.Omega.{arith}
 use Rattle.index_main.proofs.main.Goals as goal
 
 pub shape_of-shape-requires : goal.shape_of-shape-requires

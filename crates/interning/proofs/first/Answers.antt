@@ -7,6 +7,6 @@ use Rattle.interning.proofs.first.Goals as goal
 pub returns : goal.returns
 unfolding digits_by
 returns c = record {
-      place = ap (λ (n : ℕ). n + c.args.s.total % head_count) c.heads_at.ensures;
-      digits = ap (λ (n : ℕ). n / 4294967296) c.mixed_halves.ensures;
-    }
+  place = ap (λ (n : ℕ). n + c.args.s.total % head_count) c.heads_at.ensures;
+  digits = ap (λ (n : ℕ). n / 4294967296) c.mixed_halves.ensures;
+}

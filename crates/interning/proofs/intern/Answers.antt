@@ -17,20 +17,20 @@ returns-then-z-sum c =
 
 pub enter-requires : goal.enter-requires
 enter-requires c = (
-      beside_there c.requires c.axis_at-end.ensures c.if-z-sum.false c.word_at-w.ensures,
-      link_there _ c.requires.held
-          c.axis_at-end.ensures c.if-z-sum.false
-          (ends_again (c.find-found.ensures.ends c.if-id-z.false) c.word_at.ensures c.word_at-w.ensures),
-    )
+  beside_there c.requires c.axis_at-end.ensures c.if-z-sum.false c.word_at-w.ensures,
+  link_there _ c.requires.held
+      c.axis_at-end.ensures c.if-z-sum.false
+      (ends_again (c.find-found.ensures.ends c.if-id-z.false) c.word_at.ensures c.word_at-w.ensures),
+)
 
 pub copy_within-requires : goal.copy_within-requires
 copy_within-requires c = record {
-      source = omega (arith, c.requires.word_in);
-      target = omega
-          (arith, c.axis_at-end.ensures, c.if-z-sum.false, c.requires.held.words_long);
-      apart = inr
-          (omega (arith, c.axis_at-end.ensures, c.if-z-sum.false, c.requires.behind, c.requires.counted));
-    }
+  source = omega (arith, c.requires.word_in);
+  target = omega
+      (arith, c.axis_at-end.ensures, c.if-z-sum.false, c.requires.held.words_long);
+  apart = inr
+      (omega (arith, c.axis_at-end.ensures, c.if-z-sum.false, c.requires.behind, c.requires.counted));
+}
 
 pub overflow_add-result : goal.overflow_add-result
 overflow_add-result c = omega (arith, c.requires.held.fit.rows _ c.requires.held.within, c.requires.held.numbers_long)

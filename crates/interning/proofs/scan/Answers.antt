@@ -1,5 +1,5 @@
 -- The loop's invariant: none of the first id axes is w. Assumes nothing.
-use Rattle.std.proofs.Common.{◌-◌, arith}
+use Rattle.std.proofs.Common.{arith}
 use Rattle.layout.specs.Words.{slots_le}
 use Rattle.interning.specs.Find.{id_here, id_next, id_none}
 use Rattle.interning.proofs.scan.Goals as goal
@@ -12,9 +12,9 @@ returns-then-same c = id_here _ _ _ _ _ c.loop-id.invariant.1 (omega arith) c.sa
 
 pub loop-id-preserved : goal.loop-id-preserved
 loop-id-preserved c = (
-      omega arith,
-      id_next _ _ _ _ _ c.loop-id.invariant.1 (omega arith) c.same.ensures c.if-same.false (c.axis.ensures _ (omega arith)),
-    )
+  omega arith,
+  id_next _ _ _ _ _ c.loop-id.invariant.1 (omega arith) c.same.ensures c.if-same.false (c.axis.ensures _ (omega arith)),
+)
 
 pub returns : goal.returns
 returns c = id_none _ _ _ _ (omega arith)

@@ -1,5 +1,5 @@
 -- The loop's invariant: the first k numbers are in both. Assumes nothing.
-use Rattle.std.proofs.Common.{◌≡◌, ◌-◌, length, ap, ◌∙◌, arith, rules}
+use Rattle.std.proofs.Common.{◌≡◌, length, ap, ◌∙◌, arith, rules}
 use Rattle.axes.specs.Pick.{total_to, hash_to, total_more, hash_more}
 use Rattle.interning.proofs.sums_of.Goals as goal
 

@@ -1,7 +1,6 @@
 -- The loop's invariant: no item before i is an even rotation. Assumes nothing.
 use native.Mathlib.Omega.{arith}
 use mathlib.Core.Path.{sym, ◌∙◌}
-use Prim.Native.Nat.{◌-◌}
 use Rattle.item_lists.specs.Count.{none_yet, none_more, some_here, none_all}
 use Rattle.item_lists.proofs.any_even.Goals as goal
 

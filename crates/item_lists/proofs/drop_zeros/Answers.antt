@@ -1,7 +1,6 @@
 -- The loop's invariant: of i items those that stay are there. Assumes nothing.
 use native.Mathlib.Omega.{arith}
 use mathlib.Core.Path.{refl}
-use Prim.Native.Nat.{◌-◌}
 use Rattle.item_lists.specs.Drop.{dropped_none, dropped_reads, dropped_writes, dropped_more, dropped_all}
 use Rattle.item_lists.proofs.drop_zeros.Goals as goal
 

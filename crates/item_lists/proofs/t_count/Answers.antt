@@ -1,6 +1,5 @@
 -- The loop's invariant: k is the T-count of the items before i. Assumes nothing.
 use native.Mathlib.Omega.{arith}
-use Prim.Native.Nat.{◌-◌}
 use Rattle.model.specs.Items.{t_count}
 use Rattle.item_lists.specs.Count.{sum_none, sum_more, sum_all, odd_of, odd_small}
 use Rattle.item_lists.proofs.t_count.Goals as goal

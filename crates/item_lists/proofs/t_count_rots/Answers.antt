@@ -1,7 +1,7 @@
 -- The loop's invariant: k is the T-count of the rotations before i. Assumes nothing.
 use native.Mathlib.Omega.{arith}
 use mathlib.Core.Path.{ap}
-use Prim.Native.Nat.{ℕ, ◌-◌, ◌%◌}
+use Prim.Native.Nat.{ℕ, ◌%◌}
 use Rattle.model.specs.Items.{t_count_rots}
 use Rattle.items.specs.View.{rot_said}
 use Rattle.item_lists.specs.Count.{sum_none, sum_more, sum_all}

@@ -1,6 +1,5 @@
 -- The loop's invariant: i entries are copied. Assumes nothing.
 use native.Mathlib.Omega.{arith}
-use Prim.Native.Nat.{◌-◌}
 use Rattle.items.specs.Copy.{copy_none, copy_reads, copy_writes, copy_more, copy_all}
 use Rattle.items.proofs.copy_items.Goals as goal
 

@@ -1,5 +1,4 @@
 -- The first i are put out. Assumes nothing.
-use Prim.Native.Nat.{◌-◌}
 use Rattle.layering.specs.Segment.{out_start, out_need, out_turn, out_end}
 use native.Mathlib.Omega.{arith}
 use Rattle.layering.proofs.put_out.Goals as goal

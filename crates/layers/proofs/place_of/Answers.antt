@@ -1,5 +1,4 @@
 -- The axis is not before place j. Assumes nothing.
-use Prim.Native.Nat.{◌-◌}
 use Rattle.layers.specs.PlaceOf.{place_start, place_found, place_turn, place_end}
 use native.Mathlib.Omega.{arith}
 use Rattle.layers.proofs.place_of.Goals as goal

@@ -1,6 +1,6 @@
 -- The loop's invariant: n is the count over the first j words of each plane. Assumes nothing.
 use mathlib.Core.Path.{◌≡◌, refl}
-use Prim.Native.Nat.{◌+◌, ◌-◌}
+use Prim.Native.Nat.{◌+◌}
 use lib.Bits.{or_lt}
 use Rattle.bits.specs.Sum.{sum_to}
 use Rattle.pauli.specs.Letter.{weight}

@@ -31,6 +31,6 @@ run-requires c =
 
 pub returns : goal.returns
 returns c = record {
-      replied = run_listed _ _ _ (omega (arith, c.if-output-lt-MOST_BYTES.false))
-          (text_read _ _ _ _ c.read-t.ensures c.in-Job.is) c.run.ensures;
-    }
+  replied = run_listed _ _ _ (omega (arith, c.if-output-lt-MOST_BYTES.false))
+      (text_read _ _ _ _ c.read-t.ensures c.in-Job.is) c.run.ensures;
+}

@@ -1,6 +1,5 @@
 -- The loop's invariant: the first i fields stand in `to`, and with what is left of the line they give the whole. Assumes nothing.
 use mathlib.Core.Path.{refl, ap}
-use Prim.Native.Nat.{◌-◌}
 use lib.ListN.{length-set, length-take, length-drop}
 use native.Mathlib.Omega.{arith}
 use Rattle.listing_fields.specs.Views.{value_of}
@@ -24,13 +23,13 @@ returns-in_default c = fields_bad _ _ _ _ _ c.loop-i.invariant.3 (omega arith) c
 
 pub loop-i-preserved : goal.loop-i-preserved
 loop-i-preserved c = (
-      omega arith,
-      refl,
-      simp length-set c.loop-i.invariant.2,
-      c.loop-i.invariant.3,
-      fields_more _ _ _ _ _ c.loop-i.invariant.3 (omega arith) c.loop-i.invariant.4 _ (omega arith) c.field-v.ensures
-          (ap value_of c.in-Value.is),
-    )
+  omega arith,
+  refl,
+  simp length-set c.loop-i.invariant.2,
+  c.loop-i.invariant.3,
+  fields_more _ _ _ _ _ c.loop-i.invariant.3 (omega arith) c.loop-i.invariant.4 _ (omega arith) c.field-v.ensures
+      (ap value_of c.in-Value.is),
+)
 
 pub returns : goal.returns
 returns c = fields_end _ _ _ _ _ (omega arith) (omega arith) (omega arith) c.loop-i.invariant.4

@@ -1,5 +1,4 @@
 -- A line of four fields, none of them too large. Assumes nothing.
-use borrow.Author.Tests.{not-true, not-false}
 use native.Mathlib.Omega.{arith}
 use Rattle.listing_fields.specs.Fields.{said_yes, said_no, none_bound}
 use Rattle.listing_read.specs.Header.{four, same_taken, not_too_large, header_allowed, header_refused}

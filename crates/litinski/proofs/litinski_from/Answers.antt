@@ -1,5 +1,4 @@
 -- Round by round, the rounds that are left come to the same. Assumes nothing.
-use Prim.Native.Nat.{◌-◌}
 use Rattle.points.specs.Points.{long_then}
 use Rattle.litinski.specs.LayerRounds.{rounds_first, rounds_some, rounds_stop, layered_some, rounds_limit}
 use Rattle.litinski.specs.LayerRounds.{rounds_next, rounds_end}
@@ -20,16 +19,16 @@ shape_of-numbers-then-s-run c = (long_then c.loop-j.invariant.long c.layering_pa
 
 pub returns-then-s-run : goal.returns-then-s-run
 returns-then-s-run c = (
-      long_then c.loop-j.invariant.long c.layering_pass-s.ensures.0,
-      λ p w h. rounds_stop c.loop-j.invariant
-          c.loop-j-test.true c.layering_pass-s.ensures h c.if-s-run.true c.requires.1,
-    )
+  long_then c.loop-j.invariant.long c.layering_pass-s.ensures.0,
+  λ p w h. rounds_stop c.loop-j.invariant
+      c.loop-j-test.true c.layering_pass-s.ensures h c.if-s-run.true c.requires.1,
+)
 
 pub stream_pass-e-requires : goal.stream_pass-e-requires
 stream_pass-e-requires c = (
-      layered_some c.loop-j.invariant c.loop-j-test.true c.layering_pass-s.ensures c.requires.0.at c.requires.1,
-      c.requires.1,
-    )
+  layered_some c.loop-j.invariant c.loop-j-test.true c.layering_pass-s.ensures c.requires.0.at c.requires.1,
+  c.requires.1,
+)
 
 pub shape_of-words-in_default : goal.shape_of-words-in_default
 shape_of-words-in_default c = (long_then (long_then c.loop-j.invariant.long c.layering_pass-s.ensures.0) c.stream_pass-e.ensures.0).words
@@ -39,11 +38,11 @@ shape_of-numbers-in_default c = (long_then (long_then c.loop-j.invariant.long c.
 
 pub returns-in_default : goal.returns-in_default
 returns-in_default c = (
-      long_then (long_then c.loop-j.invariant.long c.layering_pass-s.ensures.0) c.stream_pass-e.ensures.0,
-      λ p w h. rounds_limit c.loop-j.invariant
-          c.loop-j-test.true c.layering_pass-s.ensures c.if-s-run.false
-          c.stream_pass-e.ensures h c.in_default.is,
-    )
+  long_then (long_then c.loop-j.invariant.long c.layering_pass-s.ensures.0) c.stream_pass-e.ensures.0,
+  λ p w h. rounds_limit c.loop-j.invariant
+      c.loop-j-test.true c.layering_pass-s.ensures c.if-s-run.false
+      c.stream_pass-e.ensures h c.in_default.is,
+)
 
 pub overflow_step-j : goal.overflow_step-j
 overflow_step-j c = omega (arith, c.requires.1.rounds, c.loop-j-test.true)

@@ -18,17 +18,17 @@ shape_of-numbers-in_default c = c.stream_pass-e.ensures.0.numbers
 
 pub returns-in_default : goal.returns-in_default
 returns-in_default c = (
-      c.stream_pass-e.ensures.0,
-      λ p w h. litinski_limit c.args.options w c.if-options-eq0.false
-          (c.stream_pass-e.ensures.1 0 p w h) c.in_default.is,
-    )
+  c.stream_pass-e.ensures.0,
+  λ p w h. litinski_limit c.args.options w c.if-options-eq0.false
+      (c.stream_pass-e.ensures.1 0 p w h) c.in_default.is,
+)
 
 pub litinski_from-requires : goal.litinski_from-requires
 litinski_from-requires c = (
-      litinski_some c.args.options _ c.if-options-eq0.false (c.stream_pass-e.ensures.1 0 _ _ c.requires.0.at) _
-          c.in-Next.is,
-      c.requires.1,
-    )
+  litinski_some c.args.options _ c.if-options-eq0.false (c.stream_pass-e.ensures.1 0 _ _ c.requires.0.at) _
+      c.in-Next.is,
+  c.requires.1,
+)
 
 pub shape_of-words : goal.shape_of-words
 shape_of-words c = (long_then c.stream_pass-e.ensures.0 c.litinski_from.ensures.0).words
@@ -38,8 +38,8 @@ shape_of-numbers c = (long_then c.stream_pass-e.ensures.0 c.litinski_from.ensure
 
 pub returns : goal.returns
 returns c = (
-      long_then c.stream_pass-e.ensures.0 c.litinski_from.ensures.0,
-      λ p w h. let a =
-          c.stream_pass-e.ensures.1 0 p w h in litinski_end c.args.options w c.if-options-eq0.false a
-          (c.litinski_from.ensures.1 p _ (a.done _ c.in-Next.is)),
-    )
+  long_then c.stream_pass-e.ensures.0 c.litinski_from.ensures.0,
+  λ p w h. let a =
+      c.stream_pass-e.ensures.1 0 p w h in litinski_end c.args.options w c.if-options-eq0.false a
+      (c.litinski_from.ensures.1 p _ (a.done _ c.in-Next.is)),
+)

@@ -1,5 +1,4 @@
 -- The loop's invariant: what the qubits acted on and the marks below n reach is unchanged. Assumes nothing.
-use Prim.Native.Nat.{◌-◌}
 use Rattle.mentions.specs.Nodes.{node_pre}
 use Rattle.mentions.specs.Down.{down_start, down_step, down_end}
 use native.Mathlib.Omega.{arith}
@@ -14,11 +13,11 @@ mark_from-requires c = node_pre c.requires _ (omega arith) c.loop-n.invariant.1
 
 pub loop-n-preserved : goal.loop-n-preserved
 loop-n-preserved c = (
-      omega arith,
-      search rules,
-      down_step c.requires (omega arith) (omega arith) c.loop-n.invariant.2
-          c.mark_from.ensures,
-    )
+  omega arith,
+  search rules,
+  down_step c.requires (omega arith) (omega arith) c.loop-n.invariant.2
+      c.mark_from.ensures,
+)
 
 pub returns : goal.returns
 returns c = down_end (omega arith) c.loop-n.invariant.2

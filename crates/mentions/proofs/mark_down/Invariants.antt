@@ -1,6 +1,6 @@
 -- The loop's invariant: what the qubits acted on and the marks below n reach is unchanged. Assumes nothing.
 use mathlib.Core.Path.{◌≡◌}
-use Prim.Native.Nat.{◌-◌, ◌≤◌}
+use Prim.Native.Nat.{◌≤◌}
 use lib.ListN.{length}
 use Rattle.mentions.specs.Down.{MarkingDown}
 use Rattle.mentions.proofs.mark_down.Given as goal

@@ -1,5 +1,4 @@
 -- Unmarked, the identity, a letter, a product: what is written in each case. Assumes nothing.
-use Prim.Native.Nat.{◌-◌}
 use Rattle.mentions.specs.Down.{from_unmarked, from_identity, from_letter, from_product}
 use Rattle.mentions.specs.Nodes.{qubit_inside, children_inside}
 use native.Mathlib.Omega.{arith}

@@ -1,5 +1,4 @@
 -- The loop's invariant: the nodes of the first i operations are marked. Assumes nothing.
-use Prim.Native.Nat.{◌-◌}
 use Rattle.mentions.specs.Operations.{operation_there, node_inside, marked_none, marked_next, marked_all}
 use native.Mathlib.Omega.{arith}
 use borrow.Author.Rules.{rules}
@@ -19,12 +18,12 @@ write-requires c =
 
 pub loop-i-preserved : goal.loop-i-preserved
 loop-i-preserved c = (
-      omega arith,
-      search rules,
-      marked_next c.requires (omega arith) c.loop-i.invariant.2 c.operation_at-node.result
-          c.operation_at-node.ensures
-          c.write.ensures,
-    )
+  omega arith,
+  search rules,
+  marked_next c.requires (omega arith) c.loop-i.invariant.2 c.operation_at-node.result
+      c.operation_at-node.ensures
+      c.write.ensures,
+)
 
 pub returns : goal.returns
 returns c = marked_all (omega arith) c.loop-i.invariant.2

@@ -1,5 +1,4 @@
 -- The identity, a letter, a product: what is read in each case. Assumes nothing.
-use Prim.Native.Nat.{◌-◌}
 use Rattle.mentions.specs.Nodes.{qubit_inside, children_inside}
 use Rattle.mentions.specs.Relevant.{relevant_identity, relevant_letter, relevant_first, relevant_second}
 use native.Mathlib.Omega.{arith}

@@ -1,7 +1,6 @@
 -- The loop's invariant: row RELEVANT tells of the first n nodes. Assumes nothing.
 use mathlib.Core.Path.{◌≡◌, refl}
 use mathlib.Core.Bool.{Bool, true, false}
-use Prim.Native.Nat.{◌-◌}
 use mir.Val.{bool_byte}
 use Rattle.model.specs.Lists.{if◌then◌else◌}
 use Rattle.mentions.specs.Nodes.{node_pre}
@@ -32,12 +31,12 @@ write-requires c =
 
 pub loop-n-preserved : goal.loop-n-preserved
 loop-n-preserved c = (
-      omega arith,
-      search rules,
-      relevant_next c.requires (omega arith) c.loop-n.invariant.2 c.relevant-r.result
-          c.relevant-r.ensures
-          _ (byte-bit _) c.write.ensures,
-    )
+  omega arith,
+  search rules,
+  relevant_next c.requires (omega arith) c.loop-n.invariant.2 c.relevant-r.result
+      c.relevant-r.ensures
+      _ (byte-bit _) c.write.ensures,
+)
 
 pub returns : goal.returns
 returns c = relevant_all (omega arith) c.loop-n.invariant.2

@@ -21,14 +21,14 @@ shape_of-numbers-then-any_even c = c.stream_pass.ensures.0.numbers
 
 pub returns-then-any_even : goal.returns-then-any_even
 returns-then-any_even c = (
-      c.stream_pass.ensures.0,
-      λ i p w h. closing_even c.args.options h c.if-options-eq0.false c.if-not-options.false
-          c.any_even.ensures c.if-any_even.true (c.stream_pass.ensures.1 i p w h),
-    )
+  c.stream_pass.ensures.0,
+  λ i p w h. closing_even c.args.options h c.if-options-eq0.false c.if-not-options.false
+      c.any_even.ensures c.if-any_even.true (c.stream_pass.ensures.1 i p w h),
+)
 
 pub returns : goal.returns
 returns c = (
-      long_same _ _,
-      λ i p w h. closing_none c.args.options h c.if-options-eq0.false c.if-not-options.false c.any_even.ensures
-          c.if-any_even.false,
-    )
+  long_same _ _,
+  λ i p w h. closing_none c.args.options h c.if-options-eq0.false c.if-not-options.false c.any_even.ensures
+      c.if-any_even.false,
+)

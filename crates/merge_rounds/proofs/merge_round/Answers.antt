@@ -15,17 +15,17 @@ shape_of-numbers-in_default c = c.stream_pass-e.ensures.0.numbers
 
 pub returns-in_default : goal.returns-in_default
 returns-in_default c = (
-      c.stream_pass-e.ensures.0,
-      λ i p w h. merged_limit c.args.options i w (c.stream_pass-e.ensures.1 i p w h)
-          c.in_default.is,
-    )
+  c.stream_pass-e.ensures.0,
+  λ i p w h. merged_limit c.args.options i w (c.stream_pass-e.ensures.1 i p w h)
+      c.in_default.is,
+)
 
 pub exchange_pass-requires : goal.exchange_pass-requires
 exchange_pass-requires c = (
-      merged_some c.args.options 510 _ (c.stream_pass-e.ensures.1 510 _ _ c.requires.0.at) _ c.in-Next.is
-          (omega arith),
-      c.requires.1,
-    )
+  merged_some c.args.options 510 _ (c.stream_pass-e.ensures.1 510 _ _ c.requires.0.at) _ c.in-Next.is
+      (omega arith),
+  c.requires.1,
+)
 
 pub shape_of-words : goal.shape_of-words
 shape_of-words c = (long_then c.stream_pass-e.ensures.0 c.exchange_pass.ensures.0).words
@@ -35,8 +35,8 @@ shape_of-numbers c = (long_then c.stream_pass-e.ensures.0 c.exchange_pass.ensure
 
 pub returns : goal.returns
 returns c = (
-      long_then c.stream_pass-e.ensures.0 c.exchange_pass.ensures.0,
-      λ i p w h. merged_done
-          c.args.options i w
-          (c.exchange_pass.ensures.1 _ _ _ ((c.stream_pass-e.ensures.1 i p w h).done _ c.in-Next.is)),
-    )
+  long_then c.stream_pass-e.ensures.0 c.exchange_pass.ensures.0,
+  λ i p w h. merged_done
+      c.args.options i w
+      (c.exchange_pass.ensures.1 _ _ _ ((c.stream_pass-e.ensures.1 i p w h).done _ c.in-Next.is)),
+)

@@ -11,10 +11,10 @@ shape_of-numbers-in_default c = c.rounds_from-e.ensures.0.numbers
 
 pub returns-in_default : goal.returns-in_default
 returns-in_default c = (
-      c.rounds_from-e.ensures.0,
-      λ p w h. merging_limit c.args.options w (c.rounds_from-e.ensures.1 p w h)
-          c.in_default.is,
-    )
+  c.rounds_from-e.ensures.0,
+  λ p w h. merging_limit c.args.options w (c.rounds_from-e.ensures.1 p w h)
+      c.in_default.is,
+)
 
 pub closing_stream-requires : goal.closing_stream-requires
 closing_stream-requires c = (merging_some c.args.options _ (c.rounds_from-e.ensures.1 _ _ c.requires.0.at) _ c.in-Next.is, c.requires.1)
@@ -27,8 +27,8 @@ shape_of-numbers c = (long_then c.rounds_from-e.ensures.0 c.closing_stream.ensur
 
 pub returns : goal.returns
 returns c = (
-      long_then c.rounds_from-e.ensures.0 c.closing_stream.ensures.0,
-      λ p w h. merging_end
-          c.args.options w
-          (c.closing_stream.ensures.1 510 p _ ((c.rounds_from-e.ensures.1 p w h).done _ c.in-Next.is)),
-    )
+  long_then c.rounds_from-e.ensures.0 c.closing_stream.ensures.0,
+  λ p w h. merging_end
+      c.args.options w
+      (c.closing_stream.ensures.1 510 p _ ((c.rounds_from-e.ensures.1 p w h).done _ c.in-Next.is)),
+)

@@ -1,5 +1,4 @@
 -- Round by round, the rounds that are left come to the same. Assumes nothing.
-use Prim.Native.Nat.{◌-◌}
 use Rattle.points.specs.Points.{long_then}
 use Rattle.merge_rounds.specs.AllRounds.{rounds_first, rounds_some, rounds_limit, rounds_count, rounds_stop}
 use Rattle.merge_rounds.specs.AllRounds.{rounds_next, rounds_end}
@@ -23,10 +22,10 @@ shape_of-numbers-in_default c = (long_then c.loop-j.invariant.long c.merge_round
 
 pub returns-in_default : goal.returns-in_default
 returns-in_default c = (
-      long_then c.loop-j.invariant.long c.merge_round-e.ensures.0,
-      λ p w h. rounds_limit c.loop-j.invariant
-          c.loop-j-test.true c.merge_round-e.ensures h c.in_default.is,
-    )
+  long_then c.loop-j.invariant.long c.merge_round-e.ensures.0,
+  λ p w h. rounds_limit c.loop-j.invariant
+      c.loop-j-test.true c.merge_round-e.ensures h c.in_default.is,
+)
 
 pub t_count-left-requires : goal.t_count-left-requires
 t_count-left-requires c = rounds_count c.loop-j.invariant c.loop-j-test.true c.merge_round-e.ensures c.requires.0.at _ c.in-Next.is
@@ -39,11 +38,11 @@ shape_of-numbers-then-s-run c = (long_then c.loop-j.invariant.long c.merge_round
 
 pub returns-then-s-run : goal.returns-then-s-run
 returns-then-s-run c = (
-      long_then c.loop-j.invariant.long c.merge_round-e.ensures.0,
-      λ p w h. rounds_stop c.loop-j.invariant
-          c.loop-j-test.true c.merge_round-e.ensures h _ c.in-Next.is
-          _ c.t_count-left.ensures c.requires.1 c.if-s-run.true,
-    )
+  long_then c.loop-j.invariant.long c.merge_round-e.ensures.0,
+  λ p w h. rounds_stop c.loop-j.invariant
+      c.loop-j-test.true c.merge_round-e.ensures h _ c.in-Next.is
+      _ c.t_count-left.ensures c.requires.1 c.if-s-run.true,
+)
 
 pub overflow_step-j : goal.overflow_step-j
 overflow_step-j c = omega (arith, c.requires.1.rounds, c.loop-j-test.true)

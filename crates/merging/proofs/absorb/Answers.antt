@@ -14,7 +14,7 @@ overflow_add-s c = omega (arith, c.requires.it.few)
 
 pub returns : goal.returns
 returns c = (
-      f_next c.absorb-t.ensures c.requires.it c.in-Next.is,
-      λ m n p h. absorbed_next c.absorb-t.ensures h
-          c.in-Next.is,
-    )
+  f_next c.absorb-t.ensures c.requires.it c.in-Next.is,
+  λ m n p h. absorbed_next c.absorb-t.ensures h
+      c.in-Next.is,
+)

@@ -13,7 +13,7 @@ leave_zero-requires c = merged_zero c.absorb-t.ensures c.requires
 
 pub returns : goal.returns
 returns c = (
-      merged_left c.absorb-t.ensures c.in-Next.is c.leave_zero.ensures,
-      merged_next c.absorb-t.ensures
-          c.in-Next.is c.leave_zero.ensures,
-    )
+  merged_left c.absorb-t.ensures c.in-Next.is c.leave_zero.ensures,
+  merged_next c.absorb-t.ensures
+      c.in-Next.is c.leave_zero.ensures,
+)

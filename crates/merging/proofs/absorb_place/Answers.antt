@@ -10,17 +10,17 @@ source_of-source-requires c = record { absorption = c.requires.absorption; items
 
 pub absorb_merged-requires : goal.absorb_merged-requires
 absorb_merged-requires c = record {
-      absorption = c.requires.absorption;
-      items = c.requires.items;
-      pass = c.requires.pass;
-      it = with_source c.requires.it
-          c.source_of-source.ensures.0 (c.source_of-source.ensures.1 _ _ _ (waiting_source c.requires.it));
-    }
+  absorption = c.requires.absorption;
+  items = c.requires.items;
+  pass = c.requires.pass;
+  it = with_source c.requires.it
+      c.source_of-source.ensures.0 (c.source_of-source.ensures.1 _ _ _ (waiting_source c.requires.it));
+}
 
 pub returns : goal.returns
 returns c = (
-      behind_left c.source_of-source.ensures.0 c.absorb_merged.ensures.0,
-      λ m n p h.
-          c.absorb_merged.ensures.1 m n p
-          (with_source h c.source_of-source.ensures.0 (c.source_of-source.ensures.1 m n p (waiting_source h))),
-    )
+  behind_left c.source_of-source.ensures.0 c.absorb_merged.ensures.0,
+  λ m n p h.
+      c.absorb_merged.ensures.1 m n p
+      (with_source h c.source_of-source.ensures.0 (c.source_of-source.ensures.1 m n p (waiting_source h))),
+)

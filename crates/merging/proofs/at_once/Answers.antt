@@ -1,6 +1,5 @@
 -- Even rotations are absorbed at once, and the angle is even. Assumes nothing.
 use mathlib.Core.Bool.{true, false}
-use borrow.Author.Tests.{not-true, not-false}
 use Rattle.merging.specs.Steps.{test_and}
 use Rattle.merging.proofs.at_once.Goals as goal
 

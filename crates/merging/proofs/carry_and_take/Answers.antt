@@ -11,10 +11,10 @@ carry-c-requires c = carrying_some c.requires
 
 pub returns-in_default : goal.returns-in_default
 returns-in_default c = (
-      carry_left c.requires.it.carry c.carry-c.ensures,
-      λ g n p rules h. carried_limit c.carry-c.ensures h
-          (with_limit _ c.in_default.is) g _ _ _,
-    )
+  carry_left c.requires.it.carry c.carry-c.ensures,
+  λ g n p rules h. carried_limit c.carry-c.ensures h
+      (with_limit _ c.in_default.is) g _ _ _,
+)
 
 pub take-requires : goal.take-requires
 take-requires c =

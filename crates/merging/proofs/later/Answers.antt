@@ -1,6 +1,5 @@
 -- Even rotations wait, and the angle is even. Assumes nothing.
 use mathlib.Core.Bool.{true, false}
-use borrow.Author.Tests.{not-true, not-false}
 use Rattle.merging.specs.Steps.{test_and, is_later}
 use Rattle.merging.proofs.later.Goals as goal
 

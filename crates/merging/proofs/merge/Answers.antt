@@ -15,27 +15,27 @@ leave_zero-requires c = merging_zero c.requires.it
 
 pub returns-then-sum-eq0 : goal.returns-then-sum-eq0
 returns-then-sum-eq0 c = (
-      zero_left_s c.leave_zero.ensures,
-      λ m n p h. merge_to_zero h c.angle_at-old.ensures c.if-sum-eq0.true
-          c.leave_zero.ensures,
-    )
+  zero_left_s c.leave_zero.ensures,
+  λ m n p h. merge_to_zero h c.angle_at-old.ensures c.if-sum-eq0.true
+      c.leave_zero.ensures,
+)
 
 pub absorb_merged-requires : goal.absorb_merged-requires
 absorb_merged-requires c = record {
-      absorption = c.requires.absorption;
-      items = c.requires.items;
-      pass = count_merge c.requires.pass;
-      it = merged_there
-          c.requires.it c.angle_at-old.ensures c.if-sum-eq0.false c.at_once.ensures c.if-at_once.true;
-    }
+  absorption = c.requires.absorption;
+  items = c.requires.items;
+  pass = count_merge c.requires.pass;
+  it = merged_there
+      c.requires.it c.angle_at-old.ensures c.if-sum-eq0.false c.at_once.ensures c.if-at_once.true;
+}
 
 pub returns-then-at_once : goal.returns-then-at_once
 returns-then-at_once c = (
-      absorbed_left c.absorb_merged.ensures.0,
-      λ m n p h. merge_at_once h c.angle_at-old.ensures c.if-sum-eq0.false
-          c.at_once.ensures c.if-at_once.true (c.absorb_merged.ensures.1 m n (count_merge p)
-          (merged_there h c.angle_at-old.ensures c.if-sum-eq0.false c.at_once.ensures c.if-at_once.true)),
-    )
+  absorbed_left c.absorb_merged.ensures.0,
+  λ m n p h. merge_at_once h c.angle_at-old.ensures c.if-sum-eq0.false
+      c.at_once.ensures c.if-at_once.true (c.absorb_merged.ensures.1 m n (count_merge p)
+      (merged_there h c.angle_at-old.ensures c.if-sum-eq0.false c.at_once.ensures c.if-at_once.true)),
+)
 
 pub overflow_cast-id : goal.overflow_cast-id
 overflow_cast-id c = omega (arith, merging_id c.requires.it)
@@ -53,8 +53,8 @@ shape_of-numbers c = c.name_place.ensures.only.long ∙ c.put_rotation.ensures.o
 
 pub returns : goal.returns
 returns c = (
-      merge_left c.put_rotation.ensures c.name_place.ensures,
-      λ m n p h. merge_sets h
-          c.angle_at-old.ensures c.if-sum-eq0.false c.at_once.ensures c.put_rotation.ensures c.if-at_once.false
-          c.name_place.ensures,
-    )
+  merge_left c.put_rotation.ensures c.name_place.ensures,
+  λ m n p h. merge_sets h
+      c.angle_at-old.ensures c.if-sum-eq0.false c.at_once.ensures c.put_rotation.ensures c.if-at_once.false
+      c.name_place.ensures,
+)

@@ -1,5 +1,4 @@
 -- It is not to wait, or it comes into the list. Assumes nothing.
-use borrow.Author.Tests.{not-true, not-false}
 use Rattle.merging.specs.Steps.{place_quiet, insert_pre, place_named}
 use native.Mathlib.Omega.{arith}
 use Rattle.merging.proofs.name_place.Goals as goal

@@ -1,5 +1,4 @@
 -- Nothing is named, the place is not reached, or it is. Assumes nothing.
-use borrow.Author.Tests.{not-true, not-false}
 use Rattle.merging.specs.Taking.{place_nowhere, place_far, place_reached}
 use Rattle.merging.proofs.place_for.Goals as goal
 

@@ -1,5 +1,4 @@
 -- A number that is no axis, or whose image is another word, tells nothing. Assumes nothing.
-use borrow.Author.Tests.{not-false}
 use Rattle.layout.specs.Words.{words_none}
 use Rattle.stream_states.specs.States.{held_of}
 use Rattle.merging.specs.LookedUp.{none_told, carries_at, told}
@@ -16,7 +15,7 @@ returns-then-not-carries c = (c.carries.ensures.0, λ m n p h b e. none_told b e
 
 pub returns : goal.returns
 returns c = (
-      c.carries.ensures.0,
-      λ m n p h. told h c.if-st-a.false
-          (c.carries.ensures.1 (held_of p) (carries_at h c.if-st-a.false)) c.if-not-carries.false,
-    )
+  c.carries.ensures.0,
+  λ m n p h. told h c.if-st-a.false
+      (c.carries.ensures.1 (held_of p) (carries_at h c.if-st-a.false)) c.if-not-carries.false,
+)

@@ -8,20 +8,20 @@ use Rattle.merging.proofs.take.Goals as goal
 
 pub absorb-requires : goal.absorb-requires
 absorb-requires c = record {
-      absorption = c.requires.absorption;
-      items = c.requires.items;
-      pass = c.requires.pass;
-      it = taking_absorbs c.requires.it
-          c.at_once.ensures c.if-at_once.true;
-    }
+  absorption = c.requires.absorption;
+  items = c.requires.items;
+  pass = c.requires.pass;
+  it = taking_absorbs c.requires.it
+      c.at_once.ensures c.if-at_once.true;
+}
 
 pub returns-then-at_once : goal.returns-then-at_once
 returns-then-at_once c = (
-      absorbed_left c.absorb.ensures.0,
-      λ g n p rules h. answer_is 0 1 (omega arith) (omega arith)
-          (c.absorb.ensures.1 _ n p (taking_absorbs h c.at_once.ensures c.if-at_once.true))
-          (take_once rules h c.at_once.ensures c.if-at_once.true),
-    )
+  absorbed_left c.absorb.ensures.0,
+  λ g n p rules h. answer_is 0 1 (omega arith) (omega arith)
+      (c.absorb.ensures.1 _ n p (taking_absorbs h c.at_once.ensures c.if-at_once.true))
+      (take_once rules h c.at_once.ensures c.if-at_once.true),
+)
 
 pub place_for-place-requires : goal.place_for-place-requires
 place_for-place-requires c = taking_place c.requires.it
@@ -31,24 +31,24 @@ put_out-requires c = taking_put c.requires.it
 
 pub returns-then-place-eq0 : goal.returns-then-place-eq0
 returns-then-place-eq0 c = (
-      out_left c.put_out.ensures,
-      λ g n p rules h. put_next h.mode h.at.holds c.put_out.ensures
-          (take_out rules h c.at_once.ensures c.if-at_once.false c.place_for-place.ensures c.if-place-eq0.true),
-    )
+  out_left c.put_out.ensures,
+  λ g n p rules h. put_next h.mode h.at.holds c.put_out.ensures
+      (take_out rules h c.at_once.ensures c.if-at_once.false c.place_for-place.ensures c.if-place-eq0.true),
+)
 
 pub merge-requires : goal.merge-requires
 merge-requires c = record {
-      absorption = c.requires.absorption;
-      items = c.requires.items;
-      pass = c.requires.pass;
-      it = taking_there c.requires.it
-          c.place_for-place.ensures c.if-place-eq0.false;
-    }
+  absorption = c.requires.absorption;
+  items = c.requires.items;
+  pass = c.requires.pass;
+  it = taking_there c.requires.it
+      c.place_for-place.ensures c.if-place-eq0.false;
+}
 
 pub returns : goal.returns
 returns c = (
-      c.merge.ensures.0,
-      λ g n p rules h. answer_is 1 1 (omega arith) (omega arith)
-          (c.merge.ensures.1 _ n p (taking_there h c.place_for-place.ensures c.if-place-eq0.false))
-          (take_there rules h c.at_once.ensures c.if-at_once.false c.place_for-place.ensures c.if-place-eq0.false),
-    )
+  c.merge.ensures.0,
+  λ g n p rules h. answer_is 1 1 (omega arith) (omega arith)
+      (c.merge.ensures.1 _ n p (taking_there h c.place_for-place.ensures c.if-place-eq0.false))
+      (take_there rules h c.at_once.ensures c.if-at_once.false c.place_for-place.ensures c.if-place-eq0.false),
+)

@@ -10,10 +10,10 @@ clear_chains-requires c = omega (arith, c.requires.granted.index_long, c.require
 
 pub pack_nodes-requires : goal.pack_nodes-requires
 pack_nodes-requires c = (
-      record
-          { granted = granted_same c.requires.granted refl c.clear_chains.ensures.numbers.long; given = c.requires.given },
-      c.clear_chains.ensures.none,
-    )
+  record
+      { granted = granted_same c.requires.granted refl c.clear_chains.ensures.numbers.long; given = c.requires.given },
+  c.clear_chains.ensures.none,
+)
 
 pub returns : goal.returns
 returns c = packed_cleared c.clear_chains.ensures c.pack_nodes.ensures

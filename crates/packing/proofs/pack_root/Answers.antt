@@ -26,32 +26,32 @@ intern-i-requires c = intern_pre c.requires.it c.held-v.ensures c.sizes_of-sizes
 
 pub returns-in_default : goal.returns-in_default
 returns-in_default c = (
-      rest_limit c.requires.it c.held-v.ensures c.sizes_of-sizes.ensures c.intern-i.ensures c.in_default.is,
-      λ p h. root_limit h c.held-v.ensures c.sizes_of-sizes.ensures c.intern-i.ensures c.if-total-eq1.false
-          c.in_default.is,
-    )
+  rest_limit c.requires.it c.held-v.ensures c.sizes_of-sizes.ensures c.intern-i.ensures c.in_default.is,
+  λ p h. root_limit h c.held-v.ensures c.sizes_of-sizes.ensures c.intern-i.ensures c.if-total-eq1.false
+      c.in_default.is,
+)
 
 pub overflow_cast-a : goal.overflow_cast-a
 overflow_cast-a c = omega (arith, id_small c.requires.it c.held-v.ensures c.sizes_of-sizes.ensures c.intern-i.ensures c.in-Axis.is)
 
 pub write-requires : goal.write-requires
 write-requires c = (
-      stored_long c.requires.it c.held-v.ensures c.sizes_of-sizes.ensures c.intern-i.ensures c.in-Axis.is,
-      omega arith,
-      reference_in c.requires.it,
-    )
+  stored_long c.requires.it c.held-v.ensures c.sizes_of-sizes.ensures c.intern-i.ensures c.in-Axis.is,
+  omega arith,
+  reference_in c.requires.it,
+)
 
 pub write-requires-2 : goal.write-requires-2
 write-requires-2 c = (
-      omega (
-        arith,
-        stored_long c.requires.it c.held-v.ensures c.sizes_of-sizes.ensures c.intern-i.ensures
-            c.in-Axis.is,
-        c.write.ensures.long,
-      ),
-      omega arith,
-      reference_in c.requires.it,
-    )
+  omega (
+    arith,
+    stored_long c.requires.it c.held-v.ensures c.sizes_of-sizes.ensures c.intern-i.ensures
+        c.in-Axis.is,
+    c.write.ensures.long,
+  ),
+  omega arith,
+  reference_in c.requires.it,
+)
 
 pub release-free-requires : goal.release-free-requires
 release-free-requires c =
@@ -60,9 +60,9 @@ release-free-requires c =
 
 pub returns : goal.returns
 returns c = (
-      root_rest c.requires.it c.held-v.ensures c.sizes_of-sizes.ensures c.intern-i.ensures c.in-Axis.is
-          c.write.ensures c.write-2.ensures c.release-free.ensures,
-      λ p h. root_next h c.held-v.ensures
-          c.sizes_of-sizes.ensures c.intern-i.ensures c.in-Axis.is c.write.ensures c.write-2.ensures
-          c.release-free.ensures c.if-total-eq1.false,
-    )
+  root_rest c.requires.it c.held-v.ensures c.sizes_of-sizes.ensures c.intern-i.ensures c.in-Axis.is
+      c.write.ensures c.write-2.ensures c.release-free.ensures,
+  λ p h. root_next h c.held-v.ensures
+      c.sizes_of-sizes.ensures c.intern-i.ensures c.in-Axis.is c.write.ensures c.write-2.ensures
+      c.release-free.ensures c.if-total-eq1.false,
+)

@@ -20,19 +20,19 @@ keep-requires c =
 
 pub returns-in-Next : goal.returns-in-Next
 returns-in-Next c = (
-      rest_next c.requires.it c.evaluate-phase.ensures c.release_children-free.ensures
-          (sym c.take_slot-step.ensures ∙ c.in-Next.is) c.keep.ensures,
-      λ p h. place_next h c.evaluate-phase.ensures
-          c.release_children-free.ensures (sym c.take_slot-step.ensures ∙ c.in-Next.is) c.keep.ensures,
-    )
+  rest_next c.requires.it c.evaluate-phase.ensures c.release_children-free.ensures
+      (sym c.take_slot-step.ensures ∙ c.in-Next.is) c.keep.ensures,
+  λ p h. place_next h c.evaluate-phase.ensures
+      c.release_children-free.ensures (sym c.take_slot-step.ensures ∙ c.in-Next.is) c.keep.ensures,
+)
 
 pub returns-in-NonHermitianAxis : goal.returns-in-NonHermitianAxis
 returns-in-NonHermitianAxis c = absurd (taken_even _ _ _ (sym c.take_slot-step.ensures ∙ c.in-NonHermitianAxis.is))
 
 pub returns-in-ExpansionLimit : goal.returns-in-ExpansionLimit
 returns-in-ExpansionLimit c = (
-      rest_limit c.requires.it c.evaluate-phase.ensures c.release_children-free.ensures,
-      λ p h. place_limit h
-          c.evaluate-phase.ensures c.release_children-free.ensures
-          (sym c.take_slot-step.ensures ∙ c.in-ExpansionLimit.is),
-    )
+  rest_limit c.requires.it c.evaluate-phase.ensures c.release_children-free.ensures,
+  λ p h. place_limit h
+      c.evaluate-phase.ensures c.release_children-free.ensures
+      (sym c.take_slot-step.ensures ∙ c.in-ExpansionLimit.is),
+)

@@ -1,6 +1,6 @@
 -- The loop's invariant: the parity of acc is that of the crossed bits so far. Assumes nothing.
 use mathlib.Core.Path.{sym, ap, ◌∙◌}
-use Prim.Native.Nat.{ℕ, ◌-◌, ◌%◌}
+use Prim.Native.Nat.{ℕ, ◌%◌}
 use lib.Dec.{eqb}
 use Rattle.bits.specs.Popcount.{popcount_ones}
 use Rattle.pauli.specs.Word.{anticommutes}

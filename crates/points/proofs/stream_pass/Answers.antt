@@ -5,9 +5,9 @@ use Rattle.points.proofs.stream_pass.Goals as goal
 
 pub stream-t-requires : goal.stream-t-requires
 stream-t-requires c = (
-      stream_pre c.args.options c.args.merging c.args.run c.absorption_of-absorption.ensures c.requires.0,
-      stream_room c.requires.0 c.counters_of.ensures,
-    )
+  stream_pre c.args.options c.args.merging c.args.run c.absorption_of-absorption.ensures c.requires.0,
+  stream_room c.requires.0 c.counters_of.ensures,
+)
 
 pub shape_of-words-in_default : goal.shape_of-words-in_default
 shape_of-words-in_default c = (stream_long c.stream-t.ensures.left).words
@@ -17,10 +17,10 @@ shape_of-numbers-in_default c = (stream_long c.stream-t.ensures.left).numbers
 
 pub returns-in_default : goal.returns-in_default
 returns-in_default c = (
-      stream_long c.stream-t.ensures.left,
-      stream_limit c.args.options c.args.merging c.args.run
-          c.absorption_of-absorption.ensures c.counters_of.ensures c.stream-t.ensures c.in_default.is,
-    )
+  stream_long c.stream-t.ensures.left,
+  stream_limit c.args.options c.args.merging c.args.run
+      c.absorption_of-absorption.ensures c.counters_of.ensures c.stream-t.ensures c.in_default.is,
+)
 
 pub shape_of-words : goal.shape_of-words
 shape_of-words c = (stream_long c.stream-t.ensures.left).words
@@ -30,8 +30,8 @@ shape_of-numbers c = (stream_long c.stream-t.ensures.left).numbers
 
 pub returns : goal.returns
 returns c = (
-      stream_long c.stream-t.ensures.left,
-      stream_done c.args.options c.args.merging c.args.run
-          c.absorption_of-absorption.ensures c.counters_of.ensures c.stream-t.ensures c.in-Next.is
-          c.with_counts.ensures,
-    )
+  stream_long c.stream-t.ensures.left,
+  stream_done c.args.options c.args.merging c.args.run
+      c.absorption_of-absorption.ensures c.counters_of.ensures c.stream-t.ensures c.in-Next.is
+      c.with_counts.ensures,
+)

@@ -1,6 +1,5 @@
 -- The phase is read first; the loop's invariant: the first j numbers of the product stand in out. Assumes nothing.
 use mathlib.Core.Path.{refl}
-use Prim.Native.Nat.{◌-◌}
 use native.Mathlib.Omega.{arith}
 use Rattle.product.proofs.Laying.{laid_none, word_more, word_all}
 use Rattle.product.proofs.product.Goals as goal
@@ -13,6 +12,6 @@ loop-j-preserved c = (c.loop-j.invariant.0, word_more _ _ _ _ _ _ c.requires c.l
 
 pub returns : goal.returns
 returns c = record {
-      word = word_all _ _ _ _ _ _ c.requires c.loop-j.invariant.1 (omega arith);
-      phased = c.product_phase-e.ensures;
-    }
+  word = word_all _ _ _ _ _ _ c.requires c.loop-j.invariant.1 (omega arith);
+  phased = c.product_phase-e.ensures;
+}

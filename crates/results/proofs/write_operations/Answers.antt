@@ -1,6 +1,5 @@
 -- The loop's invariant: the first i items' records are laid. Assumes nothing.
 use native.Mathlib.Omega.{arith}
-use Prim.Native.Nat.{◌-◌}
 use Rattle.results.specs.Operations.{laid_none, laid_needs, laid_more, laid_all}
 use Rattle.results.proofs.write_operations.Goals as goal
 

@@ -1,6 +1,5 @@
 -- The loop's invariant: the first i rows are laid. Assumes nothing.
 use native.Mathlib.Omega.{arith}
-use Prim.Native.Nat.{◌-◌}
 use Rattle.results.specs.Rows.{row_none, row_needs, row_more, row_all}
 use Rattle.results.proofs.write_rows.Goals as goal
 

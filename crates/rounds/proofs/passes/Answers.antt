@@ -10,10 +10,10 @@ shape_of-numbers-in-Merge c = c.merge_rounds.ensures.0.numbers
 
 pub returns-in-Merge : goal.returns-in-Merge
 returns-in-Merge c = (
-      c.merge_rounds.ensures.0,
-      λ p w h. passes_merge c.args.options w c.in-Merge.is
-          (c.merge_rounds.ensures.1 p w h),
-    )
+  c.merge_rounds.ensures.0,
+  λ p w h. passes_merge c.args.options w c.in-Merge.is
+      (c.merge_rounds.ensures.1 p w h),
+)
 
 pub shape_of-words-in-Litinski : goal.shape_of-words-in-Litinski
 shape_of-words-in-Litinski c = c.litinski_rounds.ensures.0.words
@@ -23,7 +23,7 @@ shape_of-numbers-in-Litinski c = c.litinski_rounds.ensures.0.numbers
 
 pub returns-in-Litinski : goal.returns-in-Litinski
 returns-in-Litinski c = (
-      c.litinski_rounds.ensures.0,
-      λ p w h. passes_litinski c.args.options w c.in-Litinski.is
-          (c.litinski_rounds.ensures.1 p w h),
-    )
+  c.litinski_rounds.ensures.0,
+  λ p w h. passes_litinski c.args.options w c.in-Litinski.is
+      (c.litinski_rounds.ensures.1 p w h),
+)

@@ -1,5 +1,4 @@
 -- Those before item i are rotations. Assumes nothing.
-use Prim.Native.Nat.{◌-◌}
 use Rattle.segments.specs.End.{end_start, end_here, end_turn, end_none}
 use native.Mathlib.Omega.{arith}
 use Rattle.segments.proofs.segment_end.Goals as goal

@@ -1,5 +1,4 @@
 -- The loop's invariant: the items of the first i operations are there. Assumes nothing.
-use Prim.Native.Nat.{◌-◌}
 use Rattle.start.specs.Build.{built_none, build_reads, build_writes, built_more, built_all}
 use native.Mathlib.Omega.{arith}
 use Rattle.start.proofs.build_items.Goals as goal

@@ -9,29 +9,29 @@ stream_all-t-requires c = record { rules = c.requires.rules; st = c.requires.wor
 
 pub returns-in_default : goal.returns-in_default
 returns-in_default c = (
-      left_stream c.stream_all-t.ensures.0,
-      λ prog w g h. pass_limit h c.stream_all-t.ensures.0
-          (c.stream_all-t.ensures.1 g w.store (pass_items h)) c.in_default.is,
-    )
+  left_stream c.stream_all-t.ensures.0,
+  λ prog w g h. pass_limit h c.stream_all-t.ensures.0
+      (c.stream_all-t.ensures.1 g w.store (pass_items h)) c.in_default.is,
+)
 
 pub carry_frame-f-requires : goal.carry_frame-f-requires
 carry_frame-f-requires c = record {
-      absorption = _;
-      items = _;
-      pass = _;
-      it = pass_rows_lem c.requires.it c.stream_all-t.ensures.0
-          (c.stream_all-t.ensures.1 _ _ (pass_items c.requires.it)) c.in-Next.is;
-    }
+  absorption = _;
+  items = _;
+  pass = _;
+  it = pass_rows_lem c.requires.it c.stream_all-t.ensures.0
+      (c.stream_all-t.ensures.1 _ _ (pass_items c.requires.it)) c.in-Next.is;
+}
 
 pub returns-in_default-f : goal.returns-in_default-f
 returns-in_default-f c = (
-      left_rows_lem c.stream_all-t.ensures.0 c.carry_frame-f.ensures.0,
-      λ prog w g h.
-          let call = c.stream_all-t.ensures.1 g w.store (pass_items h) in
-          pass_rows_limit h c.stream_all-t.ensures.0 call c.in-Next.is c.carry_frame-f.ensures.0
-          (c.carry_frame-f.ensures.1 _ _ _ (pass_rows_lem h c.stream_all-t.ensures.0 call c.in-Next.is))
-          c.in_default-f.is,
-    )
+  left_rows_lem c.stream_all-t.ensures.0 c.carry_frame-f.ensures.0,
+  λ prog w g h.
+      let call = c.stream_all-t.ensures.1 g w.store (pass_items h) in
+      pass_rows_limit h c.stream_all-t.ensures.0 call c.in-Next.is c.carry_frame-f.ensures.0
+      (c.carry_frame-f.ensures.1 _ _ _ (pass_rows_lem h c.stream_all-t.ensures.0 call c.in-Next.is))
+      c.in_default-f.is,
+)
 
 pub drop_zeros-kept-requires : goal.drop_zeros-kept-requires
 drop_zeros-kept-requires c =
@@ -42,10 +42,10 @@ drop_zeros-kept-requires c =
 
 pub returns : goal.returns
 returns c = (
-      left_pass c.stream_all-t.ensures.0 c.carry_frame-f.ensures.0 c.drop_zeros-kept.ensures,
-      λ prog w g h.
-          let call = c.stream_all-t.ensures.1 g w.store (pass_items h) in
-          pass_end h c.stream_all-t.ensures.0 call c.in-Next.is c.carry_frame-f.ensures.0
-          (c.carry_frame-f.ensures.1 _ _ _ (pass_rows_lem h c.stream_all-t.ensures.0 call c.in-Next.is))
-          c.in-Next-f.is c.drop_zeros-kept.ensures,
-    )
+  left_pass c.stream_all-t.ensures.0 c.carry_frame-f.ensures.0 c.drop_zeros-kept.ensures,
+  λ prog w g h.
+      let call = c.stream_all-t.ensures.1 g w.store (pass_items h) in
+      pass_end h c.stream_all-t.ensures.0 call c.in-Next.is c.carry_frame-f.ensures.0
+      (c.carry_frame-f.ensures.1 _ _ _ (pass_rows_lem h c.stream_all-t.ensures.0 call c.in-Next.is))
+      c.in-Next-f.is c.drop_zeros-kept.ensures,
+)

@@ -8,7 +8,7 @@ stream_items-requires c = items_some c.begin-first.ensures c.requires
 
 pub returns : goal.returns
 returns c = (
-      left_then c.begin-first.ensures.left c.stream_items.ensures.0,
-      λ g st h. ended c.begin-first.ensures h
-          (c.stream_items.ensures.1 g _ (stream_there c.begin-first.ensures h)),
-    )
+  left_then c.begin-first.ensures.left c.stream_items.ensures.0,
+  λ g st h. ended c.begin-first.ensures h
+      (c.stream_items.ensures.1 g _ (stream_there c.begin-first.ensures h)),
+)

@@ -11,10 +11,10 @@ carry-c-requires c = record { state = held_of c.requires.pass; it = carry_pre c.
 
 pub returns-in_default : goal.returns-in_default
 returns-in_default c = (
-      carry_left c.requires.it.carry c.carry-c.ensures,
-      λ n p h. blocked_limit c.carry-c.ensures h
-          (with_limit _ c.in_default.is),
-    )
+  carry_left c.requires.it.carry c.carry-c.ensures,
+  λ n p h. blocked_limit c.carry-c.ensures h
+      (with_limit _ c.in_default.is),
+)
 
 pub absorb_waiting-requires : goal.absorb_waiting-requires
 absorb_waiting-requires c =

@@ -1,5 +1,4 @@
 -- Places i and later have not had their turn. Assumes nothing.
-use Prim.Native.Nat.{◌-◌}
 use Rattle.stream_items.specs.WaitingList.{scan_first, scan_turn, scan_left, scan_limit, scan_next, scan_end}
 use native.Mathlib.Omega.{arith}
 use Rattle.stream_items.proofs.absorb_listed.Goals as goal
@@ -18,10 +17,10 @@ shape_of-numbers-in-ExpansionLimit c = (scan_left c.loop-i.invariant c.loop-i-te
 
 pub returns-in-ExpansionLimit : goal.returns-in-ExpansionLimit
 returns-in-ExpansionLimit c = (
-      scan_left c.loop-i.invariant c.loop-i-test.true c.waiting_turn-t.ensures,
-      scan_limit c.loop-i.invariant
-          c.loop-i-test.true c.waiting_turn-t.ensures c.in-ExpansionLimit.is,
-    )
+  scan_left c.loop-i.invariant c.loop-i-test.true c.waiting_turn-t.ensures,
+  scan_limit c.loop-i.invariant
+      c.loop-i-test.true c.waiting_turn-t.ensures c.in-ExpansionLimit.is,
+)
 
 pub overflow_step-i : goal.overflow_step-i
 overflow_step-i c = omega (arith, c.loop-i-test.true, c.ranges)

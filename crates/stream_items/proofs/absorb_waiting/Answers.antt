@@ -8,7 +8,7 @@ absorb_listed-requires c = record { absorption = off; items = c.requires.items; 
 
 pub returns : goal.returns
 returns c = (
-      c.absorb_listed.ensures.0,
-      λ n p h. listed_as c.with_waiting-first.ensures h
-          (c.absorb_listed.ensures.1 n p (listed c.with_waiting-first.ensures h)),
-    )
+  c.absorb_listed.ensures.0,
+  λ n p h. listed_as c.with_waiting-first.ensures h
+      (c.absorb_listed.ensures.1 n p (listed c.with_waiting-first.ensures h)),
+)

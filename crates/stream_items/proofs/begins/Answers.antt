@@ -1,5 +1,4 @@
 -- They are absorbed at once, and x is the named barrier. Assumes nothing.
-use borrow.Author.Tests.{not-true, not-false}
 use Rattle.stream_items.specs.Behind.{not_begins, begins_named}
 use Rattle.stream_items.proofs.begins.Goals as goal
 

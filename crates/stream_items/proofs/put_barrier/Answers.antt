@@ -11,10 +11,10 @@ carry-c-requires c = record { state = held_of c.requires.pass; it = carry_pre c.
 
 pub returns-in_default : goal.returns-in_default
 returns-in_default c = (
-      carry_left c.requires.it.carry c.carry-c.ensures,
-      λ m n p h. barrier_limit c.carry-c.ensures h
-          (with_limit _ c.in_default.is),
-    )
+  carry_left c.requires.it.carry c.carry-c.ensures,
+  λ m n p h. barrier_limit c.carry-c.ensures h
+      (with_limit _ c.in_default.is),
+)
 
 pub overflow_cast-moved : goal.overflow_cast-moved
 overflow_cast-moved c = omega (arith, barrier_small c.carry-c.ensures c.requires.it (with_next _ c.in-Next.is c.with_image-to.ensures))
@@ -35,7 +35,7 @@ overflow_add-s-2 c = omega (arith, barrier_small c.carry-c.ensures c.requires.it
 
 pub returns : goal.returns
 returns c = (
-      barrier_left c.carry-c.ensures c.requires.it (with_next _ c.in-Next.is c.with_image-to.ensures) c.put_item.ensures,
-      λ m n p h. barrier_next
-          c.carry-c.ensures h (with_next _ c.in-Next.is c.with_image-to.ensures) c.put_item.ensures,
-    )
+  barrier_left c.carry-c.ensures c.requires.it (with_next _ c.in-Next.is c.with_image-to.ensures) c.put_item.ensures,
+  λ m n p h. barrier_next
+      c.carry-c.ensures h (with_next _ c.in-Next.is c.with_image-to.ensures) c.put_item.ensures,
+)

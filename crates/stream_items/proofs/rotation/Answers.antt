@@ -6,35 +6,35 @@ use Rattle.stream_items.proofs.rotation.Goals as goal
 
 pub unblock-t-requires : goal.unblock-t-requires
 unblock-t-requires c = record {
-      absorption = c.requires.absorption;
-      items = c.requires.items;
-      pass = c.requires.pass;
-      it = unblock_there c.requires.it;
-    }
+  absorption = c.requires.absorption;
+  items = c.requires.items;
+  pass = c.requires.pass;
+  it = unblock_there c.requires.it;
+}
 
 pub returns-in_default : goal.returns-in_default
 returns-in_default c = (
-      c.unblock-t.ensures.0,
-      λ g n p rules h. rotation_limit c.args.shape c.args.rules g c.args.st c.args.a c.args.angle p
-          (c.unblock-t.ensures.1 _ n p (unblock_there h)) c.in_default.is,
-    )
+  c.unblock-t.ensures.0,
+  λ g n p rules h. rotation_limit c.args.shape c.args.rules g c.args.st c.args.a c.args.angle p
+      (c.unblock-t.ensures.1 _ n p (unblock_there h)) c.in_default.is,
+)
 
 pub carry_and_take-requires : goal.carry_and_take-requires
 carry_and_take-requires c = record {
-      absorption = c.requires.absorption;
-      items = c.requires.items;
-      pass = _;
-      it =
-          unblocked_carrying c.requires.it c.unblock-t.ensures.0
-          (c.unblock-t.ensures.1 _ _ _ (unblock_there c.requires.it)) c.in-Next.is;
-    }
+  absorption = c.requires.absorption;
+  items = c.requires.items;
+  pass = _;
+  it =
+      unblocked_carrying c.requires.it c.unblock-t.ensures.0
+      (c.unblock-t.ensures.1 _ _ _ (unblock_there c.requires.it)) c.in-Next.is;
+}
 
 pub returns : goal.returns
 returns c = (
-      left_then c.unblock-t.ensures.0 c.carry_and_take.ensures.0,
-      λ g n p rules h.
-          let first = c.unblock-t.ensures.1 _ n p (unblock_there h) in
-          rotation_next c.args.shape c.args.rules g c.args.st c.args.a c.args.angle p first
-          c.in-Next.is
-          (c.carry_and_take.ensures.1 g n _ rules (unblocked_carrying h c.unblock-t.ensures.0 first c.in-Next.is)),
-    )
+  left_then c.unblock-t.ensures.0 c.carry_and_take.ensures.0,
+  λ g n p rules h.
+      let first = c.unblock-t.ensures.1 _ n p (unblock_there h) in
+      rotation_next c.args.shape c.args.rules g c.args.st c.args.a c.args.angle p first
+      c.in-Next.is
+      (c.carry_and_take.ensures.1 g n _ rules (unblocked_carrying h c.unblock-t.ensures.0 first c.in-Next.is)),
+)

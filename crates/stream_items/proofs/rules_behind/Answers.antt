@@ -1,5 +1,4 @@
 -- Only what becomes of even rotations may change. Assumes nothing.
-use borrow.Author.Tests.{not-true, not-false}
 use Rattle.stream_items.specs.Behind.{rules_kept, rules_begun}
 use Rattle.stream_items.proofs.rules_behind.Goals as goal
 

@@ -1,5 +1,4 @@
 -- By whether rotations begin to wait. Assumes nothing.
-use borrow.Author.Tests.{not-true, not-false}
 use Rattle.stream_items.specs.Behind.{state_kept, state_begun}
 use Rattle.stream_items.proofs.state_behind.Goals as goal
 

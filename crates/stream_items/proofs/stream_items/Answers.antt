@@ -1,5 +1,4 @@
 -- Items i and later are still to be read, by the present rules. Assumes nothing.
-use Prim.Native.Nat.{◌-◌}
 use Rattle.stream_items.specs.Loop.{reading_first, reading_entry, reading_turn, reading_left, reading_limit, reading_next}
 use Rattle.stream_items.specs.Loop.{reading_all, reading_end, reading_ended}
 use Rattle.stream_states.specs.States.{left_then}
@@ -23,10 +22,10 @@ shape_of-numbers-in_default c = (reading_left c.loop-i.invariant c.loop-i-test.t
 
 pub returns-in_default : goal.returns-in_default
 returns-in_default c = (
-      reading_left c.loop-i.invariant c.loop-i-test.true c.item_at-x.ensures c.stream_item-t.ensures,
-      reading_limit
-          c.loop-i.invariant c.loop-i-test.true c.item_at-x.ensures c.stream_item-t.ensures c.in_default.is,
-    )
+  reading_left c.loop-i.invariant c.loop-i-test.true c.item_at-x.ensures c.stream_item-t.ensures,
+  reading_limit
+      c.loop-i.invariant c.loop-i-test.true c.item_at-x.ensures c.stream_item-t.ensures c.in_default.is,
+)
 
 pub overflow_step-i : goal.overflow_step-i
 overflow_step-i c = omega (arith, c.loop-i-test.true, c.ranges)
@@ -50,7 +49,7 @@ shape_of-numbers c = (left_then c.loop-i.invariant.left c.absorb_all.ensures.0).
 
 pub returns : goal.returns
 returns c = (
-      left_then c.loop-i.invariant.left c.absorb_all.ensures.0,
-      λ g p h. reading_ended c.loop-i.invariant
-          c.loop-i-test.false h (c.absorb_all.ensures.1 _ _ _ (reading_end c.loop-i.invariant c.loop-i-test.false h)),
-    )
+  left_then c.loop-i.invariant.left c.absorb_all.ensures.0,
+  λ g p h. reading_ended c.loop-i.invariant
+      c.loop-i-test.false h (c.absorb_all.ensures.1 _ _ _ (reading_end c.loop-i.invariant c.loop-i-test.false h)),
+)

@@ -1,6 +1,5 @@
 -- None blocks where absorption is off, or at once. Assumes nothing.
 use mathlib.Core.Path.{sym, ◌∙◌}
-use borrow.Author.Tests.{not-true, not-false}
 use Rattle.stream_states.specs.States.{left_none}
 use Rattle.stream_items.specs.Items.{unblock_none, blocking_there, unblock_as}
 use Rattle.stream_items.proofs.unblock.Goals as goal
@@ -10,17 +9,17 @@ returns-then-not-is_lazy c = (left_none _ _ _, λ m n p h. unblock_none h (sym c
 
 pub absorb_blocking-requires : goal.absorb_blocking-requires
 absorb_blocking-requires c = record {
-      absorption = c.requires.absorption;
-      items = c.requires.items;
-      pass = c.requires.pass;
-      it = blocking_there c.requires.it
-          (sym c.is_lazy.ensures ∙ c.if-not-is_lazy.false);
-    }
+  absorption = c.requires.absorption;
+  items = c.requires.items;
+  pass = c.requires.pass;
+  it = blocking_there c.requires.it
+      (sym c.is_lazy.ensures ∙ c.if-not-is_lazy.false);
+}
 
 pub returns : goal.returns
 returns c = (
-      c.absorb_blocking.ensures.0,
-      λ m n p h.
-          let waits = sym c.is_lazy.ensures ∙ c.if-not-is_lazy.false in
-          unblock_as h waits (c.absorb_blocking.ensures.1 n p (blocking_there h waits)),
-    )
+  c.absorb_blocking.ensures.0,
+  λ m n p h.
+      let waits = sym c.is_lazy.ensures ∙ c.if-not-is_lazy.false in
+      unblock_as h waits (c.absorb_blocking.ensures.1 n p (blocking_there h waits)),
+)

@@ -1,5 +1,4 @@
 -- Three cases: it does not wait, it is left to wait, it is absorbed. Assumes nothing.
-use borrow.Author.Tests.{not-true, not-false}
 use Rattle.model.specs.declared.Absorption.TheVariants.{Off as off}
 use Rattle.stream_states.specs.States.{left_none}
 use Rattle.merging.specs.Steps.{absorbed_left}
@@ -16,10 +15,10 @@ item_at-x-requires c = turn_entry c.requires.it c.read-j.ensures
 
 pub returns-then-not-waits : goal.returns-then-not-waits
 returns-then-not-waits c = (
-      left_none _ _ _,
-      λ n p h. turned_over h c.read-j.ensures c.item_at-x.ensures c.waits.ensures
-          c.if-not-waits.true,
-    )
+  left_none _ _ _,
+  λ n p h. turned_over h c.read-j.ensures c.item_at-x.ensures c.waits.ensures
+      c.if-not-waits.true,
+)
 
 pub picks-requires : goal.picks-requires
 picks-requires c =
@@ -37,26 +36,26 @@ overflow_add-st c = omega (arith, c.requires.it.kept, c.requires.it.index, c.req
 
 pub returns-then-not-picks : goal.returns-then-not-picks
 returns-then-not-picks c = (
-      left_kept c.requires.it c.read-j.ensures c.item_at-x.ensures c.waits.ensures c.if-not-waits.false
-          c.sizes_of-z.ensures c.write.ensures,
-      λ n p h. turned_left h c.read-j.ensures c.item_at-x.ensures
-          c.waits.ensures c.if-not-waits.false c.sizes_of-z.ensures c.picks.ensures
-          c.if-not-picks.true c.write.ensures c.with_waiting.ensures,
-    )
+  left_kept c.requires.it c.read-j.ensures c.item_at-x.ensures c.waits.ensures c.if-not-waits.false
+      c.sizes_of-z.ensures c.write.ensures,
+  λ n p h. turned_left h c.read-j.ensures c.item_at-x.ensures
+      c.waits.ensures c.if-not-waits.false c.sizes_of-z.ensures c.picks.ensures
+      c.if-not-picks.true c.write.ensures c.with_waiting.ensures,
+)
 
 pub absorb_place-requires : goal.absorb_place-requires
 absorb_place-requires c = record {
-      absorption = off;
-      items = c.requires.items;
-      pass = c.requires.pass;
-      it = turn_merged c.requires.it c.read-j.ensures
-          c.item_at-x.ensures c.waits.ensures c.if-not-waits.false;
-    }
+  absorption = off;
+  items = c.requires.items;
+  pass = c.requires.pass;
+  it = turn_merged c.requires.it c.read-j.ensures
+      c.item_at-x.ensures c.waits.ensures c.if-not-waits.false;
+}
 
 pub returns : goal.returns
 returns c = (
-      absorbed_left c.absorb_place.ensures.0,
-      λ n p h. turned_absorbed h c.read-j.ensures c.item_at-x.ensures
-          c.waits.ensures c.if-not-waits.false c.sizes_of-z.ensures c.picks.ensures c.if-not-picks.false c.absorb_place.ensures.0 (c.absorb_place.ensures.1 off n p
-          (turn_merged h c.read-j.ensures c.item_at-x.ensures c.waits.ensures c.if-not-waits.false)),
-    )
+  absorbed_left c.absorb_place.ensures.0,
+  λ n p h. turned_absorbed h c.read-j.ensures c.item_at-x.ensures
+      c.waits.ensures c.if-not-waits.false c.sizes_of-z.ensures c.picks.ensures c.if-not-picks.false c.absorb_place.ensures.0 (c.absorb_place.ensures.1 off n p
+      (turn_merged h c.read-j.ensures c.item_at-x.ensures c.waits.ensures c.if-not-waits.false)),
+)

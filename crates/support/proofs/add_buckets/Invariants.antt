@@ -1,6 +1,6 @@
 -- The loop's invariant: what is gathered, and the buckets of the bits that are left, are the result. Assumes nothing.
 use mathlib.Core.Path.{◌≡◌}
-use Prim.Native.Nat.{◌^◌, ◌-◌, ◌<◌}
+use Prim.Native.Nat.{◌^◌, ◌<◌}
 use lib.Bits.{bit_or}
 use Rattle.pauli.specs.SupportLaws.{buckets_of}
 use Rattle.support.proofs.add_buckets.Given as goal

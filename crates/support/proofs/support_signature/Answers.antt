@@ -1,6 +1,5 @@
 -- The loop's invariant: the buckets of the first j words of each plane. What is read out of a slice has 64 bits. Assumes nothing.
 use mathlib.Core.Path.{◌≡◌, refl, sym}
-use Prim.Native.Nat.{◌-◌}
 use Rattle.pauli.specs.Word.{IsWord}
 use Rattle.pauli.specs.Support.{signature, signature_to}
 use Rattle.pauli.specs.SupportLaws.{signature_one}

@@ -1,6 +1,5 @@
 -- The loop's invariant: what is left decides. Assumes nothing.
 use mathlib.Core.Path.{refl, sym, ◌∙◌}
-use Prim.Native.Nat.{◌-◌}
 use Rattle.trial.specs.Sharing.{axis_is, axis_here, axis_later, axis_none}
 use Rattle.trial.specs.Plain.{run_entry}
 use Rattle.trial.proofs.has_axis.Goals as goal

@@ -1,5 +1,4 @@
 -- Both tests of the rotation. Assumes nothing.
-use borrow.Author.Tests.{not-true, not-false}
 use Rattle.trial.specs.Sharing.{partner_none, partner_axis}
 use Rattle.trial.proofs.is_partnered.Goals as goal
 

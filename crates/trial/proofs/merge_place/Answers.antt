@@ -21,11 +21,11 @@ meet-m-requires c =
 
 pub loop-j-preserved : goal.loop-j-preserved
 loop-j-preserved c = (
-      omega arith,
-      c.loop-j.invariant.1
-          ∙ found_further _ _ _ _ _ _ c.loop-j-test.true _ _ c.item_at-y.ensures c.item_at-x.ensures
-          c.meet-m.ensures c.in-Further.is,
-    )
+  omega arith,
+  c.loop-j.invariant.1
+      ∙ found_further _ _ _ _ _ _ c.loop-j-test.true _ _ c.item_at-y.ensures c.item_at-x.ensures
+      c.meet-m.ensures c.in-Further.is,
+)
 
 pub returns-in-Here : goal.returns-in-Here
 returns-in-Here c =

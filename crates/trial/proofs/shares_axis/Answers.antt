@@ -1,6 +1,5 @@
 -- The loop's invariant: what is left decides. Assumes nothing.
 use mathlib.Core.Path.{sym, ◌∙◌}
-use Prim.Native.Nat.{◌-◌}
 use native.Mathlib.Omega.{arith}
 use Rattle.trial.specs.Sharing.{shared_is, shared_here, shared_later, shared_none}
 use Rattle.trial.proofs.shares_axis.Goals as goal

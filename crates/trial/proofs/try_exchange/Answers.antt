@@ -1,6 +1,5 @@
 -- Where the groups may be exchanged, they are laid out, and the trial decides. Assumes nothing.
 use mathlib.Core.Path.{◌∙◌}
-use borrow.Author.Tests.{not-true, not-false}
 use Rattle.trial.specs.Laying.{exchange_order, exchange_not, order_improves, exchange_tried}
 use Rattle.trial.proofs.try_exchange.Goals as goal
 

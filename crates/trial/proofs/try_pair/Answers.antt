@@ -1,6 +1,5 @@
 -- The exchange that is tried first, or the other. Assumes nothing.
 use mathlib.Core.Path.{◌∙◌}
-use borrow.Author.Tests.{not-true, not-false}
 use Rattle.trial.specs.Laying.{runs_pre, exchange_pre, pair_kept, pair_none, pair_one, pair_other}
 use Rattle.trial.proofs.try_pair.Goals as goal
 

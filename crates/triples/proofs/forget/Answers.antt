@@ -1,6 +1,5 @@
 -- The loop's invariant: nothing is kept for the places before i. Assumes nothing.
 use mathlib.Core.Path.{◌∙◌}
-use Prim.Native.Nat.{◌-◌}
 use Rattle.triples.specs.Forgotten.{forgotten_none, forgotten_long, forgotten_more, forgotten_all}
 use native.Mathlib.Omega.{arith}
 use Rattle.triples.proofs.forget.Goals as goal
@@ -13,12 +12,12 @@ write-requires c = (forgotten_long c.requires c.loop-i.invariant.3, omega arith,
 
 pub loop-i-preserved : goal.loop-i-preserved
 loop-i-preserved c = (
-      omega arith,
-      omega arith,
-      c.write.ensures.long ∙ c.loop-i.invariant.2,
-      forgotten_more c.requires c.loop-i.invariant.3
-          c.loop-i-test.true c.write.ensures,
-    )
+  omega arith,
+  omega arith,
+  c.write.ensures.long ∙ c.loop-i.invariant.2,
+  forgotten_more c.requires c.loop-i.invariant.3
+      c.loop-i-test.true c.write.ensures,
+)
 
 pub shape_of-numbers : goal.shape_of-numbers
 shape_of-numbers c = c.loop-i.invariant.2

@@ -13,9 +13,9 @@ shape_of-numbers-then-m-eq0 c = c.loop-e.invariant.1
 
 pub returns-then-m-eq0 : goal.returns-then-m-eq0
 returns-then-m-eq0 c = record {
-      searched = search_none c.loop-e.invariant.2 (c.loop-e.invariant.3 ∙ ends_spent c.args.z _ _ _ _ _ _ _ c.if-m-eq0.true);
-      kept = c.loop-e.invariant.4;
-    }
+  searched = search_none c.loop-e.invariant.2 (c.loop-e.invariant.3 ∙ ends_spent c.args.z _ _ _ _ _ _ _ c.if-m-eq0.true);
+  kept = c.loop-e.invariant.4;
+}
 
 pub try_pair-t-requires : goal.try_pair-t-requires
 try_pair-t-requires c =
@@ -27,26 +27,26 @@ shape_of-numbers-in-Better c = c.try_pair-t.ensures.tried.only.long ∙ c.loop-e
 
 pub returns-in-Better : goal.returns-in-Better
 returns-in-Better c = record {
-      searched = ends_found _ _ _ _ _ _ _ _ c.loop-e-test.true c.if-m-eq0.false c.requires.1 c.requires.2 c.loop-e.invariant.0
-          c.loop-e.invariant.3 c.loop-e.invariant.2 c.try_pair-t.ensures.tried c.in-Better.is;
-      kept = c.try_pair-t.ensures.kept _ _ c.loop-e.invariant.4;
-    }
+  searched = ends_found _ _ _ _ _ _ _ _ c.loop-e-test.true c.if-m-eq0.false c.requires.1 c.requires.2 c.loop-e.invariant.0
+      c.loop-e.invariant.3 c.loop-e.invariant.2 c.try_pair-t.ensures.tried c.in-Better.is;
+  kept = c.try_pair-t.ensures.kept _ _ c.loop-e.invariant.4;
+}
 
 pub loop-e-preserved : goal.loop-e-preserved
 loop-e-preserved c = (
-      omega arith,
-      c.try_pair-t.ensures.tried.only.long ∙ c.loop-e.invariant.1,
-      only_then c.loop-e.invariant.2 c.try_pair-t.ensures.tried.only,
-      c.loop-e.invariant.3 ∙ ends_next _ _ _ _ _ _ _ _ c.loop-e-test.true c.if-m-eq0.false c.loop-e.invariant.2
-          c.try_pair-t.ensures.tried c.in-Nothing.is,
-      c.try_pair-t.ensures.kept _ _ c.loop-e.invariant.4,
-    )
+  omega arith,
+  c.try_pair-t.ensures.tried.only.long ∙ c.loop-e.invariant.1,
+  only_then c.loop-e.invariant.2 c.try_pair-t.ensures.tried.only,
+  c.loop-e.invariant.3 ∙ ends_next _ _ _ _ _ _ _ _ c.loop-e-test.true c.if-m-eq0.false c.loop-e.invariant.2
+      c.try_pair-t.ensures.tried c.in-Nothing.is,
+  c.try_pair-t.ensures.kept _ _ c.loop-e.invariant.4,
+)
 
 pub shape_of-numbers : goal.shape_of-numbers
 shape_of-numbers c = c.loop-e.invariant.1
 
 pub returns : goal.returns
 returns c = record {
-      searched = search_none c.loop-e.invariant.2 (c.loop-e.invariant.3 ∙ ends_done c.args.z _ _ _ _ _ _ _ c.loop-e-test.false);
-      kept = c.loop-e.invariant.4;
-    }
+  searched = search_none c.loop-e.invariant.2 (c.loop-e.invariant.3 ∙ ends_done c.args.z _ _ _ _ _ _ _ c.loop-e-test.false);
+  kept = c.loop-e.invariant.4;
+}

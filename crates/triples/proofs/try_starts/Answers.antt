@@ -1,6 +1,5 @@
 -- The loop's invariant: the starts from s on are left, and m pairs. Assumes nothing.
 use mathlib.Core.Path.{sym, ap, ◌∙◌}
-use Prim.Native.Nat.{◌-◌}
 use native.Mathlib.Omega.{arith}
 use Rattle.layout.specs.Only.{only_none, only_then}
 use Rattle.triples.specs.Pairs.{starts_of, runs_kept, search_none, search_begins, starts_done, starts_spent, starts_next}
@@ -32,15 +31,15 @@ overflow_sub-r c = c.requires.0.third_order
 
 pub loop-s-preserved : goal.loop-s-preserved
 loop-s-preserved c = (
-      omega arith,
-      c.try_ends-t.ensures.searched.only.long ∙ c.loop-s.invariant.1,
-      only_then c.loop-s.invariant.2 c.try_ends-t.ensures.searched.only,
-      c.loop-s.invariant.3
-          ∙ starts_next _ _ _ _ _ _ _ c.loop-s-test.true c.requires.0.third_order c.loop-s.invariant.2
-          c.try_ends-t.ensures.searched c.in-Nothing.is
-          ∙ ap (starts_of c.args.z _ _ _ _ _) (sym c.less-m.ensures),
-      c.try_ends-t.ensures.kept,
-    )
+  omega arith,
+  c.try_ends-t.ensures.searched.only.long ∙ c.loop-s.invariant.1,
+  only_then c.loop-s.invariant.2 c.try_ends-t.ensures.searched.only,
+  c.loop-s.invariant.3
+      ∙ starts_next _ _ _ _ _ _ _ c.loop-s-test.true c.requires.0.third_order c.loop-s.invariant.2
+      c.try_ends-t.ensures.searched c.in-Nothing.is
+      ∙ ap (starts_of c.args.z _ _ _ _ _) (sym c.less-m.ensures),
+  c.try_ends-t.ensures.kept,
+)
 
 pub shape_of-numbers : goal.shape_of-numbers
 shape_of-numbers c = c.loop-s.invariant.1

@@ -10,11 +10,11 @@ forget-requires c = runs_forget c.requires.0
 
 pub try_starts-requires : goal.try_starts-requires
 try_starts-requires c = (
-      runs_kept c.requires.0 (kept_only c.forget.ensures.only),
-      c.requires.1,
-      forgotten_right c.requires.0
-          c.forget.ensures,
-    )
+  runs_kept c.requires.0 (kept_only c.forget.ensures.only),
+  c.requires.1,
+  forgotten_right c.requires.0
+      c.forget.ensures,
+)
 
 pub shape_of-numbers : goal.shape_of-numbers
 shape_of-numbers c = c.try_starts.ensures.only.long ∙ c.forget.ensures.only.long

@@ -8,10 +8,10 @@ loop-i-init c = moving_first _ _ _ _ c.requires.1
 
 pub copy_up-requires : goal.copy_up-requires
 copy_up-requires c = (
-      moving_long c.requires.0 c.requires.2 c.loop-i.invariant,
-      omega
-          (arith, c.loop-i-test.true, c.loop-i.invariant.high, c.requires.2),
-    )
+  moving_long c.requires.0 c.requires.2 c.loop-i.invariant,
+  omega
+      (arith, c.loop-i-test.true, c.loop-i.invariant.high, c.requires.2),
+)
 
 pub loop-i-smaller : goal.loop-i-smaller
 loop-i-smaller c = omega (arith, c.loop-i-test.true)

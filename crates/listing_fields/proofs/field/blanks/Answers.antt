@@ -1,6 +1,5 @@
 -- The loop's invariant: the bytes before i are blanks. Assumes nothing.
 use mathlib.Core.Path.{ap, ◌∙◌}
-use Prim.Native.Nat.{◌-◌}
 use Rattle.model.specs.Listing.{unpadded}
 use native.Mathlib.Omega.{arith}
 use Rattle.listing_fields.specs.Field.{past_none, blank_more, blank_none, blank_end}

@@ -1,6 +1,5 @@
 -- The loop's invariant: what is left from byte i on, with the number so far, gives the whole; i digits are below 10 ^ i. Assumes nothing.
 use mathlib.Core.Path.{refl, sym, ap, ◌∙◌}
-use Prim.Native.Nat.{◌-◌}
 use Rattle.model.specs.Listing.{digits_from}
 use native.Mathlib.Omega.{arith}
 use Rattle.listing_fields.specs.Field.{past_none, digits_more, digits_bad, digits_end, digits_below}

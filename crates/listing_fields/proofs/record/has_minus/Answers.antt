@@ -1,6 +1,5 @@
 -- The loop's invariant: what is left from field i on gives the whole answer. Assumes nothing.
 use mathlib.Core.Path.{refl, sym, ap, ◌∙◌}
-use Prim.Native.Nat.{◌-◌}
 use lib.Dec.{eqb}
 use Rattle.model.specs.Lists.{any_of}
 use Rattle.model.specs.Program.{minus_one}

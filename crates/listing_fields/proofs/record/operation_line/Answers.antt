@@ -1,7 +1,6 @@
 -- Its fields; none of the first four is -1; then outcome and target. Assumes nothing.
 use mathlib.Core.Path.{sym}
 use lib.Seq.{length-take-le}
-use borrow.Author.Tests.{not-true, not-false}
 use Rattle.model.specs.Listing.{operation_line}
 use native.Mathlib.Omega.{arith}
 use Rattle.listing_fields.specs.Fields.{said_yes, said_no, none_bound}

@@ -12,10 +12,10 @@ shape_of-d-then-left-eq0 c = simp length-set (omega arith)
 
 pub returns-then-left-eq0 : goal.returns-then-left-eq0
 returns-then-left-eq0 c = record {
-      from = omega arith;
-      long = simp length-set c.loop-i.invariant.1;
-      digits = digits_last _ _ _ (omega arith) (omega arith) c.digit.ensures c.loop-i.invariant.2 c.if-left-eq0.true;
-    }
+  from = omega arith;
+  long = simp length-set c.loop-i.invariant.1;
+  digits = digits_last _ _ _ (omega arith) (omega arith) c.digit.ensures c.loop-i.invariant.2 c.if-left-eq0.true;
+}
 
 pub loop-i-preserved : goal.loop-i-preserved
 loop-i-preserved c = (

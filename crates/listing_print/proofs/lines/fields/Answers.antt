@@ -1,6 +1,5 @@
 -- The loop's invariant: the columns of the first i fields are printed. Assumes nothing.
 use mathlib.Core.Path.{refl}
-use Prim.Native.Nat.{◌-◌}
 use lib.ListN.{get_or}
 use Rattle.listing_print.specs.Printed.{printed_long, joined_first, joined_room, joined_turn, joined_end}
 use Rattle.listing_columns.specs.Columns.{column_length}

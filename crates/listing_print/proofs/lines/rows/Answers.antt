@@ -1,5 +1,4 @@
 -- The loop's invariant: the lines of the first i records are printed. Assumes nothing.
-use Prim.Native.Nat.{◌-◌}
 use Rattle.listing_print.specs.Printed.{room_as, printed_as, printed_long}
 use Rattle.listing_print.specs.Printed.{joined_first, joined_room, joined_turn, joined_end}
 use Rattle.listing_print.specs.Texts.{record_cut, record_long, rows_joined}
@@ -11,17 +10,17 @@ loop-i-init c = (omega arith, joined_first _ _ _ _ (room_as _ (rows_joined _ _) 
 
 pub row-next-requires : goal.row-next-requires
 row-next-requires c = (
-      record_long 4 c.args.count c.args.s.now c.loop-i.i (omega (arith, c.requires.0)) c.loop-i-test.true,
-      room_as _ (record_cut (λ r. r) 4 c.args.s.now c.loop-i.i)
-          (joined_room _ _ c.loop-i.invariant.1 _ (room_as _ (rows_joined _ _) c.requires.1) c.loop-i-test.true),
-    )
+  record_long 4 c.args.count c.args.s.now c.loop-i.i (omega (arith, c.requires.0)) c.loop-i-test.true,
+  room_as _ (record_cut (λ r. r) 4 c.args.s.now c.loop-i.i)
+      (joined_room _ _ c.loop-i.invariant.1 _ (room_as _ (rows_joined _ _) c.requires.1) c.loop-i-test.true),
+)
 
 pub loop-i-preserved : goal.loop-i-preserved
 loop-i-preserved c = (
-      omega arith,
-      joined_turn _ _ c.loop-i.invariant.1
-          (printed_as (record_cut (λ r. r) 4 c.args.s.now c.loop-i.i) c.row-next.ensures),
-    )
+  omega arith,
+  joined_turn _ _ c.loop-i.invariant.1
+      (printed_as (record_cut (λ r. r) 4 c.args.s.now c.loop-i.i) c.row-next.ensures),
+)
 
 pub shape_of-out : goal.shape_of-out
 shape_of-out c = printed_long c.loop-i.invariant.1

@@ -1,5 +1,4 @@
 -- The loop's invariant: no newline stands from `at` to e. Assumes nothing.
-use Prim.Native.Nat.{◌-◌}
 use native.Mathlib.Omega.{arith}
 use Rattle.listing_read.specs.LineEnd.{cut_first, cut_more, cut_here, cut_end}
 use Rattle.listing_read.proofs.lines.line_end.Goals as goal
@@ -13,7 +12,6 @@ returns-then-text-e-eq10 c = record {
   within = omega arith;
   cuts =
       cut_here _ _ _ _ (omega arith) c.if-text-e-eq10.true c.loop-e.invariant.2;
-
 }
 
 pub loop-e-preserved : goal.loop-e-preserved

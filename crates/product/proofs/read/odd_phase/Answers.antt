@@ -1,6 +1,5 @@
 -- Words that commute are told as such; else the whole phase is read. Assumes nothing.
 use mathlib.Core.Path.{sym, ◌∙◌}
-use borrow.Author.Tests.{not-true, not-false}
 use Rattle.product.proofs.Phase.{tell_commute, tell_phase}
 use Rattle.product.proofs.read.odd_phase.Goals as goal
 

@@ -1,5 +1,4 @@
 -- The loop's invariant: the turns of the first j numbers of each plane are summed. Assumes nothing.
-use Prim.Native.Nat.{◌-◌}
 use native.Mathlib.Omega.{arith}
 use Rattle.product.proofs.Phase.{read_none, read_more, read_all}
 use Rattle.product.proofs.read.product_phase.Goals as goal

@@ -1,5 +1,4 @@
 -- The loop's invariant: no number of the products differs so far. Assumes nothing.
-use Prim.Native.Nat.{◌-◌}
 use borrow.Author.Count.{below_more}
 use Rattle.product.proofs.SameProduct.{products_differ, products_same}
 use native.Mathlib.Omega.{arith}

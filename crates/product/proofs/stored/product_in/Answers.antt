@@ -4,6 +4,6 @@ use Rattle.product.proofs.stored.product_in.Goals as goal
 
 pub returns : goal.returns
 returns c = record {
-      store = c.product_word_in.ensures;
-      phased = rw (part_cut, part_cut) at c.product_phase-e.ensures;
-    }
+  store = c.product_word_in.ensures;
+  phased = rw (part_cut, part_cut) at c.product_phase-e.ensures;
+}

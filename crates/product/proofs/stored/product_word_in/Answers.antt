@@ -1,6 +1,5 @@
 -- The loop's invariant: the first j numbers of the product stand at o. Assumes nothing.
 use mathlib.Core.Path.{refl}
-use Prim.Native.Nat.{◌-◌}
 use native.Mathlib.Omega.{arith}
 use Rattle.product.proofs.Laying.{laid_none, place_more, place_all}
 use Rattle.product.proofs.stored.product_word_in.Goals as goal

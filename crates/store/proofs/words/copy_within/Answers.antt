@@ -1,5 +1,4 @@
 -- The loop's invariant: i elements of the source stand at the target. Assumes nothing.
-use Prim.Native.Nat.{◌-◌}
 use lib.ListN.{length-set}
 use Rattle.store.specs.Copy.{copy_none, copy_more, copy_all}
 use native.Mathlib.Omega.{arith}

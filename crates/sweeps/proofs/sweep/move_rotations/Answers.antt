@@ -1,5 +1,4 @@
 -- The rest, moved from the state that memory holds, gives the shift of all. Assumes nothing.
-use Prim.Native.Nat.{◌-◌}
 use Rattle.sweeps.specs.Moves.{moved_start, moved_need, moved_turn, moved_end}
 use Rattle.sweeps.proofs.sweep.move_rotations.Goals as goal
 

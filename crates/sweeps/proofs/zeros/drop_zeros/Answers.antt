@@ -1,5 +1,4 @@
 -- What is left of the layers before layer k. Assumes nothing.
-use Prim.Native.Nat.{◌-◌}
 use Rattle.sweeps.specs.Zeros.{zeros_start, zeros_need, zeros_turn, zeros_end}
 use Rattle.sweeps.proofs.zeros.drop_zeros.Goals as goal
 

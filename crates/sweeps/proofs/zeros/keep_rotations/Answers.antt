@@ -1,5 +1,4 @@
 -- What is left of those before rotation i stands from `to` on. Assumes nothing.
-use Prim.Native.Nat.{◌-◌}
 use Rattle.sweeps.specs.Zeros.{kept_start, kept_need, kept_turn, kept_end}
 use Rattle.sweeps.proofs.zeros.keep_rotations.Goals as goal
 
