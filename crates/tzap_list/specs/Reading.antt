@@ -1,5 +1,6 @@
 -- What `input` promises of its counts and of the bytes that it reads. Assumes nothing.
 use Rattle.std.specs.Prelude.{◌≡◌, List, ℕ, ◌<◌, ◌≤◌, length, take, Option}
+use Rattle.std.proofs.Common.{subst}
 use Rattle.std.specs.Io.KnownBytes.{Consumes, IsAtEnd}
 use Rattle.tzap_list.specs.declared.input.Input.{Input}
 use Rattle.tzap_list.specs.declared.input.Input.TheVariants.{Bytes, Failed}
@@ -8,6 +9,9 @@ use Rattle.tzap_list.specs.declared.input.Input.TheVariants.{Bytes, Failed}
 abbrev pub Within : Input → List ℕ → Type 0
 Within (Bytes n) xs = n ≤ length xs
 Within Failed xs = Unit {0}
+
+pub bytes_within : {r : Input} {n : ℕ} (xs : List ℕ) → r ≡ Bytes n → Within r xs → n ≤ length xs
+bytes_within xs e h = subst (λ (i : Input). Within i xs) e h
 
 -- they are those that the reader gave next, where these are known before and after
 abbrev pub Consumed : Option (List ℕ) → Option (List ℕ) → Input → List ℕ → Type 0
