@@ -10,7 +10,7 @@ use Rattle.std.proofs.Math.ListN.{get_or}
 use Rattle.bits.specs.LowestBit.{clear_lt}
 use Rattle.store.specs.Row.{row}
 use Rattle.store.specs.Part.{part_at}
-use Rattle.model.specs.Lists.{if◌then◌else◌, any_of, member}
+use Rattle.model.specs.Lists.{when◌then◌else◌, any_of, member}
 use Rattle.model.specs.Words.{Value, set_bits, support}
 use Rattle.model.specs.Clifford.{absorb_image}
 use Rattle.theory.specs.Cases.{if_true, if_false}
@@ -106,7 +106,7 @@ pub record SomeSlots (P : ℕ → Type 0) : Type 0 where
 
 -- image c of the slot of qubit q is changed if the list has q
 abbrev pub changed : Shape → ℕ → ℕ → List ℕ → List ℕ → List ℕ → ℕ → ℕ → Value
-changed z b k qs ws xs q i = if member q qs then absorb_image z.l (word_at z.l ws b) k (image_in z ws xs i) else image_in z ws xs i
+changed z b k qs ws xs q i = when member q qs then absorb_image z.l (word_at z.l ws b) k (image_in z ws xs i) else image_in z ws xs i
 
 pub record TurnedFor (z : Shape) (m b k : ℕ) (qs : List ℕ) (ws xs ws' xs' : List ℕ) : Type 0 where
   pub images : (q : ℕ) → q < z.qubits → (s : ℕ) → slot_in z xs q ≡ suc s → (c : ℕ) → c < 3
@@ -115,7 +115,7 @@ pub record TurnedFor (z : Shape) (m b k : ℕ) (qs : List ℕ) (ws xs ws' xs' : 
   pub numbers : Only image_rows z.u xs xs'
 
 pub for_none : {z : Shape} {m b k : ℕ} {ws xs : List ℕ} → TurnedFor z m b k [] ws xs ws xs
-unfolding if◌then◌else◌ member any_of
+unfolding when◌then◌else◌ member any_of
 for_none {z} {ws = ws} {xs} = record { images = λ q h s e c f. refl; words = words_none _ _ ws; numbers = only_none _ z.u xs }
 
 -- the slots stay

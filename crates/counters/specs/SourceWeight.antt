@@ -3,7 +3,7 @@ use Rattle.std.specs.Prelude.{◌≡◌, true, false, List, ℕ, ◌+◌, ◌*�
 use Rattle.std.proofs.Common.{sym, ap, ◌∙◌, subst, arith}
 use Rattle.pauli.specs.Word.{width}
 use Rattle.pauli.specs.Letter.{weight}
-use Rattle.model.specs.Lists.{if◌then◌else◌, sum_of}
+use Rattle.model.specs.Lists.{when◌then◌else◌, sum_of}
 use Rattle.model.specs.Program.{is_measure, Operation, Program}
 use Rattle.model.specs.Words.{word_of}
 use Rattle.model.specs.Value.{value_at}
@@ -31,7 +31,7 @@ pub record OperationPre (os ws xs : List ℕ) (u l i : ℕ) : Type 0 where
   pub axis : AxisPre ws l (root_at xs u i).axis
 
 unfoldable pub source_said : ℕ → List (List ℕ) → List ℕ → List ℕ → ℕ → ℕ → ℕ
-source_said l axes os xs u i = if is_measure (operation_here os i).kind then 0 else weight l (word_of axes (root_at xs u i).axis)
+source_said l axes os xs u i = when is_measure (operation_here os i).kind then 0 else weight l (word_of axes (root_at xs u i).axis)
 
 pub record OperationWeight (os ws xs : List ℕ) (u l i v : ℕ) : Type 0 where
   pub number : (n : ℕ) → (root_at xs u i).axis < n → v ≡ source_said l (axes_of l n ws) os xs u i
@@ -103,9 +103,9 @@ pub source_weight_lem : (p : Program) (axes : List (List ℕ)) (os xs : List ℕ
 unfolding source_said source_weight
 source_weight_lem p axes os xs u k e h =
     total_same _ _ 0 k
-    (λ j a l. ap (λ (w : List ℕ). if is_measure (operation_here os j).kind then 0 else weight (width p.qubits) w) (h j (omega arith)))
+    (λ j a l. ap (λ (w : List ℕ). when is_measure (operation_here os j).kind then 0 else weight (width p.qubits) w) (h j (omega arith)))
     ∙ sym (sum_from of (operation_here os) 0 k)
     ∙ ap (sum_of of) (sym (e ∙ operations_from k os))
   where
     of : Operation → ℕ
-    of o = if is_measure o.kind then 0 else weight (width p.qubits) (value_at (values_of p) o.node).word
+    of o = when is_measure o.kind then 0 else weight (width p.qubits) (value_at (values_of p) o.node).word

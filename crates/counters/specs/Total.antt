@@ -1,7 +1,7 @@
 -- Sums over places, counted up in a loop. Assumes nothing.
 use Rattle.std.specs.Prelude.{◌≡◌, refl, Bool, ℕ, zero, suc, ◌+◌, ◌-◌, ◌≤◌, ◌<◌}
 use Rattle.std.proofs.Common.{ap, ap₂, ◌∙◌, add-one, arith}
-use Rattle.model.specs.Lists.{if◌then◌else◌, count_of, sum_of}
+use Rattle.model.specs.Lists.{when◌then◌else◌, count_of, sum_of}
 use Rattle.store.specs.From.{list_from}
 
 -- g i + g (i + 1) + .., n of them
@@ -42,7 +42,7 @@ sum_from f h i (suc n) = ap (λ (m : ℕ). f (h i) + m) (sum_from f h (suc i) n)
 
 -- 1 where a test holds
 abbrev pub one_if : Bool → ℕ
-one_if b = if b then 1 else 0
+one_if b = when b then 1 else 0
 
 pub count_from : {A : Type 0} (f : A → Bool) (h : ℕ → A) (i n : ℕ) → count_of f (list_from h i n) ≡ total (λ j. one_if (f (h j))) i n
 unfolding count_of list_from total

@@ -4,7 +4,7 @@ use Rattle.std.proofs.Common.{sym, ap, ◌∙◌, le_refl, arith}
 use Rattle.bits.specs.Sum.{sum_to}
 use Rattle.pauli.specs.Word.{width}
 use Rattle.pauli.specs.Letter.{letter_at, other, acts, weight}
-use Rattle.model.specs.Lists.{if◌then◌else◌, sum_of}
+use Rattle.model.specs.Lists.{when◌then◌else◌, sum_of}
 use Rattle.model.specs.Program.{is_measure, Kind, rotate, measure, conditional, Operation, Program}
 use Rattle.model.specs.Words.{word_of}
 use Rattle.model.specs.Items.{Item, rotation, barrier}
@@ -57,7 +57,7 @@ axis_weight {ws} {l} {a} {v} {p} f e = record {
 
 unfoldable pub weight_said : ℕ → List Operation → List (List ℕ) → Item → ℕ
 weight_said l ops axes (rotation r) = weight l (word_of axes r.axis)
-weight_said l ops axes (barrier o a s) = if is_measure (operation_at ops o).kind then 0 else weight l (word_of axes a)
+weight_said l ops axes (barrier o a s) = when is_measure (operation_at ops o).kind then 0 else weight l (word_of axes a)
 
 pub record ItemAxisPre (os ws xs : List ℕ) (u l i : ℕ) : Type 0 where
   pub item : ItemPre os xs u i
@@ -69,15 +69,15 @@ pub record ItemWeight (os ws : List ℕ) (l : ℕ) (x : Tagged) (v : ℕ) : Type
 
 -- a record of kind 2 is a measurement's: its item weighs nothing
 kind_of_lem : (op : Operation) (kind : Kind) (a s w : ℕ) (r : OperationResult) → operation_fields r ≡ barrier_record op kind a s
-    → (if is_measure kind then 0 else w) ≡ (if eqb r.kind 2 then 0 else w)
-unfolding barrier_record if◌then◌else◌
+    → (when is_measure kind then 0 else w) ≡ (when eqb r.kind 2 then 0 else w)
+unfolding barrier_record when◌then◌else◌
 kind_of_lem op rotate a s w r e = let z : ◌≡◌ {A = ℕ} 6 0 = ap length e in absurd (omega arith)
 kind_of_lem op measure a s w r e = let k : r.kind ≡ 2 = cc in rw k refl
 kind_of_lem op conditional a s w r e = let k : r.kind ≡ 3 = cc in rw k refl
 
 weighs : (l : ℕ) (ops : List Operation) (axes : List (List ℕ)) (t : ℕ) (x : Tagged) (r : OperationResult)
     → operation_fields r ≡ item_record ops (item_of_tag t x)
-    → weight_said l ops axes (item_of_tag t x) ≡ (if eqb r.kind 2 then 0 else weight l (word_of axes x.axis))
+    → weight_said l ops axes (item_of_tag t x) ≡ (when eqb r.kind 2 then 0 else weight l (word_of axes x.axis))
 unfolding weight_said item_record item_of_tag
 weighs l ops axes zero x r e = let k : r.kind ≡ 1 = cc in sym (if_false _ _ (ap (λ (y : ℕ). eqb y 2) k))
 weighs l ops axes (suc o) x r e =

@@ -8,7 +8,7 @@ use native.Mathlib.Omega.{arith}
 use Rattle.std.proofs.Math.Dec.{eqb}
 use Rattle.std.proofs.Math.ListN.{length}
 use Rattle.pauli.specs.Word.{is_identity}
-use Rattle.model.specs.Lists.{if◌then◌else◌}
+use Rattle.model.specs.Lists.{when◌then◌else◌}
 use Rattle.model.specs.Program.{Kind, rotate, measure, conditional, Operation}
 use Rattle.model.specs.Words.{Value, id_of, word_of}
 use Rattle.model.specs.Value.{value_at}
@@ -47,7 +47,7 @@ module _ (A C : List (List ℕ)) (within : Within A C) (vs : List Value) (τ : �
     item_renamed o o' rotate k e =
         let angle = with_sign (signed_axis A vs (operation_root op)).sign k in
         of_if (map ren) (eqb angle 0 || is_identity (word_of A (id_of A word))) [] (rotation (rot (id_of A word) angle) ∷ [])
-        ∙ ap₂ (λ (b : Bool) (n : ℕ). if b then [] else rotation (rot n angle) ∷ []) (ap (λ (b : Bool). eqb angle 0 || b) identity_same)
+        ∙ ap₂ (λ (b : Bool) (n : ℕ). when b then [] else rotation (rot n angle) ∷ []) (ap (λ (b : Bool). eqb angle 0 || b) identity_same)
         (into_id A C word h)
     item_renamed o o' measure k e =
         ap₂ (λ (x n : ℕ). barrier x n (signed_axis A vs (operation_root op)).sign ∷ []) e (into_id A C word h)

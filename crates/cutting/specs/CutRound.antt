@@ -5,7 +5,7 @@ use Rattle.std.proofs.Math.Path.{refl, ap, ap₂}
 use Rattle.std.proofs.Common.{sym, ◌∙◌, add-zero}
 use Rattle.std.proofs.Math.Bool.{true, false}
 use mathlib.Core.List.{List, [], ◌∷◌, ◌++◌, map, map-append, append-nil}
-use Rattle.model.specs.Lists.{if◌then◌else◌, keep}
+use Rattle.model.specs.Lists.{when◌then◌else◌, keep}
 use Rattle.model.specs.Rules.{Rules}
 use Rattle.model.specs.Items.{Item, barrier, drop_zeros, stays, Rewritten, rewrite_from, rewrite_segments}
 use Rattle.model.specs.Stream.{nowhere, cleared_last}
@@ -19,7 +19,7 @@ use Rattle.cutting.specs.Round.{none_exchanged, streamed_same, merges_same, exch
 
 -- zeros before a barrier are removed
 drop_barrier : (is : List Item) (o a s : ℕ) → drop_zeros (is ++ (barrier o a s ∷ [])) ≡ drop_zeros is ++ (barrier o a s ∷ [])
-unfolding drop_zeros keep if◌then◌else◌
+unfolding drop_zeros keep when◌then◌else◌
 drop_barrier is o a s = keep_append stays is (barrier o a s ∷ [])
 
 -- one behind the other
@@ -124,7 +124,7 @@ module _ (l : ℕ) (r : Rules) where
     items_cut : (b : Bool) → eqb r.exchange.window 0 ≡ b
         → exchanged_items l r C (map (renamed ρ τ) first_out ++ map (renamed σ υ) later_out)
         ≡ both_rewritten (renamed_rewritten ρ τ (exchanged_items l r A first_out)) (renamed_rewritten σ υ (exchanged_items l r B later_out))
-    unfolding exchanged_items if◌then◌else◌
+    unfolding exchanged_items when◌then◌else◌
     items_cut true e = rw e refl
     items_cut false e = rw e segments_cut
 

@@ -9,7 +9,7 @@ use Rattle.pauli.specs.Word.{width}
 use Rattle.model.specs.declared.Absorption.TheVariants.{Off as off}
 use Rattle.model.specs.declared.Strategy.{Strategy}
 use Rattle.model.specs.declared.Strategy.TheVariants.{Merge}
-use Rattle.model.specs.Lists.{if◌then◌else◌}
+use Rattle.model.specs.Lists.{when◌then◌else◌}
 use Rattle.model.specs.Program.{measure, Operation, Program}
 use Rattle.model.specs.Rules.{Rules}
 use Rattle.model.specs.Words.{Value, word_of}
@@ -134,7 +134,7 @@ module _ (r : Rules) (rules : MergesOnly r) (p : Program) (runs : Runs p) where
 
 -- those of the earlier part stay; an index outside it goes to one outside the whole, so that records agree at every index
 first_index : List Operation → List Operation → ℕ → ℕ
-first_index xs ys o = if ltb o (length xs) then o else length xs + length ys + o
+first_index xs ys o = when ltb o (length xs) then o else length xs + length ys + o
 
 module _ (xs ys : List Operation) where
   first_inside : (o : ℕ) → o < length xs → first_index xs ys o ≡ o

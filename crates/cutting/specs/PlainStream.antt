@@ -6,7 +6,7 @@ use Rattle.std.proofs.Math.Bool.{true}
 use mathlib.Core.List.{List, [], ◌∷◌, ◌++◌}
 use Rattle.model.specs.declared.Absorption.{Absorption}
 use Rattle.model.specs.declared.Absorption.TheVariants.{Off as off}
-use Rattle.model.specs.Lists.{if◌then◌else◌, is_even}
+use Rattle.model.specs.Lists.{when◌then◌else◌, is_even}
 use Rattle.model.specs.Rules.{is_at_once, Rules}
 use Rattle.model.specs.Words.{Value, as_value, id_of, word_of, Store, intern}
 use Rattle.model.specs.Clifford.{image_words}
@@ -42,7 +42,7 @@ put_rot x a k = record {
 -- place j, a rotation about a, gets angle k. "A zero .. clears `last` for its axis"
 unfoldable pub merge_rot : Puts → ℕ → ℕ → ℕ → Puts
 merge_rot x j a k =
-    if eqb k 0 then record { out = set x.out j (rotation (rot a 0)); last = set_last a nowhere x.last; merges = suc x.merges } else
+    when eqb k 0 then record { out = set x.out j (rotation (rot a 0)); last = set_last a nowhere x.last; merges = suc x.merges } else
     record { out = set x.out j (rotation (rot a k)); last = x.last; merges = suc x.merges }
 
 module _ (l lookback : ℕ) (axes : List (List ℕ)) where
@@ -50,7 +50,7 @@ module _ (l lookback : ℕ) (axes : List (List ℕ)) where
   unfoldable pub merge_or_put : Puts → ℕ → ℕ → Place → Puts
   merge_or_put x a k nowhere = put_rot x a k
   merge_or_put x a k (at j) =
-      if can_reach l lookback axes x.out j a then merge_rot x j a ((angle_at x.out j + k) % 8) else put_rot x a k
+      when can_reach l lookback axes x.out j a then merge_rot x j a ((angle_at x.out j + k) % 8) else put_rot x a k
 
   -- "A barrier clears `last`."
   unfoldable pub put_item : Puts → Item → Puts
@@ -102,7 +102,7 @@ module _ (l : ℕ) (st : Store) (stored : StoredWords l st.axes) where
 
   module _ (r : Rules) (is_off : r.absorption ≡ off) where
     merge_same : (x : Puts) (j a k : ℕ) → merge_at l off (count_merge (pass_of st x)) j a k ≡ pass_of st (merge_rot x j a k)
-    unfolding merge_at count_merge merge_rot leave_zero set_angle with_last if◌then◌else◌
+    unfolding merge_at count_merge merge_rot leave_zero set_angle with_last when◌then◌else◌
     merge_same x j a k = sym (of_if (pass_of st) (eqb k 0) _ _)
 
     take_same : (x : Puts) (a k : ℕ) (place : Place)
@@ -110,7 +110,7 @@ module _ (l : ℕ) (st : Store) (stored : StoredWords l st.axes) where
     unfolding merge_or_put_out merge_or_put put_out_rotation put_rot put_out with_last
     take_same x a k nowhere = refl
     take_same x a k (at j) =
-        ap (λ (y : Pass). if can_reach l r.lookback st.axes x.out j a then y else pass_of st (put_rot x a k))
+        ap (λ (y : Pass). when can_reach l r.lookback st.axes x.out j a then y else pass_of st (put_rot x a k))
         (ap (λ (m : Absorption). merge_at l m (count_merge (pass_of st x)) j a ((angle_at x.out j + k) % 8)) is_off
         ∙ merge_same x j a ((angle_at x.out j + k) % 8))
         ∙ sym (of_if (pass_of st) (can_reach l r.lookback st.axes x.out j a) _ _)
@@ -129,9 +129,9 @@ module _ (l : ℕ) (st : Store) (stored : StoredWords l st.axes) where
 
     took_same : (x : Puts) (a k : ℕ)
         → take_rotation l r true (pass_of st x) a (with_sign 0 k) ≡ pass_of st (merge_or_put l r.lookback st.axes x a k (x.last a))
-    unfolding take_rotation with_sign if◌then◌else◌
+    unfolding take_rotation with_sign when◌then◌else◌
     took_same x a k =
-        ap (λ (m : Absorption). if is_at_once m && is_even k then absorb l (pass_of st x) a k else merge_or_put_out l r (pass_of st x) a k (x.last a))
+        ap (λ (m : Absorption). when is_at_once m && is_even k then absorb l (pass_of st x) a k else merge_or_put_out l r (pass_of st x) a k (x.last a))
         is_off
         ∙ take_same x a k (x.last a)
 

@@ -11,7 +11,7 @@ use Rattle.std.proofs.Math.Dec.{ltb}
 use Rattle.std.proofs.Math.ListN.{length-map}
 use Rattle.pauli.specs.Word.{anticommutes}
 use Rattle.model.specs.declared.ExchangeRules.{ExchangeRules}
-use Rattle.model.specs.Lists.{if◌then◌else◌, all_of, is_empty}
+use Rattle.model.specs.Lists.{when◌then◌else◌, all_of, is_empty}
 use Rattle.model.specs.Words.{anticommute}
 use Rattle.model.specs.Items.{Rot, rot, is_nonzero, t_count_rots, drop_zero_rots}
 use Rattle.model.specs.Exchange.{Term, term_of, terms_with, terms, generators_commute, all_sums_zero, is_better, merge_back, merge_locally, improves}
@@ -44,9 +44,9 @@ module _ (l : ℕ) (A C : List (List ℕ)) (ρ : ℕ → ℕ) (h : Renames A C �
   unfolding terms_with
   terms_with_same a [] = refl
   terms_with_same a (b ∷ bs) =
-      ap (λ (t : Bool). if t then term_of l C (ren a) (ren b) ∷ terms_with l C (ren a) (rens bs) else terms_with l C (ren a) (rens bs))
+      ap (λ (t : Bool). when t then term_of l C (ren a) (ren b) ∷ terms_with l C (ren a) (rens bs) else terms_with l C (ren a) (rens bs))
       (anti_same a.axis b.axis)
-      ∙ ap₂ (λ (x : Term) (xs : List Term). if anticommute l A a.axis b.axis then x ∷ xs else xs) (term_same a b) (terms_with_same a bs)
+      ∙ ap₂ (λ (x : Term) (xs : List Term). when anticommute l A a.axis b.axis then x ∷ xs else xs) (term_same a b) (terms_with_same a bs)
 
   terms_same : (xs bs : List Rot) → terms l C (rens xs) (rens bs) ≡ terms l A xs bs
   unfolding terms
@@ -69,13 +69,13 @@ module _ (l : ℕ) (A C : List (List ℕ)) (ρ : ℕ → ℕ) (h : Renames A C �
 
   -- what merging back gives, by what it meets in the rotation before
   met_same : (d r : Rot) (ds : List Rot) (zero' here blocked : Bool) (x : Option (List Rot))
-      → (if zero' then Option.map (λ xs. ren d ∷ xs) (Option.map rens x) else
-      if here then some (rot (ρ d.axis) ((d.angle + r.angle) % 8) ∷ rens ds) else
-      if blocked then none else Option.map (λ xs. ren d ∷ xs) (Option.map rens x))
-      ≡ Option.map rens (if zero' then Option.map (λ xs. d ∷ xs) x else
-      if here then some (rot d.axis ((d.angle + r.angle) % 8) ∷ ds) else
-      if blocked then none else Option.map (λ xs. d ∷ xs) x)
-  unfolding if◌then◌else◌
+      → (when zero' then Option.map (λ xs. ren d ∷ xs) (Option.map rens x) else
+      when here then some (rot (ρ d.axis) ((d.angle + r.angle) % 8) ∷ rens ds) else
+      when blocked then none else Option.map (λ xs. ren d ∷ xs) (Option.map rens x))
+      ≡ Option.map rens (when zero' then Option.map (λ xs. d ∷ xs) x else
+      when here then some (rot d.axis ((d.angle + r.angle) % 8) ∷ ds) else
+      when blocked then none else Option.map (λ xs. d ∷ xs) x)
+  unfolding when◌then◌else◌
   met_same d r ds true here blocked none = refl
   met_same d r ds true here blocked (some x) = refl
   met_same d r ds false true blocked x = refl
@@ -111,9 +111,9 @@ module _ (l : ℕ) (A C : List (List ℕ)) (ρ : ℕ → ℕ) (h : Renames A C �
   unfolding improves
   improves_same eager trial old =
       let new = drop_zero_rots (merge_locally l A [] trial) in
-      ap (λ (x : List Rot). if is_better eager x (rens old) then some x else none)
+      ap (λ (x : List Rot). when is_better eager x (rens old) then some x else none)
       (ap drop_zero_rots (merge_locally_same [] trial) ∙ drop_zero_rots_same (merge_locally l A [] trial))
-      ∙ ap (λ (b : Bool). if b then some (rens new) else none) (better_same eager new old)
+      ∙ ap (λ (b : Bool). when b then some (rens new) else none) (better_same eager new old)
       ∙ sym (of_if (Option.map rens) (is_better eager new old) (some new) none)
 
   -- ---- `try_triple`
@@ -197,9 +197,9 @@ module _ (l : ℕ) (A C : List (List ℕ)) (ρ : ℕ → ℕ) (h : Renames A C �
     unfolding try_exchange
     try_exchange_same t g k trial =
         let old = t.first ++ (t.second ++ t.third) in
-        ap₂ (λ (b : Bool) (x : Option (List Rot)). if b then Option.map (swap_of (ren_triple t)) x else none) (generators_same g k)
+        ap₂ (λ (b : Bool) (x : Option (List Rot)). when b then Option.map (swap_of (ren_triple t)) x else none) (generators_same g k)
         (ap (improves l C rules.eager (rens trial)) (three t.first t.second t.third) ∙ improves_same rules.eager trial old)
-        ∙ ap (λ (x : Option Swap). if generators_commute l A g k then x else none) (made_same t (improves l A rules.eager trial old))
+        ∙ ap (λ (x : Option Swap). when generators_commute l A g k then x else none) (made_same t (improves l A rules.eager trial old))
         ∙ sym (of_if (Option.map ren_swap) (generators_commute l A g k) (Option.map (swap_of t) (improves l A rules.eager trial old)) none)
 
     first_same : (t : Triple) → first_with_second l C rules (ren_triple t) ≡ Option.map ren_swap (first_with_second l A rules t)
@@ -220,8 +220,8 @@ module _ (l : ℕ) (A C : List (List ℕ)) (ρ : ℕ → ℕ) (h : Renames A C �
     try_exchanges_same t =
         let x = first_with_second l A rules t in
         let y = second_with_third l A rules t in
-        ap₂ (λ (u v : Option Swap). if rules.second_first then or_else v u else or_else u v) (first_same t) (second_same t)
-        ∙ ap₂ (λ (u v : Option Swap). if rules.second_first then u else v) (sym (of_else ren_swap y x)) (sym (of_else ren_swap x y))
+        ap₂ (λ (u v : Option Swap). when rules.second_first then or_else v u else or_else u v) (first_same t) (second_same t)
+        ∙ ap₂ (λ (u v : Option Swap). when rules.second_first then u else v) (sym (of_else ren_swap y x)) (sym (of_else ren_swap x y))
         ∙ sym (of_if (Option.map ren_swap) rules.second_first (or_else y x) (or_else x y))
 
     try_triple_same : (ts : List Triple)
@@ -229,9 +229,9 @@ module _ (l : ℕ) (A C : List (List ℕ)) (ρ : ℕ → ℕ) (h : Renames A C �
     unfolding try_triple
     try_triple_same [] = refl
     try_triple_same (t ∷ ts) =
-        let one = if share_axis rules.eager t.first t.third then try_exchanges l A rules t else none in
+        let one = when share_axis rules.eager t.first t.third then try_exchanges l A rules t else none in
         ap₂ (λ (u v : Option Swap). or_else u v)
-        (ap₂ (λ (b : Bool) (u : Option Swap). if b then u else none) (share_axis_same rules.eager t.first t.third) (try_exchanges_same t)
+        (ap₂ (λ (b : Bool) (u : Option Swap). when b then u else none) (share_axis_same rules.eager t.first t.third) (try_exchanges_same t)
         ∙ sym (of_if (Option.map ren_swap) (share_axis rules.eager t.first t.third) (try_exchanges l A rules t) none))
         (try_triple_same ts)
         ∙ sym (of_else ren_swap one (try_triple l A rules ts))
@@ -254,7 +254,7 @@ module _ (l : ℕ) (A C : List (List ℕ)) (ρ : ℕ → ℕ) (h : Renames A C �
     run_end_from_same taken [] = refl
     run_end_from_same taken (r ∷ rest) =
         let joins = ltb (length taken) window && all_of (λ (x : Rot). not (anticommute l A x.axis r.axis)) taken in
-        ap₂ (λ (b : Bool) (x : RunEnd). if b then x else record { run = rens taken; rest = rens (r ∷ rest) }) (joins_same taken r)
+        ap₂ (λ (b : Bool) (x : RunEnd). when b then x else record { run = rens taken; rest = rens (r ∷ rest) }) (joins_same taken r)
         (ap (λ (x : List Rot). run_end_from l C window x (rens rest)) (sym (map-append ren taken (r ∷ [])))
         ∙ run_end_from_same (taken ++ (r ∷ [])) rest)
         ∙ sym (of_if ren_run joins (run_end_from l A window (taken ++ (r ∷ [])) rest) (record { run = taken; rest = r ∷ rest }))
@@ -321,7 +321,7 @@ module _ (l : ℕ) (A C : List (List ℕ)) (ρ : ℕ → ℕ) (h : Renames A C �
     swaps_from_same zero s = refl
     swaps_from_same (suc k) s =
         let next = swap_step l A rules s in
-        ap₂ (λ (b : Bool) (x : Swapping). if b then ren_swapping s else x) (no_triple_same window s.rest)
+        ap₂ (λ (b : Bool) (x : Swapping). when b then ren_swapping s else x) (no_triple_same window s.rest)
         (ap (swaps_from l C rules k) (swap_step_same s) ∙ swaps_from_same k next)
         ∙ sym (of_if ren_swapping (no_triple l A window s.rest) s (swaps_from l A rules k next))
 

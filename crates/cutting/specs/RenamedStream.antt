@@ -11,7 +11,7 @@ use Rattle.std.proofs.Math.Dec.{leb}
 use Rattle.std.proofs.Math.ListN.{length, drop}
 use Rattle.std.proofs.lemmas.List.{length-map}
 use Rattle.std.proofs.Math.Seq.{drop-append-add}
-use Rattle.model.specs.Lists.{if◌then◌else◌, all_of}
+use Rattle.model.specs.Lists.{when◌then◌else◌, all_of}
 use Rattle.model.specs.Items.{rot, Item, rotation, barrier, angle_of}
 use Rattle.model.specs.Stream.{Place, nowhere, at, set_last, lets_pass, can_reach, angle_at}
 use Rattle.theory.specs.Cases.{of_if}
@@ -26,8 +26,8 @@ behind n nowhere = nowhere
 behind n (at j) = at (n + j)
 
 -- two choices by one test
-both_if : {A B : Type 0} (R : A → B → Type 0) (b : Bool) {x y : A} {u v : B} → R x u → R y v → R (if b then x else y) (if b then u else v)
-unfolding if◌then◌else◌
+both_if : {A B : Type 0} (R : A → B → Type 0) (b : Bool) {x y : A} {u v : B} → R x u → R y v → R (when b then x else y) (when b then u else v)
+unfolding when◌then◌else◌
 both_if R true h k = h
 both_if R false h k = k
 
@@ -58,7 +58,7 @@ module _ (l lookback : ℕ) (A C : List (List ℕ)) (ρ τ : ℕ → ℕ) (h : R
       → set_last (ρ a) (behind (length base) place) g (ρ b) ≡ behind (length base) (set_last a place f b)
   unfolding set_last
   set_last_lem a place f g k b =
-      ap₂ (λ (t : Bool) (p : Place). if t then behind (length base) place else p) (h.same b a) (k b)
+      ap₂ (λ (t : Bool) (p : Place). when t then behind (length base) place else p) (h.same b a) (k b)
       ∙ sym (of_if (behind (length base)) (eqb b a) place (f b))
 
   -- ---- reach

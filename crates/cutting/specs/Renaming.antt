@@ -4,7 +4,7 @@ use Rattle.std.proofs.Common.{sym, ap, ◌∙◌, arith, length-append, get_or-a
 use Rattle.std.proofs.Math.Decide.{dec_lt}
 use Rattle.std.proofs.Math.ListN.{get_or-eq_default}
 use Rattle.std.proofs.lemmas.Bool.{eqb-false}
-use Rattle.model.specs.Lists.{if◌then◌else◌}
+use Rattle.model.specs.Lists.{when◌then◌else◌}
 use Rattle.model.specs.Words.{id_of, word_of}
 use Rattle.model.specs.Items.{Rot, rot, Item, rotation, barrier}
 use Rattle.theory.specs.Cases.{if_true, if_false}
@@ -32,7 +32,7 @@ Within A C = (a : ℕ) → a < length A → Stored C (word_of A a)
 
 -- an id of A goes to its word's id in C; a number that is no id stays none
 unfoldable pub into : List (List ℕ) → List (List ℕ) → ℕ → ℕ
-into A C a = if ltb a (length A) then id_of C (word_of A a) else length C + a
+into A C a = when ltb a (length A) then id_of C (word_of A a) else length C + a
 
 into_in : (A C : List (List ℕ)) (a : ℕ) → a < length A → into A C a ≡ id_of C (word_of A a)
 unfolding into

@@ -7,7 +7,7 @@ use mathlib.Core.List.{List, [], ◌++◌, map, append-nil}
 use Rattle.std.proofs.Math.Dec.{eqb}
 use Rattle.model.specs.declared.Absorption.{Absorption}
 use Rattle.model.specs.declared.Absorption.TheVariants.{Off as off}
-use Rattle.model.specs.Lists.{if◌then◌else◌, any_of}
+use Rattle.model.specs.Lists.{when◌then◌else◌, any_of}
 use Rattle.model.specs.Rules.{is_on, Rules}
 use Rattle.model.specs.Items.{Rot, Item, is_even_rotation, drop_zeros, Segment, Rewritten, rewrite_from, rewrite_segments}
 use Rattle.model.specs.Exchange.{swaps_from, swaps}
@@ -49,7 +49,7 @@ module _ (l : ℕ) (r : Rules) where
 
   -- .. and of all: "Window 0: none."
   unfoldable pub exchanged_items : List (List ℕ) → List Item → Rewritten
-  exchanged_items axes is = if eqb r.exchange.window 0 then record { items = is; changes = 0 } else rewrite_segments (exchanged axes) is
+  exchanged_items axes is = when eqb r.exchange.window 0 then record { items = is; changes = 0 } else rewrite_segments (exchanged axes) is
 
   -- a stream, then the exchanges
   unfoldable pub round_of : List (List ℕ) → List Item → Rounded
@@ -71,7 +71,7 @@ module _ (l : ℕ) (r : Rules) where
   exchange_is : (v : Work) → exchange_pass l r v ≡ with_rewritten v (exchanged_items v.store.axes v.items)
   unfolding exchange_pass exchanged_items
   exchange_is v =
-      ap (λ (n : ℕ). if eqb r.exchange.window 0 then record {
+      ap (λ (n : ℕ). when eqb r.exchange.window 0 then record {
         store = v.store;
         items = v.items;
         rows = v.rows;
@@ -99,7 +99,7 @@ module _ (l : ℕ) (r : Rules) where
     }
 
     stream_is : stream_pass l r true w ≡ streamed_work
-    unfolding stream_pass carry_rows begin if◌then◌else◌
+    unfolding stream_pass carry_rows begin when◌then◌else◌
     stream_is =
         let e : stream l r true (begin w.store) w.items ≡ pass_of w.store after
         = stream_same l w.store stored r is_off nothing_out w.items ids in
@@ -115,10 +115,10 @@ module _ (l : ℕ) (r : Rules) where
           swaps = w.swaps + (round_of w.store.axes w.items).swaps;
           absorbed = w.absorbed + 0;
         }
-    unfolding merge_rounds rounds_from merge_round closing_stream if◌then◌else◌ round_of
+    unfolding merge_rounds rounds_from merge_round closing_stream when◌then◌else◌ round_of
     one_round =
         let v = exchange_pass l r (stream_pass l r true w) in
-        ap (λ (m : Absorption). if is_on m && any_of is_even_rotation v.items then stream_pass l r true v else v) is_off
+        ap (λ (m : Absorption). when is_on m && any_of is_even_rotation v.items then stream_pass l r true v else v) is_off
         ∙ ap (exchange_pass l r) stream_is ∙ exchange_is streamed_work
 
   -- ---- renamed, behind a part that is done
@@ -162,7 +162,7 @@ module _ (l : ℕ) (r : Rules) where
     exchanged_items_same : (is : List Item) → exchanged_items C (rens is) ≡ renamed_rewritten ρ τ (exchanged_items A is)
     unfolding exchanged_items
     exchanged_items_same is =
-        ap (λ (x : Rewritten). if eqb r.exchange.window 0 then record { items = rens is; changes = 0 } else x) (exchanged_same is)
+        ap (λ (x : Rewritten). when eqb r.exchange.window 0 then record { items = rens is; changes = 0 } else x) (exchanged_same is)
         ∙ sym (of_if (renamed_rewritten ρ τ) (eqb r.exchange.window 0) (record { items = is; changes = 0 }) (rewrite_segments (exchanged A) is))
 
     -- a round of renamed items is the renamed round

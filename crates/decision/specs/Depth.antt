@@ -4,7 +4,7 @@ use Rattle.std.proofs.Math.Path.{refl, ap, ap₂}
 use Rattle.std.proofs.Common.{sym, ◌∙◌, subst, arith}
 use Rattle.pauli.specs.Word.{width}
 use Rattle.model.specs.declared.Options.{Options}
-use Rattle.model.specs.Lists.{if◌then◌else◌, any_of, member}
+use Rattle.model.specs.Lists.{when◌then◌else◌, any_of, member}
 use Rattle.model.specs.Program.{Program}
 use Rattle.model.specs.Rules.{rules_of}
 use Rattle.model.specs.Items.{Item}
@@ -24,7 +24,7 @@ use Rattle.depth.specs.Demands.{DepthPre, DepthOf}
 
 -- 0 where it is off
 abbrev depth_if : Bool → ℕ → List (List ℕ) → List Item → ℕ
-depth_if on l axes items = if on then t_depth l axes items else 0
+depth_if on l axes items = when on then t_depth l axes items else 0
 
 pub record DepthAs (z : Sizes) (on : Bool) (ws xs : List ℕ) (count r : ℕ) (ys : List ℕ) : Type 0 where
   pub only : Only level_rows z.u xs ys

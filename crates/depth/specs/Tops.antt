@@ -12,14 +12,14 @@ use borrow.Author.Tests.{lt-ltb, le-ltb, ltb-true}
 use Rattle.bits.specs.Bit.{bit, bit_bit_or, zero_bit, pow_other}
 use Rattle.bits.specs.LowestBit.{lowest_bit}
 use Rattle.store.specs.Row.{row, Written}
-use Rattle.model.specs.Lists.{if◌then◌else◌}
+use Rattle.model.specs.Lists.{when◌then◌else◌}
 use Rattle.theory.specs.Cases.{if_true, if_false, on_if}
 use Rattle.layout.specs.Rows.{row_count, level_top, written_row, entry_own, entry_other}
 use Rattle.layout.specs.Only.{Only, only_none, only_then, only_written}
 
 -- where bit k has its entry: bits for which a row is too short share the first
 unfoldable pub top_place : ℕ → ℕ → ℕ
-top_place u k = if ltb k u then k else 0
+top_place u k = when ltb k u then k else 0
 
 unfoldable pub top_of : List ℕ → ℕ → ℕ → ℕ
 top_of s u k = get_or (row s u level_top) (top_place u k) 0
@@ -37,7 +37,7 @@ module _ (u k : ℕ) where
   pub top_in : 0 < u → {p : ℕ} → p ≡ top_place u k → p < u
   unfolding top_place
   top_in h {p} e =
-      let lt : (if ltb k u then k else 0) < u = on_if (λ (n : ℕ). n < u) (ltb k u) k 0 (λ t. ltb-true k u t) (λ t. h) in
+      let lt : (when ltb k u then k else 0) < u = on_if (λ (n : ℕ). n < u) (ltb k u) k 0 (λ t. ltb-true k u t) (λ t. h) in
       omega arith
 
 pub top_read : (s : List ℕ) (u k : ℕ) {p r : ℕ} → r ≡ get_or (row s u level_top) p 0 → p ≡ top_place u k → r ≡ top_of s u k

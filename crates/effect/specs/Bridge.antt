@@ -15,7 +15,7 @@ use Rattle.pauli.specs.Word.{IsWord, identity, xor_words, phase, symplectic, ant
 use Rattle.pauli.specs.Letter.{has_x, has_z, letter_at, single, other, acts}
 use Rattle.pauli.specs.ProductLaws.{phase_odd, anticommutes_true, anticommutes_false}
 use Rattle.pauli.specs.LetterLaws.{identity_length, xor_words_word, from_letters}
-use Rattle.model.specs.Lists.{if◌then◌else◌, numbers_from}
+use Rattle.model.specs.Lists.{when◌then◌else◌, numbers_from}
 use Rattle.model.specs.Words.{Value, as_value, scaled, multiply, support}
 use Rattle.model.specs.Clifford.{Images, absorb_image, Touched, absorb_word, letter_image, multiply_images, word_image}
 use Rattle.model.specs.Items.{is_clifford}
@@ -109,9 +109,9 @@ module _ (l : ℕ) where
   image_at d e B a = value_of l (a.0 ⊞₄ (conj_at (packed l) d e B a.1).0, (conj_at (packed l) d e B a.1).1)
 
   absorb_true : {k : ℕ} → Even k → (B : Packed l) (a : Quarter × Packed l)
-      → (if eqb k 4 then scaled 2 (value_of l a) else scaled (k / 2) (multiply l (as_value B.0) (value_of l a)))
+      → (when eqb k 4 then scaled 2 (value_of l a) else scaled (k / 2) (multiply l (as_value B.0) (value_of l a)))
       ≡ image_at true (eighth (pos k)) B a
-  unfolding if◌then◌else◌ scaled multiply phase4 quarter
+  unfolding when◌then◌else◌ scaled multiply phase4 quarter
   absorb_true two B a = λ i. record { turns = count_scaled a.0 (phase l B.0 a.1.0) 1 i; word = xor_words B.0 a.1.0 }
   absorb_true four B a = λ i. record { turns = count_add a.0 2 i; word = a.1.0 }
   absorb_true six B a = λ i. record { turns = count_scaled a.0 (phase l B.0 a.1.0) 3 i; word = xor_words B.0 a.1.0 }
@@ -130,10 +130,10 @@ module _ (l : ℕ) where
       v = value_of l a
 
       moved : Value
-      moved = if eqb k 4 then scaled 2 v else scaled (k / 2) (multiply l (as_value b) v)
+      moved = when eqb k 4 then scaled 2 v else scaled (k / 2) (multiply l (as_value b) v)
 
       go : (d : Bool) → anticommutes l b a.1.0 ≡ d
-          → (if not (anticommutes l b a.1.0) then v else moved) ≡ image_at d (eighth (pos k)) B a
+          → (when not (anticommutes l b a.1.0) then v else moved) ≡ image_at d (eighth (pos k)) B a
       go true e = if_false v moved (ap not e) ∙ absorb_true x B a
       go false e = if_true v moved (ap not e) ∙ (λ i. record { turns = count (sym (add4_zero a.0) i); word = a.1.0 })
 

@@ -12,7 +12,7 @@ use Rattle.pauli.specs.Word.{IsWord}
 use Rattle.pauli.specs.Letter.{letter_at, single, other, acts}
 use Rattle.pauli.specs.ProductLaws.{anticommutes_none}
 use Rattle.pauli.specs.LetterLaws.{single_word}
-use Rattle.model.specs.Lists.{if◌then◌else◌, any_of}
+use Rattle.model.specs.Lists.{when◌then◌else◌, any_of}
 use Rattle.model.specs.Words.{Value, as_value, support}
 use Rattle.model.specs.Clifford.{Images, absorb_image, absorb_images, is_held, own_images, Touched, touch, touch_all, absorb_word, image_of, letter_image}
 use Rattle.theory.specs.Cases.{by_if, on_if, if_true, if_false}
@@ -51,7 +51,7 @@ module _ (l : ℕ) where
       same : eqb (own_images l p).qubit q ≡ true → p ≡ q
       same e = unfold own_images in (eqb-true p q (unfold own_images in e))
   letter_image_own (h ∷ held) p q {c} k =
-      ap (λ (v : Value). if eqb h.qubit q then image_of c h else v) (letter_image_own held p q k)
+      ap (λ (v : Value). when eqb h.qubit q then image_of c h else v) (letter_image_own held p q k)
 
   letter_image_touch : (t : Touched) (p q : ℕ) {c : ℕ} → Letter c → letter_image l (touch l t p).held q c ≡ letter_image l t.held q c
   unfolding touch
@@ -135,8 +135,8 @@ module _ (l : ℕ) where
         go : (d : Bool) → eqb h.qubit q ≡ d
             → (any_of (λ (h : Images). eqb h.qubit q) held ≡ true → rest ≡ absorb_image l b k (letter_image l held q c))
             → (d || any_of (λ (h : Images). eqb h.qubit q) held) ≡ true
-            → (if eqb (absorb_images l b k h).qubit q then image_of c (absorb_images l b k h) else rest)
-            ≡ absorb_image l b k (if eqb h.qubit q then image_of c h else letter_image l held q c)
+            → (when eqb (absorb_images l b k h).qubit q then image_of c (absorb_images l b k h) else rest)
+            ≡ absorb_image l b k (when eqb h.qubit q then image_of c h else letter_image l held q c)
         go true d ih e =
             if_true (image_of c (absorb_images l b k h)) rest (test ∙ d) ∙ absorbed_of c h
             ∙ ap (absorb_image l b k) (sym (if_true (image_of c h) (letter_image l held q c) d))

@@ -9,7 +9,7 @@ use Rattle.std.proofs.Math.IntN.{ℤ, pos, neg_ℤ, +ℤ_idl, neg_ℤ-+ℤ, neg_
 use Rattle.store.specs.Equal.{same_list}
 use Rattle.angle.specs.Angle.{signed_angle}
 use Rattle.pauli.specs.Word.{xor_words}
-use Rattle.model.specs.Lists.{if◌then◌else◌, all_of}
+use Rattle.model.specs.Lists.{when◌then◌else◌, all_of}
 use Rattle.model.specs.Words.{word_of}
 use Rattle.model.specs.Items.{Rot}
 use Rattle.model.specs.Exchange.{Term, signed_sum, all_sums_zero, term_of, terms_with, terms, generators_commute}
@@ -32,8 +32,8 @@ times_minus : (v : ℤ) → negsuc 0 *ℤ v ≡ neg_ℤ v
 times_minus v = pred_ℤ-*ℤ (pos 0) v ∙ ap (λ t. t +ℤ neg_ℤ v) (zero-*ℤ v) ∙ +ℤ_idl (neg_ℤ v)
 
 opposite_amount : (q : Quarter) → odd q ≡ true → (b : Bool) → b ≡ is_one q → (v : ℤ)
-    → (if b then v else neg_ℤ v) ≡ neg_ℤ (toℤ (σ q) *ℤ v)
-unfolding if◌then◌else◌
+    → (when b then v else neg_ℤ v) ≡ neg_ℤ (toℤ (σ q) *ℤ v)
+unfolding when◌then◌else◌
 opposite_amount q0 h b e v = cc
 opposite_amount q1 h true e v = sym (ap neg_ℤ (times_minus v) ∙ neg_ℤ-neg_ℤ v)
 opposite_amount q1 h false e v = cc
@@ -128,7 +128,7 @@ module _ (H : Setting) (l : ℕ) (axes : List (List ℕ)) (A : AxisWords H l axe
 
   sum_lists : (c d : ℕ) → c < length axes → d < length axes → {ts : List Term} {M : List (ℤ × W)} → Lists ts M
       → signed_sum (xor_words (word_of axes c) (word_of axes d)) ts ≡ neg_ℤ (weight H (A.word c ⊕ A.word d) M)
-  unfolding signed_sum weight if◌then◌else◌
+  unfolding signed_sum weight when◌then◌else◌
   sum_lists c d hc hd nothing = refl
   sum_lists c d hc hd (commuting {m} {ts} {M} e h) =
       let w = weight H (A.word c ⊕ A.word d) M in
@@ -143,7 +143,7 @@ module _ (H : Setting) (l : ℕ) (axes : List (List ℕ)) (A : AxisWords H l axe
       w = xor_words (word_of axes c) (word_of axes d)
 
       go : (x : Bool) → same_list t.word w ≡ x → (y : Dec (m.1 ≡ P)) → signed_sum w ts ≡ neg_ℤ (weight H P M)
-          → (if x then t.amount +ℤ signed_sum w ts else signed_sum w ts) ≡ neg_ℤ (pick y (m.0 +ℤ weight H P M) (weight H P M))
+          → (when x then t.amount +ℤ signed_sum w ts else signed_sum w ts) ≡ neg_ℤ (pick y (m.0 +ℤ weight H P M) (weight H P M))
       go true p (yes q) ih = ap₂ ◌+ℤ◌ g ih ∙ sym (neg_ℤ-+ℤ m.0 (weight H P M))
       go true p (no q) ih = absurd (q (f ∙ A.same_product a b c d ha hb hc hd (rw e at p)))
       go false p (yes q) ih =

@@ -5,7 +5,7 @@ use Rattle.std.proofs.Common.{◌∙◌, subst, suc-mul, add-one, arith, length-
 use Rattle.store.specs.Part.{put, part_length}
 use Rattle.store.specs.Wide.{wide_at}
 use Rattle.pauli.specs.SupportLaws.{SupportWithin}
-use Rattle.model.specs.Lists.{if◌then◌else◌, member, any_of, all_of}
+use Rattle.model.specs.Lists.{when◌then◌else◌, member, any_of, all_of}
 use Rattle.model.specs.Words.{id_of, Store, intern}
 use Rattle.theory.specs.Cases.{if_true, if_false}
 use Rattle.theory.specs.Ids.{intern_old}
@@ -53,11 +53,11 @@ axis_of st st' w = record { id = id_of st.axes w; axes = length st'.axes; peak =
 
 -- refused where the sum that `intern` tests exceeds the limit
 unfoldable pub intern_answer : ℕ → ℕ → ℕ → Store → List ℕ → Interned
-intern_answer l others limit st w = if nat_lt limit (intern l others st w).peak then Full else Axis (axis_of st (intern l others st w) w)
+intern_answer l others limit st w = when nat_lt limit (intern l others st w).peak then Full else Axis (axis_of st (intern l others st w) w)
 
 -- the word store by the answer: a new word is laid behind the n axes
 unfoldable pub laid_by : Interned → ℕ → ℕ → List ℕ → List ℕ → List ℕ
-laid_by (Axis a) l n s w = if nat_lt a.id n then s else put s (axis_place l n) w
+laid_by (Axis a) l n s w = when nat_lt a.id n then s else put s (axis_place l n) w
 laid_by Full l n s w = s
 
 -- answer and word store are the model's

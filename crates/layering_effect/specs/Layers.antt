@@ -5,7 +5,7 @@ use Rattle.std.proofs.Common.{sym, ◌∙◌}
 use Rattle.std.proofs.Math.Bool.{true, false}
 use mathlib.Core.List.{List, [], ◌∷◌, ◌++◌, map, flatten, append_assoc, append-nil}
 use Prim.Native.Nat.{ℕ, zero, suc, ◌+◌, ◌<◌}
-use Rattle.model.specs.Lists.{if◌then◌else◌, keep, is_empty}
+use Rattle.model.specs.Lists.{when◌then◌else◌, keep, is_empty}
 use Rattle.model.specs.Items.{Rot, is_nonzero, drop_zero_rots}
 use Rattle.model.specs.Layering.{merge_into, merges_in, Layers, Shift, commutes_with_all, join_layer, join_layers, move_rotation, move_rotations}
 use Rattle.model.specs.Layering.{sweep_from}
@@ -230,7 +230,7 @@ module _ (H : Setting) (l : ℕ) (axes : List (List ℕ)) (A : AxisWords H l axe
 
   -- an empty layer has no rotations
   flatten_kept : (ls : List (List Rot)) → flatten (keep (λ layer. not (is_empty layer)) ls) ≡ flatten ls
-  unfolding keep flatten is_empty if◌then◌else◌
+  unfolding keep flatten is_empty when◌then◌else◌
   flatten_kept [] = refl
   flatten_kept ([] ∷ ls) = flatten_kept ls
   flatten_kept ((r ∷ layer) ∷ ls) = ap (λ (ys : List Rot). r ∷ (layer ++ ys)) (flatten_kept ls)

@@ -6,7 +6,7 @@ use Rattle.std.proofs.Math.Option.{some}
 use mathlib.Core.List.{List, [], ◌∷◌, ◌++◌}
 use Rattle.std.proofs.Math.Decide.{ℕ_discrete}
 use Rattle.std.proofs.lemmas.Bool.{eqb-false}
-use Rattle.model.specs.Lists.{if◌then◌else◌, is_empty}
+use Rattle.model.specs.Lists.{when◌then◌else◌, is_empty}
 use Rattle.model.specs.Program.{minus_one}
 use Rattle.model.specs.Listing.{columns, digits_from, numeral, unpadded, decimal, column}
 use Rattle.theory.specs.Cases.{by_if, on_if, if_true, if_false}
@@ -91,7 +91,7 @@ numeral_is b (c ∷ rest) h (inr k) =
     ∙ if_false _ _ (ap (λ (x : Bool). x && eqb c 49 && is_empty rest) (ne_eqb b 45 (λ e. omega arith)))
 
 unpadded_blanks : (m : ℕ) (d : List ℕ) → unpadded (replicate m 32 ++ d) ≡ unpadded d
-unfolding unpadded if◌then◌else◌
+unfolding unpadded when◌then◌else◌
 unpadded_blanks zero d = refl
 unpadded_blanks (suc m) d = unpadded_blanks m d
 
@@ -114,7 +114,7 @@ decimal_read n h =
     zero_or (no e) b = inr (b.above (omega arith))
 
 minus_read : (n : ℕ) → n ≡ minus_one → numeral (unpadded (column n)) ≡ some n
-unfolding column if◌then◌else◌
+unfolding column when◌then◌else◌
 minus_read n e =
     ap (λ (d : List ℕ). numeral (unpadded (padded d))) (if_true _ (decimal columns n []) (eq-eqb n minus_one e))
     ∙ (unfold numeral unpadded is_empty in (ap some (sym e)))

@@ -4,7 +4,7 @@ use Rattle.std.proofs.Common.{sym, ap, ap₂, ◌∙◌, arith, length-append, t
 use Rattle.std.proofs.Math.Option
 use Rattle.std.proofs.Math.Option.{Option, none, some, bind, get_or}
 use mathlib.Core.List.{List, [], ◌∷◌, ◌++◌, map, flatten, append-nil, append_assoc}
-use Rattle.model.specs.Lists.{if◌then◌else◌, is_empty}
+use Rattle.model.specs.Lists.{when◌then◌else◌, is_empty}
 use Rattle.model.specs.Listing.{columns, lines_from, numeral, unpadded, fields_from, column, line_of, text_of}
 use Rattle.theory.specs.Cases.{if_false}
 use Rattle.theory.specs.Every.{Every, every_append}
@@ -19,7 +19,7 @@ abbrev columns_of : List ℕ → List ℕ
 columns_of ns = flatten (map column ns)
 
 fields_read : (ns : List ℕ) → Every InColumn ns → fields_from (length ns) (columns_of ns) ≡ some ns
-unfolding fields_from flatten is_empty if◌then◌else◌ bind
+unfolding fields_from flatten is_empty when◌then◌else◌ bind
 fields_read [] h = refl
 fields_read (n ∷ ns) h =
     let rest = columns_of ns in
@@ -52,16 +52,16 @@ columns_bytes (n ∷ ns) = every_append NoNewline (column n) (columns_of ns) (co
 
 one_line : (done : List (List ℕ)) (line bs rest : List ℕ) → Every NoNewline bs
     → lines_from done line (bs ++ (10 ∷ rest)) ≡ lines_from (done ++ ((line ++ bs) ∷ [])) [] rest
-unfolding lines_from if◌then◌else◌
+unfolding lines_from when◌then◌else◌
 one_line done line [] rest h = ap (λ (t : List ℕ). lines_from (done ++ (t ∷ [])) [] rest) (sym (append-nil line))
 one_line done line (b ∷ bs) rest h =
-    ap (λ (t : Bool). lines_from (if t then done ++ (line ∷ []) else done) (if t then [] else line ++ (b ∷ [])) (bs ++ (10 ∷ rest))) h.0
+    ap (λ (t : Bool). lines_from (when t then done ++ (line ∷ []) else done) (when t then [] else line ++ (b ∷ [])) (bs ++ (10 ∷ rest))) h.0
     ∙ one_line done (line ++ (b ∷ [])) bs rest h.1
     ∙ ap (λ (t : List ℕ). lines_from (done ++ (t ∷ [])) [] rest) (append_assoc line (b ∷ []) bs)
 
 lines_read : (done ls : List (List ℕ)) → lines_from done [] (text_of ls) ≡ some (done ++ map columns_of ls)
 unfolding text_of flatten line_of
-lines_read done [] = unfold lines_from is_empty if◌then◌else◌ in (ap some (sym (append-nil done)))
+lines_read done [] = unfold lines_from is_empty when◌then◌else◌ in (ap some (sym (append-nil done)))
 lines_read done (x ∷ ls) =
     ap (lines_from done []) (append_assoc (columns_of x) (10 ∷ []) (text_of ls))
     ∙ one_line done [] (columns_of x) (text_of ls) (columns_bytes x)

@@ -4,7 +4,7 @@ use Rattle.std.proofs.Common.{sym, ap, ap₂, ◌∙◌, pow-suc, add-one, arith
 use Rattle.std.proofs.Math.Option.{none, some}
 use Rattle.std.proofs.Math.Nat.{pow-le-pow_right}
 use Rattle.std.proofs.lemmas.Bool.{lt-leb}
-use Rattle.model.specs.Lists.{if◌then◌else◌, is_empty}
+use Rattle.model.specs.Lists.{when◌then◌else◌, is_empty}
 use Rattle.model.specs.Program.{minus_one}
 use Rattle.model.specs.Listing.{columns, digits_from, numeral, unpadded}
 use Rattle.theory.specs.Cases.{if_true, if_false, neither}
@@ -120,13 +120,13 @@ empty_two b c [] = refl
 empty_two b c (d ∷ f) = sym (ne_eqb (length (b ∷ c ∷ d ∷ f)) 2 (λ e. omega arith))
 
 numeral_long : (f : List ℕ) → (length f ≡ 0 → ⊥) → (length f ≡ 1 → ⊥)
-    → numeral f ≡ (if eqb (get_or f 0 0) 48 then none else
-    if eqb (get_or f 0 0) 45 && eqb (get_or f 1 0) 49 && eqb (length f) 2 then some minus_one else digits_from 0 f)
+    → numeral f ≡ (when eqb (get_or f 0 0) 48 then none else
+    when eqb (get_or f 0 0) 45 && eqb (get_or f 1 0) 49 && eqb (length f) 2 then some minus_one else digits_from 0 f)
 unfolding numeral
 numeral_long [] n m = absurd (n refl)
 numeral_long (b ∷ []) n m = absurd (m refl)
 numeral_long (b ∷ c ∷ f) n m =
-    ap (λ (t : Bool). if eqb b 48 then none else if eqb b 45 && eqb c 49 && t then some minus_one else digits_from 0 (b ∷ c ∷ f))
+    ap (λ (t : Bool). when eqb b 48 then none else when eqb b 45 && eqb c 49 && t then some minus_one else digits_from 0 (b ∷ c ∷ f))
     (empty_two b c f)
 
 module _ (f : List ℕ) (n : length f ≡ 0 → ⊥) (m : length f ≡ 1 → ⊥) where

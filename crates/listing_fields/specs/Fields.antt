@@ -5,7 +5,7 @@ use Rattle.std.proofs.Common.{ap₂, ◌∙◌, append_assoc, append-nil, arith,
 use Rattle.std.proofs.Math.Option.{Option, none, some, bind, map}
 use Rattle.std.proofs.Math.Numerals.{add-one}
 use Rattle.std.proofs.Math.ListN.{take}
-use Rattle.model.specs.Lists.{if◌then◌else◌, is_empty}
+use Rattle.model.specs.Lists.{when◌then◌else◌, is_empty}
 use Rattle.model.specs.Listing.{columns, numeral, unpadded, fields_from}
 use Rattle.theory.specs.Cases.{on_if, if_false}
 use Rattle.listing_fields.specs.Views.{values_of}
@@ -94,7 +94,7 @@ module _ (n i : ℕ) (line to : List ℕ) (x : Option (List ℕ)) (e : length li
 
 pub fields_end : (n i : ℕ) (line to : List ℕ) (x : Option (List ℕ)) → length line ≡ n * columns → length to ≡ n → i ≡ n
     → x ≡ fields_after n line i to → some to ≡ x
-unfolding fields_after fields_left fields_from is_empty if◌then◌else◌
+unfolding fields_after fields_left fields_from is_empty when◌then◌else◌
 fields_end n i line to x e f l p =
     sym (p ∙ ap (λ (k : ℕ). map (λ vs. take k to ++ vs) (fields_from (n - k) (drop (k * columns) line))) l
     ∙ ap₂ (λ (k : ℕ) (t : List ℕ). map (λ vs. take n to ++ vs) (fields_from k t)) (let q : n - n ≡ 0 = omega arith in q)

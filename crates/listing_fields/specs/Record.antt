@@ -5,7 +5,7 @@ use Rattle.std.proofs.Common.{◌∙◌, arith, eq-eqb, ne_eqb}
 use Rattle.std.proofs.Math.Bool.{true, false, not}
 use Rattle.std.proofs.Math.Option.{Option, none, some, bind}
 use Rattle.std.proofs.Math.ListN.{take}
-use Rattle.model.specs.Lists.{if◌then◌else◌, any_of}
+use Rattle.model.specs.Lists.{when◌then◌else◌, any_of}
 use Rattle.model.specs.Program.{field_of, minus_one}
 use Rattle.model.specs.Listing.{plain_line, operation_line, to16, fits16}
 use Rattle.theory.specs.Cases.{if_true, if_false}
@@ -39,13 +39,13 @@ module _ (r : List ℕ) (x : Option (List ℕ)) (read : some r ≡ x) where
   plain_is true e = sym (if_true none (some r) (sym e)) ∙ ap (λ y. bind y plain_line) read
   plain_is false e = sym (if_false none (some r) (sym e)) ∙ ap (λ y. bind y plain_line) read
 
-  operation_is : operation_line r ≡ (if any_of (eqb minus_one) (take 4 r) then none else outcome_and_target r)
-  unfolding operation_line outcome_and_target if◌then◌else◌
+  operation_is : operation_line r ≡ (when any_of (eqb minus_one) (take 4 r) then none else outcome_and_target r)
+  unfolding operation_line outcome_and_target when◌then◌else◌
   operation_is = go (any_of (eqb minus_one) (take 4 r))
     where
-      go : (b : Bool) → (if b || not (fits16 (field_of r 4)) || not (fits16 (field_of r 5)) ||
+      go : (b : Bool) → (when b || not (fits16 (field_of r 4)) || not (fits16 (field_of r 5)) ||
           (eqb (field_of r 4) minus_one && not (eqb (field_of r 0) 1)) then none
-          else some (take 4 r ++ (to16 (field_of r 4) ∷ to16 (field_of r 5) ∷ []))) ≡ (if b then none else outcome_and_target r)
+          else some (take 4 r ++ (to16 (field_of r 4) ∷ to16 (field_of r 5) ∷ []))) ≡ (when b then none else outcome_and_target r)
       go true = refl
       go false = refl
 

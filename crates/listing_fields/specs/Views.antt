@@ -1,7 +1,7 @@
 -- What an answer about a field or a line says in the model's words. Assumes nothing.
 use Rattle.std.specs.Prelude.{Bool, true, false, not, ◌&&◌, ◌||◌, List, [], ◌∷◌, ◌++◌, ℕ, eqb, take}
 use Rattle.std.proofs.Math.Option.{Option, none, some}
-use Rattle.model.specs.Lists.{if◌then◌else◌}
+use Rattle.model.specs.Lists.{when◌then◌else◌}
 use Rattle.model.specs.Program.{field_of, minus_one}
 use Rattle.model.specs.Listing.{plain_line, operation_line, to16, fits16}
 use Rattle.listing_fields.specs.declared.Number.{Number}
@@ -25,5 +25,5 @@ fits_of false = plain_line
 -- an operation's fields with outcome and target as the records have them: what `operationLine` does where the first four are not -1
 unfoldable pub outcome_and_target : List ℕ → Option (List ℕ)
 outcome_and_target r =
-    if not (fits16 (field_of r 4)) || not (fits16 (field_of r 5)) || (eqb (field_of r 4) minus_one && not (eqb (field_of r 0) 1)) then none
+    when not (fits16 (field_of r 4)) || not (fits16 (field_of r 5)) || (eqb (field_of r 4) minus_one && not (eqb (field_of r 0) 1)) then none
     else some (take 4 r ++ (to16 (field_of r 4) ∷ to16 (field_of r 5) ∷ []))

@@ -6,7 +6,7 @@ use mathlib.Core.List.{List, [], ◌∷◌, ◌++◌, map, flatten, append-nil, 
 use Prim.Native.Nat.{ℕ, zero, suc, ◌+◌, ◌*◌}
 use native.Mathlib.Omega.{arith}
 use Rattle.pauli.specs.Letter.{letter_at, other}
-use Rattle.model.specs.Lists.{if◌then◌else◌, numbers_from}
+use Rattle.model.specs.Lists.{when◌then◌else◌, numbers_from}
 use Rattle.model.specs.Words.{support}
 use Rattle.model.specs.Listing.{line_of, text_of}
 use Rattle.theory.specs.Cases.{if_true, if_false}
@@ -19,7 +19,7 @@ letter_line l id w q = id ∷ q ∷ letter_at l w q ∷ []
 
 -- a qubit's line, where its letter is not I
 unfoldable pub letter_text : ℕ → ℕ → List ℕ → ℕ → List ℕ
-letter_text l id w q = if eqb (letter_at l w q) 0 then [] else line_of (letter_line l id w q)
+letter_text l id w q = when eqb (letter_at l w q) 0 then [] else line_of (letter_line l id w q)
 
 pub no_letter : (l id : ℕ) (w : List ℕ) (q : ℕ) {c : ℕ} → c ≡ letter_at l w q → c ≡ 0 → [] ≡ letter_text l id w q
 unfolding letter_text

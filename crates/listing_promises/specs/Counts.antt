@@ -10,7 +10,7 @@ use Rattle.std.proofs.Math.Nat.{suc-mul}
 use native.Mathlib.Omega.{arith}
 use Rattle.std.proofs.Math.ListN.{length}
 use Rattle.pauli.specs.Word.{width}
-use Rattle.model.specs.Lists.{if◌then◌else◌}
+use Rattle.model.specs.Lists.{when◌then◌else◌}
 use Rattle.model.specs.Program.{Program}
 use Rattle.model.specs.Interface.{defaults_at}
 use Rattle.model.specs.declared.Lazy.TheVariants.{Off}
@@ -35,7 +35,7 @@ pub record Few (n : ℕ) (p : Pass) : Type 0 where
 
 -- without a named place the rules stay
 rules_stay : (r : Rules) (i : Item) → r.lazy ≡ Off → rules_after r i ≡ r
-unfolding after_barrier if◌then◌else◌
+unfolding after_barrier when◌then◌else◌
 rules_stay r (rotation t) e = refl
 rules_stay r (barrier o a s) e = rw e refl
 
@@ -72,7 +72,7 @@ module _ (l : ℕ) (r : Rules) (once : r.absorption ≡ at_once) (unnamed : r.la
   unfolding take_rotation absorb
   taken_few merging n p a k h =
       by_if (Few (suc n)) _ _ _ (record { merges = omega (arith, h.merges); absorbed = omega (arith, h.absorbed) })
-      (placed_few n p a k (if merging then p.last a else nowhere) h)
+      (placed_few n p a k (when merging then p.last a else nowhere) h)
 
   item_few : (merging : Bool) (n : ℕ) (p : Pass) (i : Item) → Few n p → Few (suc n) (stream_item l r merging p i)
   unfolding stream_item put_out with_last
@@ -142,7 +142,7 @@ pub record DefaultCounts (n : ℕ) (w : Work) : Type 0 where
 
 pub default_counts : (limit : ℕ) (p : Program) → Fine p
     → DefaultCounts (length p.operations) (end_of (rules_of (defaults_at limit)) 8 p)
-unfolding rules_of absorption_of end_of passes merge_rounds if◌then◌else◌
+unfolding rules_of absorption_of end_of passes merge_rounds when◌then◌else◌
 default_counts limit p fine =
     let l = width p.qubits in
     let r = rules_of (defaults_at limit) in

@@ -8,7 +8,7 @@ use Rattle.pauli.specs.Word.{width}
 use Rattle.pauli.specs.Letter.{letter_at}
 use Rattle.model.specs.declared.Answer.{Answer}
 use Rattle.model.specs.declared.Answer.TheVariants.{Accepted}
-use Rattle.model.specs.Lists.{if◌then◌else◌, count_of, is_odd}
+use Rattle.model.specs.Lists.{when◌then◌else◌, count_of, is_odd}
 use Rattle.model.specs.Interface.{number_of}
 use Rattle.model.specs.Program.{field_of, largest_outcome, no_outcome, minus_one, Kind, rotate, measure, conditional, Operation, PauliRef, Program, program_of}
 use Rattle.model.specs.Rules.{Rules, rules_of}
@@ -132,7 +132,7 @@ items_t : (ops : List Operation) (is : List Item) → Every (ItemStands ops) is
 unfolding result_t_count count_of
 items_t ops [] h = refl
 items_t ops (i ∷ is) h =
-    ap₂ (λ (b : Bool) (n : ℕ). (if b then 1 else 0) + n) (item_t ops i h.0) (items_t ops is h.1)
+    ap₂ (λ (b : Bool) (n : ℕ). (when b then 1 else 0) + n) (item_t ops i h.0) (items_t ops is h.1)
 
 -- ---- rows
 

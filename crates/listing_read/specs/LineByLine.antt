@@ -8,7 +8,7 @@ use mathlib.Core.List.{List, [], ◌∷◌, ◌++◌}
 use Rattle.std.proofs.Math.Dec.{eqb, leb, leb-suc-suc}
 use Rattle.std.proofs.Math.ListN.{length-drop}
 use Rattle.std.proofs.lemmas.Bool.{lt-leb, eqb-false}
-use Rattle.model.specs.Lists.{if◌then◌else◌, is_empty}
+use Rattle.model.specs.Lists.{when◌then◌else◌, is_empty}
 use Rattle.model.specs.Program.{field_of}
 use Rattle.model.specs.Listing.{fields_from, slice_of, plain_line, operation_line, Read, read_of, too_large, too_much, read_body, read_lines, read}
 use Rattle.theory.specs.Cases.{on_if, by_if, if_true, if_false}
@@ -25,7 +25,7 @@ bind_none (some a) = refl
 module _ {X : Type 0} (n : ℕ) (fits : List ℕ → Option (List ℕ)) where
   -- the first k lines as records, if there are as many; `more` is what is made of the others
   unfoldable sliced : ℕ → (List ℕ → List (List ℕ) → Option X) → List (List ℕ) → Option X
-  sliced k more ls = if leb k (length ls) then bind (slice_of n fits (take k ls)) (λ vs. more vs (drop k ls)) else none
+  sliced k more ls = when leb k (length ls) then bind (slice_of n fits (take k ls)) (λ vs. more vs (drop k ls)) else none
 
   module _ (k : ℕ) (more : List ℕ → List (List ℕ) → Option X) where
     sliced_some : (ls : List (List ℕ)) → k ≤ length ls → sliced k more ls ≡ bind (slice_of n fits (take k ls)) (λ vs. more vs (drop k ls))
@@ -66,7 +66,7 @@ module _ {X : Type 0} (n : ℕ) (fits : List ℕ → Option (List ℕ)) where
     good_line line v e none = refl
     good_line line v e (some ls) =
         rw (e, leb-suc-suc k (length ls))
-        (ap (λ (y : Option X). if leb k (length ls) then y else none) (put_first v (drop k ls) (slice_of n fits (take k ls))))
+        (ap (λ (y : Option X). when leb k (length ls) then y else none) (put_first v (drop k ls) (slice_of n fits (take k ls))))
 
 -- what is made of k records and of the lines behind them
 abbrev after : {X : Type 0} → (List ℕ → List (List ℕ) → Option X) → Taken → Option X
@@ -120,7 +120,7 @@ no_cut c e = let z : ◌≡◌ {A = ℕ} 0 1 = cc in omega arith
 
 module _ (h : List ℕ) where
   unfoldable ended : List ℕ → List ℕ → List ℕ → List (List ℕ) → Option Read
-  ended ns os rs ls = if is_empty ls then some (read_of h ns os rs) else none
+  ended ns os rs ls = when is_empty ls then some (read_of h ns os rs) else none
 
   unfoldable rows_of : List ℕ → List ℕ → List (List ℕ) → Option Read
   rows_of ns os = sliced 4 plain_line (2 * field_of h 0) (ended ns os)
@@ -132,12 +132,12 @@ module _ (h : List ℕ) where
   nodes_of = sliced 5 plain_line (field_of h 1) operations_of
 
   some_line : (ns os rs line : List ℕ) (x : Option (List (List ℕ))) → bind (map (λ ls. line ∷ ls) x) (ended ns os rs) ≡ none
-  unfolding bind ended is_empty if◌then◌else◌
+  unfolding bind ended is_empty when◌then◌else◌
   some_line ns os rs line none = refl
   some_line ns os rs line (some ls) = refl
 
   nothing_left : (s : List ℕ) (ns os rs : List ℕ) → bind (lines_in s) (ended ns os rs) ≡ closed h ns os (taken rs s)
-  unfolding bind ended is_empty if◌then◌else◌
+  unfolding bind ended is_empty when◌then◌else◌
   nothing_left s ns os rs = ap (λ x. bind x (ended ns os rs)) (lines_are s) ∙ go s (cut_line s) refl
     where
       go : (t : List ℕ) (x : Option Cut) → cut_line t ≡ x → bind (when_cut t x) (ended ns os rs) ≡ closed h ns os (taken rs t)
@@ -188,7 +188,7 @@ module _ (h : List ℕ) where
       (λ os. row_lines ns os (drop (field_of h 1 + field_of h 2) ls)))
 
   last_rows : (ns os : List ℕ) (x : Option (List ℕ)) → bind x (λ rs. ended ns os rs []) ≡ map (read_of h ns os) x
-  unfolding bind ended is_empty if◌then◌else◌
+  unfolding bind ended is_empty when◌then◌else◌
   last_rows ns os none = refl
   last_rows ns os (some rs) = refl
 
@@ -225,7 +225,7 @@ module _ (h : List ℕ) where
       (drop-drop (field_of h 2) (field_of h 1) ls)
 
   left_over : (ns os rs : List ℕ) (t : List (List ℕ)) → (length t ≡ 0 → ⊥) → ended ns os rs t ≡ none
-  unfolding ended is_empty if◌then◌else◌
+  unfolding ended is_empty when◌then◌else◌
   left_over ns os rs [] f = absurd (f refl)
   left_over ns os rs (x ∷ t) f = refl
 
@@ -246,11 +246,11 @@ module _ (h : List ℕ) where
       sliced_none 4 plain_line (2 * field_of h 0) (ended ns os) (drop (field_of h 2) (drop (field_of h 1) ls)) (λ c rs.
       left_over ns os rs _ (λ z. ne (counted ls a b c z)))))
 
-  body_is : (ls : List (List ℕ)) → read_body ls h ≡ (if too_large h then none else nodes_of ls)
-  unfolding read_body too_much if◌then◌else◌
+  body_is : (ls : List (List ℕ)) → read_body ls h ≡ (when too_large h then none else nodes_of ls)
+  unfolding read_body too_much when◌then◌else◌
   body_is ls = go (too_large h) (eqb (length ls) total) refl
     where
-      go : (a b : Bool) → eqb (length ls) total ≡ b → (if a || not b then none else body ls) ≡ (if a then none else nodes_of ls)
+      go : (a b : Bool) → eqb (length ls) total ≡ b → (when a || not b then none else body ls) ≡ (when a then none else nodes_of ls)
       go true b e = refl
       go false true e = sym (exact ls (eqb-true (length ls) total e))
       go false false e = sym (other ls (eqb-false (length ls) total e))
@@ -265,14 +265,14 @@ heads line none (some h) e = refl
 heads line (some ls) none e = rw e refl
 heads line (some ls) (some h) e = rw e refl
 
-bodies : (h : List ℕ) (x : Option (List (List ℕ))) → bind x (λ ls. read_body ls h) ≡ bind x (λ ls. if too_large h then none else nodes_of h ls)
+bodies : (h : List ℕ) (x : Option (List (List ℕ))) → bind x (λ ls. read_body ls h) ≡ bind x (λ ls. when too_large h then none else nodes_of h ls)
 unfolding bind
 bodies h none = refl
 bodies h (some ls) = body_is h ls
 
-header_allowed : (h s : List ℕ) (b : Bool) → bind (lines_in s) (λ ls. if b then none else nodes_of h ls)
-    ≡ bind (map (λ r. taken r s) (if b then none else some h)) (λ a. records_of a.values a.rest)
-unfolding bind if◌then◌else◌
+header_allowed : (h s : List ℕ) (b : Bool) → bind (lines_in s) (λ ls. when b then none else nodes_of h ls)
+    ≡ bind (map (λ r. taken r s) (when b then none else some h)) (λ a. records_of a.values a.rest)
+unfolding bind when◌then◌else◌
 header_allowed h s true = bind_none (lines_in s)
 header_allowed h s false = body_bytes h s
 

@@ -2,7 +2,7 @@
 use Rattle.std.specs.Prelude.{◌≡◌, refl, Bool, true, false, List, ℕ, suc, ◌+◌, ◌-◌, ◌*◌, ◌≤◌, ◌<◌, eqb}
 use Rattle.std.proofs.Common.{sym, ap, ◌∙◌, subst, lt_of_lt_of_le, arith, eq-eqb, ne_eqb}
 use Rattle.model.specs.declared.Options.{Options}
-use Rattle.model.specs.Lists.{if◌then◌else◌}
+use Rattle.model.specs.Lists.{when◌then◌else◌}
 use Rattle.model.specs.Program.{Program}
 use Rattle.model.specs.Rules.{rules_of}
 use Rattle.model.specs.Rounds.{Work, stream_pass, layering_pass, litinski_from, litinski_rounds}
@@ -65,11 +65,11 @@ StreamCall z o st ws xs r ws₁ xs₁ =
 
 -- ".. ends the work if nothing merged .."
 one_more : (z : Shape) (o : Options) (k : ℕ) (w : Work) (b : Bool) → eqb (layers_of z w).merges w.merges ≡ b
-    → rounds_of z o (k + 1) w ≡ (if b then layers_of z w else rounds_of z o k (stream_of z o (layers_of z w)))
+    → rounds_of z o (k + 1) w ≡ (when b then layers_of z w else rounds_of z o k (stream_of z o (layers_of z w)))
 unfolding litinski_from
 one_more z o k w b e =
     ap (λ (n : ℕ). rounds_of z o n w) (let f : k + 1 ≡ suc k = omega arith in f)
-    ∙ ap (λ (x : Bool). if x then layers_of z w else rounds_of z o k (stream_of z o (layers_of z w))) e
+    ∙ ap (λ (x : Bool). when x then layers_of z w else rounds_of z o k (stream_of z o (layers_of z w))) e
 
 module _ {z : Shape} {o : Options} {st₀ : State} {ws₀ xs₀ ws xs : List ℕ} {st : State} {j : ℕ}
     (b : RoundsDone z o st₀ ws₀ xs₀ ws xs st j) (more : j < o.rounds) where
@@ -91,7 +91,7 @@ module _ {z : Shape} {o : Options} {st₀ : State} {ws₀ xs₀ ws xs : List ℕ
 
       -- what all rounds come to, by the code's test on states
       rest : (x : Bool) → eqb s.merges st.merges ≡ x → rounds_of z o o.rounds w
-          ≡ (if x then layers_of z here.now else rounds_of z o (o.rounds - (j + 1)) (stream_of z o (layers_of z here.now)))
+          ≡ (when x then layers_of z here.now else rounds_of z o (o.rounds - (j + 1)) (stream_of z o (layers_of z here.now)))
       rest x e =
           here.same
           ∙ ap (λ (k : ℕ). rounds_of z o k here.now) (let f : o.rounds - j ≡ (o.rounds - (j + 1)) + 1 = omega arith in f)

@@ -6,7 +6,7 @@ use Rattle.std.proofs.Math.Bool.{◌||◌}
 use mathlib.Core.List.{List}
 use Rattle.store.specs.Part.{put}
 use Rattle.store.specs.Row.{row, row_length}
-use Rattle.model.specs.Lists.{if◌then◌else◌, all_of, any_of, member}
+use Rattle.model.specs.Lists.{when◌then◌else◌, all_of, any_of, member}
 use Rattle.model.specs.Program.{Node, identity, letter, product, PauliRef, Operation, program_of}
 use Rattle.model.specs.Results.{no_operation}
 use Rattle.model.specs.Value.{mentions_at, mentions}
@@ -162,5 +162,5 @@ module _ {z : Shape} {ns os s a t : List ℕ} (h : RelevancePre z ns os s) (mark
     pub relevance_is : Relevance z ns os s x
     relevance_is = record {
       only = all_only;
-      tells = λ rs n b. last.tells n b ∙ ap (λ (y : Bool). if y then 1 else 0) (same rs n);
+      tells = λ rs n b. last.tells n b ∙ ap (λ (y : Bool). when y then 1 else 0) (same rs n);
     }

@@ -5,7 +5,7 @@ use Rattle.std.proofs.Common.{◌∙◌, arith}
 use Rattle.std.proofs.Math.Bool.{false, not, ◌||◌, or-false}
 use Rattle.std.proofs.Math.Decide.{ℕ_discrete}
 use Rattle.store.specs.Row.{row, Written}
-use Rattle.model.specs.Lists.{if◌then◌else◌, any_of, member}
+use Rattle.model.specs.Lists.{when◌then◌else◌, any_of, member}
 use Rattle.model.specs.Program.{Node, identity, letter, product}
 use Rattle.model.specs.Value.{node_mentions, mentions_at, mentions}
 use Rattle.theory.specs.Lists.{any_append}
@@ -37,7 +37,7 @@ mentions_acted nodes acts n = any_of (is_set acts) (mentions_at (mentions nodes)
 -- row RELEVANT tells it of the first n of count nodes
 pub record RelevantNodes (ns : List ℕ) (u count n : ℕ) (s t : List ℕ) : Type 0 where
   pub only : Only (relevant_row ∷ []) u s t
-  pub tells : (m : ℕ) → m < n → get_or (row t u relevant_row) m 0 ≡ (if mentions_acted (nodes_in count ns) (row s u acted) m then 1 else 0)
+  pub tells : (m : ℕ) → m < n → get_or (row t u relevant_row) m 0 ≡ (when mentions_acted (nodes_in count ns) (row s u acted) m then 1 else 0)
 
 -- ---- one node
 
@@ -68,13 +68,13 @@ module _ (ns : List ℕ) (n : ℕ) (acts known : List ℕ) (x : NodeRecord) (her
 
 -- ---- the loop
 
-flag_set : (xs : List ℕ) (i : ℕ) (b : Bool) → get_or xs i 0 ≡ (if b then 1 else 0) → is_set xs i ≡ b
-unfolding if◌then◌else◌
+flag_set : (xs : List ℕ) (i : ℕ) (b : Bool) → get_or xs i 0 ≡ (when b then 1 else 0) → is_set xs i ≡ b
+unfolding when◌then◌else◌
 flag_set xs i true e = set_nonzero xs i (λ z. omega arith)
 flag_set xs i false e = set_zero xs i e
 
 module _ (nodes : List Node) (o : Ordered 0 nodes) (n : ℕ) (h : n < length nodes) (acts known : List ℕ)
-    (tells : (m : ℕ) → m < n → get_or known m 0 ≡ (if mentions_acted nodes acts m then 1 else 0)) where
+    (tells : (m : ℕ) → m < n → get_or known m 0 ≡ (when mentions_acted nodes acts m then 1 else 0)) where
   own : (node : Node) → get_or nodes n identity ≡ node
       → mentions_acted nodes acts n ≡ any_of (is_set acts) (node_mentions (mentions_at (mentions nodes)) node)
   unfolding mentions_acted
@@ -101,7 +101,7 @@ pub relevant_none : (ns : List ℕ) (u count : ℕ) (s : List ℕ) → RelevantN
 relevant_none ns u count s = record { only = only_none (relevant_row ∷ []) u s; tells = λ m b. absurd (omega arith) }
 
 pub relevant_next : {ns : List ℕ} {u count n : ℕ} {s t w : List ℕ} → NodesPre ns u count s → n < count → RelevantNodes ns u count n s t
-    → (b : Bool) → b ≡ relevant_here ns u n t → (v : ℕ) → v ≡ (if b then 1 else 0)
+    → (b : Bool) → b ≡ relevant_here ns u n t → (v : ℕ) → v ≡ (when b then 1 else 0)
     → Written t u relevant_row n v w → RelevantNodes ns u count (n + 1) s w
 relevant_next {ns} {u} {count} {n} {s} {t} {w} h l r b e v bit y =
     record { only = only_then r.only (only_written long (omega arith) inside y); tells = λ m k. go m k (ℕ_discrete m n) }
@@ -125,9 +125,9 @@ relevant_next {ns} {u} {count} {n} {s} {t} {w} h l r b e v bit y =
         r.tells (node_here ns n) (node_here_lem count ns n l) (children_here h.nodes n l)
 
     go : (m : ℕ) → m < n + 1 → Dec (m ≡ n)
-        → get_or (row w u relevant_row) m 0 ≡ (if mentions_acted (nodes_in count ns) (row s u acted) m then 1 else 0)
+        → get_or (row w u relevant_row) m 0 ≡ (when mentions_acted (nodes_in count ns) (row s u acted) m then 1 else 0)
     go m k (yes i) =
-        rw i (entry_own t u relevant_row n v changed long (omega arith) inside ∙ bit ∙ ap (λ (x : Bool). if x then 1 else 0) truth)
+        rw i (entry_own t u relevant_row n v changed long (omega arith) inside ∙ bit ∙ ap (λ (x : Bool). when x then 1 else 0) truth)
     go m k (no i) = entry_other t u relevant_row n v changed m i ∙ r.tells m (omega arith)
 
 pub relevant_all : {ns : List ℕ} {u count n : ℕ} {s t : List ℕ} → count ≡ n → RelevantNodes ns u count n s t

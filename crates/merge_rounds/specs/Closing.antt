@@ -5,7 +5,7 @@ use Rattle.std.proofs.lemmas.Bool.{not-true, not-false}
 use Rattle.model.specs.declared.Lazy.{Lazy}
 use Rattle.model.specs.declared.Lazy.TheVariants.{Off, On, From}
 use Rattle.model.specs.declared.Options.{Options}
-use Rattle.model.specs.Lists.{if◌then◌else◌, any_of}
+use Rattle.model.specs.Lists.{when◌then◌else◌, any_of}
 use Rattle.model.specs.Program.{Program}
 use Rattle.model.specs.Rules.{rules_of, absorption_of, is_on}
 use Rattle.model.specs.Items.{is_even_rotation}
@@ -25,11 +25,11 @@ use Rattle.merge_rounds.specs.AllRounds.{all_rounds}
 -- ---- one more stream
 
 off_frame : (o : Options) → o.clifford_to_frame ≡ false → is_on (rules_of o).absorption ≡ false
-unfolding rules_of absorption_of if◌then◌else◌
+unfolding rules_of absorption_of when◌then◌else◌
 off_frame o e = rw e refl
 
 on_frame : (o : Options) → o.clifford_to_frame ≡ true → is_on (rules_of o).absorption ≡ true
-unfolding rules_of absorption_of if◌then◌else◌
+unfolding rules_of absorption_of when◌then◌else◌
 on_frame o e = go o.lazy_cliffords refl
   where
     go : (s : Lazy) → o.lazy_cliffords ≡ s → is_on (absorption_of o) ≡ true
@@ -42,11 +42,11 @@ abbrev pub closed : Shape → Options → Work → Work
 closed z o w = closing_stream z.l (rules_of o) o.rounds w
 
 closing_by : (z : Shape) (o : Options) (w : Work) (b : Bool) → (o.rounds ≡ 0 → ⊥)
-    → is_on (rules_of o).absorption && any_of is_even_rotation w.items ≡ b → closed z o w ≡ (if b then stream_of z o w else w)
+    → is_on (rules_of o).absorption && any_of is_even_rotation w.items ≡ b → closed z o w ≡ (when b then stream_of z o w else w)
 unfolding closing_stream
 closing_by z o w b n e =
     ap (λ (k : ℕ). closing_stream z.l (rules_of o) k w) (let f : o.rounds ≡ suc (o.rounds - 1) = omega (arith, n) in f)
-    ∙ ap (λ (x : Bool). if x then stream_of z o w else w) e
+    ∙ ap (λ (x : Bool). when x then stream_of z o w else w) e
 
 module _ (o : Options) {z : Shape} {i : ℕ} {st : State} {ws xs : List ℕ} {p : Program} {w : Work} (r : RunAt z i st ws xs p w) where
   -- no stream

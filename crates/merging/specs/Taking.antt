@@ -5,7 +5,7 @@ use Rattle.std.proofs.Common.{sym, ◌∙◌, subst, inl, inr, arith, lt-ltb, le
 use Rattle.std.proofs.lemmas.Bool.{false≢true, eqb-false}
 use mathlib.Core.List.{List}
 use Rattle.std.proofs.Math.ListN.{length}
-use Rattle.model.specs.Lists.{if◌then◌else◌, all_of, any_of, member, is_even, is_odd}
+use Rattle.model.specs.Lists.{when◌then◌else◌, all_of, any_of, member, is_even, is_odd}
 use Rattle.model.specs.declared.Absorption.{Absorption}
 use Rattle.model.specs.Rules.{is_at_once, Rules}
 use Rattle.model.specs.Items.{rot, Item, rotation, is_clifford, angle_of}
@@ -281,7 +281,7 @@ pub record LastPre (z : Shape) (id : ℕ) (xs : List ℕ) : Type 0 where
   pub axis : id < z.u
 
 unfoldable pub last_said : Shape → Bool → ℕ → ℕ → List ℕ → ℕ
-last_said z merging start id xs = if merging then if ltb start (last_in z xs id) then last_in z xs id else 0 else 0
+last_said z merging start id xs = when merging then when ltb start (last_in z xs id) then last_in z xs id else 0 else 0
 
 pub last_off : (z : Shape) {merging : Bool} (start id : ℕ) (xs : List ℕ) → merging ≡ false → 0 ≡ last_said z merging start id xs
 unfolding last_said
@@ -304,11 +304,11 @@ place_named (suc j) = at j
 
 place_is : {z : Shape} {m : Absorption} {st : State} {ws xs : List ℕ} {p : Pass} (merging : Bool) (id : ℕ) → HoldsPass z m st ws xs p
     → id < z.u
-    → (if merging then p.last id else nowhere) ≡ place_named (last_said z merging st.start id xs)
+    → (when merging then p.last id else nowhere) ≡ place_named (last_said z merging st.start id xs)
 unfolding last_said place_named
 place_is {z} {st = st} {xs = xs} {p} merging id h b = go merging refl
   where
-    inner : (t : Bool) → ltb st.start (last_in z xs id) ≡ t → p.last id ≡ place_named (if t then last_in z xs id else 0)
+    inner : (t : Bool) → ltb st.start (last_in z xs id) ≡ t → p.last id ≡ place_named (when t then last_in z xs id else 0)
     inner true e =
         let less = ltb-true st.start (last_in z xs id) e in
         let one : suc (last_in z xs id - 1) ≡ last_in z xs id = omega arith in
@@ -318,11 +318,11 @@ place_is {z} {st = st} {xs = xs} {p} merging id h b = go merging refl
         h.last_is id b ∙ place_none st.start (last_in z xs id) (ltb-false st.start (last_in z xs id) e)
         ∙ ap place_named (sym (if_false {A = ℕ} (last_in z xs id) 0 refl))
 
-    go : (t : Bool) → merging ≡ t → (if t then p.last id else nowhere)
-        ≡ place_named (if t then if ltb st.start (last_in z xs id) then last_in z xs id else 0 else 0)
+    go : (t : Bool) → merging ≡ t → (when t then p.last id else nowhere)
+        ≡ place_named (when t then when ltb st.start (last_in z xs id) then last_in z xs id else 0 else 0)
     go true e = if_true _ _ refl ∙ inner (ltb st.start (last_in z xs id)) refl ∙ ap place_named (sym (if_true {A = ℕ} _ 0 refl))
     go false e =
-        if_false _ _ refl ∙ ap place_named (sym (if_false {A = ℕ} (if ltb st.start (last_in z xs id) then last_in z xs id else 0) 0 refl))
+        if_false _ _ refl ∙ ap place_named (sym (if_false {A = ℕ} (when ltb st.start (last_in z xs id) then last_in z xs id else 0) 0 refl))
 
 -- a place that is named lies in the segment
 named_in : (z : Shape) (merging : Bool) (start id : ℕ) (xs : List ℕ) {v : ℕ} → v ≡ last_said z merging start id xs → (v ≡ 0 → ⊥)
@@ -330,7 +330,7 @@ named_in : (z : Shape) (merging : Bool) (start id : ℕ) (xs : List ℕ) {v : �
 unfolding last_said
 named_in z merging start id xs {v} e n = go merging refl
   where
-    inner : (t : Bool) → ltb start (last_in z xs id) ≡ t → v ≡ (if t then last_in z xs id else 0) → (start < v) × (v ≡ last_in z xs id)
+    inner : (t : Bool) → ltb start (last_in z xs id) ≡ t → v ≡ (when t then last_in z xs id else 0) → (start < v) × (v ≡ last_in z xs id)
     inner true f g = let w = g ∙ if_true {A = ℕ} (last_in z xs id) 0 refl in (omega (arith, ltb-true start (last_in z xs id) f), w)
     inner false f g = absurd (n (g ∙ if_false {A = ℕ} (last_in z xs id) 0 refl))
 

@@ -9,7 +9,7 @@ use Rattle.model.specs.declared.Answer.{Answer}
 use Rattle.model.specs.declared.Answer.TheVariants.{Accepted, CountOutside, OptionOutside, SliceShort, BadNode, BadQubit, BadReference}
 use Rattle.model.specs.declared.Answer.TheVariants.{BadOperation}
 use Rattle.model.specs.declared.Answer.TheVariants.{BadOutcome, BadPlace}
-use Rattle.model.specs.Lists.{if◌then◌else◌, member}
+use Rattle.model.specs.Lists.{when◌then◌else◌, member}
 use Rattle.model.specs.Interface.{accepts}
 use Rattle.model.specs.Program.{field_of, largest_outcome, no_outcome, Job, node_records, operation_records, row_records}
 
@@ -22,7 +22,7 @@ pub record Lent : Type 0 where
 
 -- the first refusal stands
 unfoldable pub and_then : Answer → Answer → Answer
-and_then a b = if accepts a then b else a
+and_then a b = when accepts a then b else a
 
 -- "1 a count is outside the domain": "0 to 4,096 qubits; 1 to 65,535 nodes; 0 to 65,535 operations"
 unfoldable pub bad_count : Counts → Bool
@@ -68,8 +68,8 @@ bad_product i r = ltb 3 (field_of r 2) || ltb 3 (field_of r 4) || leb i (field_o
 unfoldable pub check_node_of_kind : ℕ → ℕ → ℕ → List ℕ → Answer
 check_node_of_kind q i zero r = Accepted
 check_node_of_kind q zero (suc k) r = BadNode
-check_node_of_kind q (suc i) (suc zero) r = if ltb 3 (field_of r 2) then BadNode else if leb q (field_of r 1) then BadQubit else Accepted
-check_node_of_kind q (suc i) (suc (suc zero)) r = if bad_product (suc i) r then BadNode else Accepted
+check_node_of_kind q (suc i) (suc zero) r = when ltb 3 (field_of r 2) then BadNode else when leb q (field_of r 1) then BadQubit else Accepted
+check_node_of_kind q (suc i) (suc (suc zero)) r = when bad_product (suc i) r then BadNode else Accepted
 check_node_of_kind q (suc i) (suc (suc (suc k))) r = BadNode
 
 unfoldable pub check_node : ℕ → ℕ → List ℕ → Answer
@@ -98,13 +98,13 @@ bad_outcome seen r = (eqb (field_of r 0) 2 && member (field_of r 4) seen) || (eq
 
 -- the outcomes measured so far
 unfoldable pub measured : List ℕ → List ℕ → List ℕ
-measured seen r = if eqb (field_of r 0) 2 then field_of r 4 ∷ seen else seen
+measured seen r = when eqb (field_of r 0) 2 then field_of r 4 ∷ seen else seen
 
 unfoldable pub check_operation : ℕ → List ℕ → List ℕ → Answer
 check_operation n seen r =
-    if bad_operation r then BadOperation else
-    if bad_reference n (field_of r 1) (field_of r 2) then BadReference else
-    if bad_outcome seen r then BadOutcome else Accepted
+    when bad_operation r then BadOperation else
+    when bad_reference n (field_of r 1) (field_of r 2) then BadReference else
+    when bad_outcome seen r then BadOutcome else Accepted
 
 -- "Then each operation"
 unfoldable pub check_operations : ℕ → List ℕ → List (List ℕ) → Answer
@@ -117,7 +117,7 @@ unfoldable pub bad_row : ℕ → ℕ → List ℕ → Bool
 bad_row n i r = not (eqb (field_of r 0) (i / 2)) || not (eqb (field_of r 1) (i % 2)) || bad_reference n (field_of r 2) (field_of r 3)
 
 unfoldable pub check_row : ℕ → ℕ → List ℕ → Answer
-check_row n i r = if bad_row n i r then BadReference else Accepted
+check_row n i r = when bad_row n i r then BadReference else Accepted
 
 unfoldable pub check_rows : ℕ → ℕ → List (List ℕ) → Answer
 check_rows n i [] = Accepted
@@ -137,7 +137,7 @@ bad_place n rs = leb (length rs) n || eqb (field_of (get_or rs n []) 0) 1
 unfoldable pub check_place : Lazy → List (List ℕ) → Answer
 check_place Off rs = Accepted
 check_place On rs = Accepted
-check_place (From n) rs = if bad_place n rs then BadPlace else Accepted
+check_place (From n) rs = when bad_place n rs then BadPlace else Accepted
 
 -- 16 is "tested last among the checks"
 unfoldable pub check_records : Lazy → Job → Answer
@@ -145,7 +145,7 @@ check_records setting j = and_then (check_program j) (check_place setting (opera
 
 unfoldable pub checking : Options → Job → Lent → Answer
 checking o j s =
-    if bad_count j.counts then CountOutside else
-    if bad_option o then OptionOutside else
-    if program_short j || lent_short j.counts s o.max_packed_words then SliceShort else
+    when bad_count j.counts then CountOutside else
+    when bad_option o then OptionOutside else
+    when program_short j || lent_short j.counts s o.max_packed_words then SliceShort else
     check_records o.lazy_cliffords j

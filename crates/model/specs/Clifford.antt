@@ -2,7 +2,7 @@
 use Rattle.std.specs.Prelude.{Bool, not, List, [], ◌∷◌, ◌++◌, map, ℕ, zero, suc, ◌+◌, ◌*◌, ◌/◌, eqb, length}
 use Rattle.pauli.specs.Word.{anticommutes}
 use Rattle.pauli.specs.Letter.{letter_at, single}
-use Rattle.model.specs.Lists.{if◌then◌else◌, any_of}
+use Rattle.model.specs.Lists.{when◌then◌else◌, any_of}
 use Rattle.model.specs.Words.{Value, as_value, scaled, multiply, support, Store, tested}
 use Rattle.pauli.specs.Word.{identity as identity_word}
 
@@ -19,8 +19,8 @@ pub record Images : Type 0 where
 -- (-2 is 6 here, and i^3 is -i)
 unfoldable pub absorb_image : ℕ → List ℕ → ℕ → Value → Value
 absorb_image l b k p =
-    if not (anticommutes l b p.word) then p else
-    if eqb k 4 then scaled 2 p else scaled (k / 2) (multiply l (as_value b) p)
+    when not (anticommutes l b p.word) then p else
+    when eqb k 4 then scaled 2 p else scaled (k / 2) (multiply l (as_value b) p)
 
 unfoldable pub absorb_images : ℕ → List ℕ → ℕ → Images → Images
 absorb_images l b k h = record {
@@ -51,7 +51,7 @@ pub record Touched : Type 0 where
 -- "A first touch of a qubit counts 6 × l words": "stored + images + 6l at a touch" is tested
 unfoldable pub touch : ℕ → Touched → ℕ → Touched
 touch l t q =
-    if is_held q t.held then t else
+    when is_held q t.held then t else
     record {
       store = tested (length t.store.axes * (2 * l) + image_words l t.held + 6 * l) t.store;
       held = t.held ++ (own_images l q ∷ []);
@@ -79,7 +79,7 @@ image_of (suc (suc (suc c))) h = h.z
 -- the image of letter c on qubit q: itself, where the qubit is not held
 unfoldable pub letter_image : ℕ → List Images → ℕ → ℕ → Value
 letter_image l [] q c = as_value (single l q c)
-letter_image l (h ∷ held) q c = if eqb h.qubit q then image_of c h else letter_image l held q c
+letter_image l (h ∷ held) q c = when eqb h.qubit q then image_of c h else letter_image l held q c
 
 -- the images of the word's letters on the qubits qs, multiplied behind v
 unfoldable pub multiply_images : ℕ → List Images → List ℕ → Value → List ℕ → Value

@@ -5,7 +5,7 @@ use Rattle.store.specs.Equal.{same_list}
 use Rattle.angle.specs.Angle.{signed_angle}
 use Rattle.pauli.specs.Word.{xor_words, phase}
 use Rattle.model.specs.declared.ExchangeRules.{ExchangeRules}
-use Rattle.model.specs.Lists.{if◌then◌else◌, all_of, any_of, is_empty, is_odd}
+use Rattle.model.specs.Lists.{when◌then◌else◌, all_of, any_of, is_empty, is_odd}
 use Rattle.model.specs.Words.{word_of, anticommute}
 use Rattle.model.specs.Items.{Rot, rot, t_count_rots, drop_zero_rots, Segment}
 
@@ -19,7 +19,7 @@ pub record Term : Type 0 where
 -- the terms of one product word, added up
 unfoldable pub signed_sum : List ℕ → List Term → ℤ
 signed_sum w [] = pos 0
-signed_sum w (t ∷ ts) = let rest = signed_sum w ts in if same_list t.word w then t.amount +ℤ rest else rest
+signed_sum w (t ∷ ts) = let rest = signed_sum w ts in when same_list t.word w then t.amount +ℤ rest else rest
 
 abbrev pub is_zero : ℤ → Bool
 is_zero (pos k) = eqb k 0
@@ -35,11 +35,11 @@ module _ (l : ℕ) (axes : List (List ℕ)) where
       let p = word_of axes a.axis in
       let q = word_of axes b.axis in
       let v = signed_angle a.angle *ℤ signed_angle b.angle in
-      record { word = xor_words p q; amount = if eqb (phase l p q) 1 then v else neg_ℤ v }
+      record { word = xor_words p q; amount = when eqb (phase l p q) 1 then v else neg_ℤ v }
 
   unfoldable pub terms_with : Rot → List Rot → List Term
   terms_with a [] = []
-  terms_with a (b ∷ bs) = let rest = terms_with a bs in if anticommute l axes a.axis b.axis then term_of a b ∷ rest else rest
+  terms_with a (b ∷ bs) = let rest = terms_with a bs in when anticommute l axes a.axis b.axis then term_of a b ∷ rest else rest
 
   -- "over anticommuting pairs"
   unfoldable pub terms : List Rot → List Rot → List Term
@@ -63,16 +63,16 @@ module _ (l : ℕ) (axes : List (List ℕ)) where
   merge_back [] r = none
   merge_back (d ∷ before) r =
       let further = map (λ ds. d ∷ ds) (merge_back before r) in
-      if eqb d.angle 0 then further else
-      if eqb d.axis r.axis then some (rot d.axis ((d.angle + r.angle) % 8) ∷ before) else
-      if anticommute l axes d.axis r.axis then none else further
+      when eqb d.angle 0 then further else
+      when eqb d.axis r.axis then some (rot d.axis ((d.angle + r.angle) % 8) ∷ before) else
+      when anticommute l axes d.axis r.axis then none else further
 
   unfoldable pub merge_locally : List Rot → List Rot → List Rot
   merge_locally done [] = reverse done
   merge_locally done (r ∷ rest) = merge_locally (get_or (merge_back done r) (r ∷ done)) rest
 
   unfoldable pub improves : Bool → List Rot → List Rot → Option (List Rot)
-  improves eager trial old = let new = drop_zero_rots (merge_locally [] trial) in if is_better eager new old then some new else none
+  improves eager trial old = let new = drop_zero_rots (merge_locally [] trial) in when is_better eager new old then some new else none
 
 -- ---- `try_triple`: the first is cut to a suffix, the third to a prefix
 
@@ -137,7 +137,7 @@ module _ (l : ℕ) (axes : List (List ℕ)) (rules : ExchangeRules) where
   -- groups g and h exchange, which gives the trial
   unfoldable pub try_exchange : Triple → List Rot → List Rot → List Rot → Option Swap
   try_exchange t g h trial =
-      if generators_commute l axes g h then map (swap_of t) (improves l axes rules.eager trial (t.first ++ (t.second ++ t.third))) else none
+      when generators_commute l axes g h then map (swap_of t) (improves l axes rules.eager trial (t.first ++ (t.second ++ t.third))) else none
 
   unfoldable pub first_with_second : Triple → Option Swap
   first_with_second t = try_exchange t t.first t.second (t.second ++ (t.first ++ t.third))
@@ -151,14 +151,14 @@ module _ (l : ℕ) (axes : List (List ℕ)) (rules : ExchangeRules) where
   try_exchanges t =
       let first = first_with_second t in
       let second = second_with_third t in
-      if rules.second_first then or_else second first else or_else first second
+      when rules.second_first then or_else second first else or_else first second
 
   -- the first of the cuts of a triple that gives a swap
   unfoldable pub try_triple : List Triple → Option Swap
   try_triple [] = none
   try_triple (t ∷ rest) =
       let later = try_triple rest in
-      or_else (if share_axis rules.eager t.first t.third then try_exchanges t else none) later
+      or_else (when share_axis rules.eager t.first t.third then try_exchanges t else none) later
 
 -- ---- `run_end`: the longest run of at most `window` rotations that commute with one another
 
@@ -172,7 +172,7 @@ module _ (l : ℕ) (axes : List (List ℕ)) (window : ℕ) where
   run_end_from taken [] = record { run = taken; rest = [] }
   run_end_from taken (r ∷ rest) =
       let longer = run_end_from (taken ++ (r ∷ [])) rest in
-      if ltb (length taken) window && all_of (λ (x : Rot). not (anticommute l axes x.axis r.axis)) taken then longer else
+      when ltb (length taken) window && all_of (λ (x : Rot). not (anticommute l axes x.axis r.axis)) taken then longer else
       record { run = taken; rest = r ∷ rest }
 
   unfoldable pub run_end : List Rot → RunEnd
@@ -209,7 +209,7 @@ module _ (l : ℕ) (axes : List (List ℕ)) (rules : ExchangeRules) where
 
   unfoldable pub swaps_from : ℕ → Swapping → Swapping
   swaps_from zero s = s
-  swaps_from (suc fuel) s = let next = swaps_from fuel (swap_step s) in if no_triple l axes rules.window s.rest then s else next
+  swaps_from (suc fuel) s = let next = swaps_from fuel (swap_step s) in when no_triple l axes rules.window s.rest then s else next
 
   -- each start is beyond the one before, so as many starts as rotations are enough
   unfoldable pub swaps : List Rot → Segment

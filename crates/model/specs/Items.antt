@@ -1,6 +1,6 @@
 -- 01, "words.rs" and "optimize.rs": rotations and barriers during a rewriting, their T-count, and segments. Assumes nothing.
 use Rattle.std.specs.Prelude.{Bool, true, false, not, ◌&&◌, List, [], ◌∷◌, ◌++◌, map, ℕ, ◌+◌, ◌-◌, ◌%◌, eqb}
-use Rattle.model.specs.Lists.{if◌then◌else◌, keep, sum_of, is_even}
+use Rattle.model.specs.Lists.{when◌then◌else◌, keep, sum_of, is_even}
 
 -- a rotation: an axis by its id and an angle, 0 to 7 eighths
 pub record Rot : Type 0 where
@@ -17,7 +17,7 @@ pub data Item : Type 0 where
 
 -- a sign taken into the angle: angle k about -P is angle -k about P
 unfoldable pub with_sign : ℕ → ℕ → ℕ
-with_sign sign k = if eqb sign 0 then k else (8 - k) % 8
+with_sign sign k = when eqb sign 0 then k else (8 - k) % 8
 
 -- even, and there to be absorbed
 abbrev pub is_clifford : ℕ → Bool

@@ -1,18 +1,18 @@
 -- 01, "litinski.rs": layers. Assumes nothing.
 use Rattle.std.specs.Prelude.{Bool, true, false, not, ℕ, zero, suc, ◌+◌, ◌%◌, eqb, length}
 use mathlib.Core.List.{List, [], ◌∷◌, ◌++◌, map, flatten}
-use Rattle.model.specs.Lists.{if◌then◌else◌, all_of, any_of, keep, sum_of, is_empty}
+use Rattle.model.specs.Lists.{when◌then◌else◌, all_of, any_of, keep, sum_of, is_empty}
 use Rattle.model.specs.Words.{anticommute}
 use Rattle.model.specs.Items.{Rot, rot, drop_zero_rots, Segment}
 
 -- "an equal axis merges": the first one takes r in, else r is laid at the end
 unfoldable pub merge_into : List Rot → Rot → List Rot
 merge_into [] r = r ∷ []
-merge_into (x ∷ layer) r = if eqb x.axis r.axis then rot x.axis ((x.angle + r.angle) % 8) ∷ layer else x ∷ merge_into layer r
+merge_into (x ∷ layer) r = when eqb x.axis r.axis then rot x.axis ((x.angle + r.angle) % 8) ∷ layer else x ∷ merge_into layer r
 
 -- 1 if r merges, 0 if it is laid at the end
 unfoldable pub merges_in : List Rot → Rot → ℕ
-merges_in layer r = if any_of (λ (x : Rot). eqb x.axis r.axis) layer then 1 else 0
+merges_in layer r = when any_of (λ (x : Rot). eqb x.axis r.axis) layer then 1 else 0
 
 -- the layers before, the last one, and how many rotations have merged
 pub record Layers : Type 0 where
@@ -39,7 +39,7 @@ module _ (l : ℕ) (axes : List (List ℕ)) where
   -- "A rotation joins the last layer if it commutes with all of it, else opens one"
   unfoldable pub join_layer : Layers → Rot → Layers
   join_layer s r =
-      if commutes_with_all s.layer r then
+      when commutes_with_all s.layer r then
       record { done = s.done; layer = merge_into s.layer r; merged = s.merged + merges_in s.layer r } else
       record { done = s.done ++ (s.layer ∷ []); layer = r ∷ []; merged = s.merged }
 
@@ -51,7 +51,7 @@ module _ (l : ℕ) (axes : List (List ℕ)) where
 
   unfoldable pub move_rotation : Shift → Rot → Shift
   move_rotation s r =
-      if commutes_with_all s.layer r then
+      when commutes_with_all s.layer r then
       record { layer = merge_into s.layer r; stay = s.stay; merged = s.merged + merges_in s.layer r; moved = true } else
       record { layer = s.layer; stay = s.stay ++ (r ∷ []); merged = s.merged; moved = s.moved }
 

@@ -9,7 +9,7 @@ use Rattle.model.specs.declared.Options.{Options}
 use Rattle.model.specs.declared.Answer.{Answer}
 use Rattle.model.specs.declared.Answer.TheVariants.{CountOutside, OptionOutside, NonHermitianAxis, ExpansionLimit, BadText}
 use Rattle.model.specs.declared.Counters.{Counters}
-use Rattle.model.specs.Lists.{if◌then◌else◌, any_of, is_empty}
+use Rattle.model.specs.Lists.{when◌then◌else◌, any_of, is_empty}
 use Rattle.model.specs.Interface.{number_of, accepts, defaults_at}
 use Rattle.model.specs.Program.{field_of, largest_outcome, no_outcome, minus_one, Job, Program, program_of}
 use Rattle.model.specs.Rules.{Rules, rules_of}
@@ -27,31 +27,31 @@ columns = 8
 
 -- "each line ends in one newline"
 unfoldable pub lines_from : List (List ℕ) → List ℕ → List ℕ → Option (List (List ℕ))
-lines_from done line [] = if is_empty line then some done else none
-lines_from done line (b ∷ rest) = lines_from (if eqb b 10 then done ++ (line ∷ []) else done) (if eqb b 10 then [] else line ++ (b ∷ [])) rest
+lines_from done line [] = when is_empty line then some done else none
+lines_from done line (b ∷ rest) = lines_from (when eqb b 10 then done ++ (line ∷ []) else done) (when eqb b 10 then [] else line ++ (b ∷ [])) rest
 
 unfoldable pub digits_from : ℕ → List ℕ → Option ℕ
 digits_from n [] = some n
-digits_from n (b ∷ rest) = if leb 48 b && leb b 57 then digits_from (10 * n + (b - 48)) rest else none
+digits_from n (b ∷ rest) = when leb 48 b && leb b 57 then digits_from (10 * n + (b - 48)) rest else none
 
 -- "digits without leading zeros, or -1": -1 is read as 4,294,967,295, which the digits of 8 columns do not reach
 unfoldable pub numeral : List ℕ → Option ℕ
 numeral [] = none
 numeral (b ∷ []) = digits_from 0 (b ∷ [])
 numeral (b ∷ c ∷ rest) =
-    if eqb b 48 then none else
-    if eqb b 45 && eqb c 49 && is_empty rest then some minus_one else digits_from 0 (b ∷ c ∷ rest)
+    when eqb b 48 then none else
+    when eqb b 45 && eqb c 49 && is_empty rest then some minus_one else digits_from 0 (b ∷ c ∷ rest)
 
 -- "right-justified with blanks"
 unfoldable pub unpadded : List ℕ → List ℕ
 unpadded [] = []
-unpadded (b ∷ rest) = if eqb b 32 then unpadded rest else b ∷ rest
+unpadded (b ∷ rest) = when eqb b 32 then unpadded rest else b ∷ rest
 
 -- n fields, each of `columns` bytes
 unfoldable pub fields_from : ℕ → List ℕ → Option (List ℕ)
-fields_from zero line = if is_empty line then some [] else none
+fields_from zero line = when is_empty line then some [] else none
 fields_from (suc n) line =
-    if ltb (length line) columns then none else
+    when ltb (length line) columns then none else
     bind (numeral (unpadded (take columns line))) (λ v. Option.map (λ vs. v ∷ vs) (fields_from n (drop columns line)))
 
 -- lines of n fields each, as one slice; `fits` is what else a line must be
@@ -61,10 +61,10 @@ slice_of n fits (line ∷ rest) = bind (bind (fields_from n line) fits) (λ r. O
 
 -- "-1 stands elsewhere than in a plain rotation's outcome or any target"
 unfoldable pub plain_line : List ℕ → Option (List ℕ)
-plain_line r = if any_of (eqb minus_one) r then none else some r
+plain_line r = when any_of (eqb minus_one) r then none else some r
 
 abbrev pub to16 : ℕ → ℕ
-to16 v = if eqb v minus_one then no_outcome else v
+to16 v = when eqb v minus_one then no_outcome else v
 
 abbrev pub fits16 : ℕ → Bool
 fits16 v = eqb v minus_one || leb v largest_outcome
@@ -72,7 +72,7 @@ fits16 v = eqb v minus_one || leb v largest_outcome
 -- "an outcome or target is above 65,534"
 unfoldable pub operation_line : List ℕ → Option (List ℕ)
 operation_line r =
-    if any_of (eqb minus_one) (take 4 r) || not (fits16 (field_of r 4)) || not (fits16 (field_of r 5))
+    when any_of (eqb minus_one) (take 4 r) || not (fits16 (field_of r 4)) || not (fits16 (field_of r 5))
     || (eqb (field_of r 4) minus_one && not (eqb (field_of r 0) 1)) then none
     else some (take 4 r ++ (to16 (field_of r 4) ∷ to16 (field_of r 5) ∷ []))
 
@@ -107,7 +107,7 @@ read_body lines h =
     let operations = slice_of 6 operation_line (take (field_of h 2) (drop (field_of h 1) lines)) in
     let rows = slice_of 4 plain_line (drop (field_of h 1 + field_of h 2) lines) in
     let body = bind nodes (λ ns. bind operations (λ os. Option.map (read_of h ns os) rows)) in
-    if too_much h lines then none else body
+    when too_much h lines then none else body
 
 unfoldable pub read_lines : List (List ℕ) → Option Read
 read_lines [] = none
@@ -122,12 +122,12 @@ unfoldable pub decimal : ℕ → ℕ → List ℕ → List ℕ
 decimal zero n after = after
 decimal (suc k) n after =
     let more = decimal k (n / 10) ((48 + n % 10) ∷ after) in
-    if eqb (n / 10) 0 then (48 + n % 10) ∷ after else more
+    when eqb (n / 10) 0 then (48 + n % 10) ∷ after else more
 
 -- "Fields are decimal, right-justified with blanks"
 unfoldable pub column : ℕ → List ℕ
 column n =
-    let d = (if eqb n minus_one then 45 ∷ 49 ∷ [] else decimal columns n []) in
+    let d = (when eqb n minus_one then 45 ∷ 49 ∷ [] else decimal columns n []) in
     replicate (columns - length d) 32 ++ d
 
 unfoldable pub line_of : List ℕ → List ℕ
@@ -138,7 +138,7 @@ text_of lines = flatten (map line_of lines)
 
 -- 65,535 is printed as -1 in an outcome or target
 abbrev pub from16 : ℕ → ℕ
-from16 v = if eqb v no_outcome then minus_one else v
+from16 v = when eqb v no_outcome then minus_one else v
 
 unfoldable pub result_line : List ℕ → List ℕ
 result_line r = take 4 r ++ (from16 (field_of r 4) ∷ from16 (field_of r 5) ∷ [])
@@ -171,8 +171,8 @@ run_lines r p limit whole = under_limit limit whole (refusal_lines ExpansionLimi
 -- "then as rewriting": the program's own stores are long enough, so 3 does not come up
 unfoldable pub listing_checks : Options → Job → Answer
 listing_checks o j =
-    if bad_count j.counts then CountOutside else
-    if bad_option o then OptionOutside else check_program j
+    when bad_count j.counts then CountOutside else
+    when bad_option o then OptionOutside else check_program j
 
 unfoldable pub job_lines : Read → List (List ℕ)
 job_lines t =
@@ -180,7 +180,7 @@ job_lines t =
     let p = program_of t.job in
     let next = run_lines (rules_of o) p t.limit (run (rules_of o) o.rounds p) in
     let a = listing_checks o t.job in
-    if accepts a then next else refusal_lines a
+    when accepts a then next else refusal_lines a
 
 -- "11 a line has the wrong length, .."
 unfoldable pub lines_of : Option Read → List (List ℕ)

@@ -2,10 +2,10 @@
 use Rattle.std.specs.Prelude.{Bool, true, false, not, ◌&&◌, ◌||◌, List, [], ◌∷◌, ℕ, zero, suc, ◌+◌, ◌%◌, max, eqb}
 
 -- kept shut, so that one lemma splits every choice into its two cases (theory, Cases)
-infix 2 if◌then◌else◌
-unfoldable pub if◌then◌else◌ : {A : Type 0} → Bool → A → A → A
-if true then x else y = x
-if false then x else y = y
+infix 2 when◌then◌else◌
+unfoldable pub when◌then◌else◌ : {A : Type 0} → Bool → A → A → A
+when true then x else y = x
+when false then x else y = y
 
 module _ {A : Type 0} where
   unfoldable pub all_of : (A → Bool) → List A → Bool
@@ -19,11 +19,11 @@ module _ {A : Type 0} where
   -- those that f takes
   unfoldable pub keep : (A → Bool) → List A → List A
   keep f [] = []
-  keep f (x ∷ xs) = let kept = keep f xs in if f x then x ∷ kept else kept
+  keep f (x ∷ xs) = let kept = keep f xs in when f x then x ∷ kept else kept
 
   unfoldable pub count_of : (A → Bool) → List A → ℕ
   count_of f [] = 0
-  count_of f (x ∷ xs) = (if f x then 1 else 0) + count_of f xs
+  count_of f (x ∷ xs) = (when f x then 1 else 0) + count_of f xs
 
   unfoldable pub sum_of : (A → ℕ) → List A → ℕ
   sum_of f [] = 0

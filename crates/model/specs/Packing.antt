@@ -1,7 +1,7 @@
 -- 01, "words.rs", `pack`: use counts, slots, ids, signs, tested sums. How many slots there are is seen, not which is reused. Assumes nothing.
 use Rattle.std.specs.Prelude.{Bool, true, false, ◌||◌, List, [], ◌∷◌, map, ℕ, zero, suc, ◌+◌, ◌-◌, ◌*◌, ◌%◌, eqb, ltb, length, get_or, set}
 use Rattle.pauli.specs.Word.{width}
-use Rattle.model.specs.Lists.{if◌then◌else◌, keep, numbers_from, is_odd}
+use Rattle.model.specs.Lists.{when◌then◌else◌, keep, numbers_from, is_odd}
 use Rattle.model.specs.Program.{Node, identity, letter, product, PauliRef, Program}
 use Rattle.model.specs.Words.{Value, id_of, Store, tested, intern}
 use Rattle.model.specs.Value.{value_at, values}
@@ -26,7 +26,7 @@ count_children (product a p b r) uses = one_use_more b (one_use_more a uses)
 -- users stand after what they use: from node n - 1 down to node 0
 unfoldable pub count_uses : List Node → ℕ → List ℕ → List ℕ
 count_uses nodes zero uses = uses
-count_uses nodes (suc n) uses = count_uses nodes n (if eqb (get_or uses n 0) 0 then uses else count_children (get_or nodes n identity) uses)
+count_uses nodes (suc n) uses = count_uses nodes n (when eqb (get_or uses n 0) 0 then uses else count_children (get_or nodes n identity) uses)
 
 unfoldable pub use_counts : List Node → List PauliRef → List ℕ
 use_counts nodes rs = count_uses nodes (length nodes) (map (λ n. length (roots_at n rs)) (numbers_from 0 (length nodes)))
@@ -57,7 +57,7 @@ unfoldable pub use_node : ℕ → Pack → Pack
 use_node n p = record {
   store = p.store;
   uses = one_use_less n p.uses;
-  live = p.live - (if eqb (get_or p.uses n 0) 1 then 1 else 0);
+  live = p.live - (when eqb (get_or p.uses n 0) 1 then 1 else 0);
   slots = p.slots;
   refused = p.refused;
 }
@@ -71,24 +71,24 @@ use_children (product a u b v) p = use_node b (use_node a p)
 -- "and reused": "(slots with the new one + axes) × 2l" is tested where no free slot is left
 unfoldable pub take_slot : ℕ → Pack → Pack
 take_slot l p =
-    if ltb p.live p.slots then with_slots (suc p.live) p.slots p else
+    when ltb p.live p.slots then with_slots (suc p.live) p.slots p else
     with_slots (suc p.live) (suc p.slots) (with_store (tested ((suc p.slots + length p.store.axes) * (2 * l)) p.store) p)
 
 -- "A root is stored, or refused by 9": r is a root at node n, whose value is v
 unfoldable pub pack_root : ℕ → ℕ → Value → Pack → PauliRef → Pack
 pack_root l n v p r =
-    if is_odd (v.turns + r.phase) then with_refusal p else
+    when is_odd (v.turns + r.phase) then with_refusal p else
     use_node n (with_store (intern l (p.slots * (2 * l)) p.store v.word) p)
 
 -- "in root order"
 unfoldable pub pack_roots : ℕ → ℕ → Value → Pack → List PauliRef → Pack
 pack_roots l n v p [] = p
-pack_roots l n v p (r ∷ rest) = pack_roots l n v (if p.refused then p else pack_root l n v p r) rest
+pack_roots l n v p (r ∷ rest) = pack_roots l n v (when p.refused then p else pack_root l n v p r) rest
 
 -- "at its node's turn"
 unfoldable pub pack_node : ℕ → List PauliRef → List Value → ℕ → Node → Pack → Pack
 pack_node l rs vs n node p =
-    if p.refused || eqb (get_or p.uses n 0) 0 then p else
+    when p.refused || eqb (get_or p.uses n 0) 0 then p else
     pack_roots l n (value_at vs n) (take_slot l (use_children node p)) (roots_at n rs)
 
 -- "`pack` takes used nodes by rising index": from node n on

@@ -3,7 +3,7 @@ use Rattle.std.specs.Prelude.{Bool, true, false, not, ◌&&◌, List, [], ◌∷
 use Rattle.pauli.specs.Word.{width}
 use Rattle.pauli.specs.Letter.{weight}
 use Rattle.model.specs.declared.Counters.{Counters}
-use Rattle.model.specs.Lists.{if◌then◌else◌, count_of, sum_of, is_odd}
+use Rattle.model.specs.Lists.{when◌then◌else◌, count_of, sum_of, is_odd}
 use Rattle.model.specs.Program.{field_of, no_outcome, minus_one, Kind, rotate, measure, conditional, is_measure, is_rotate, Operation, PauliRef}
 use Rattle.model.specs.Program.{Program}
 use Rattle.model.specs.Rules.{Rules}
@@ -20,7 +20,7 @@ use Rattle.model.specs.Run.{Finished}
 
 -- 1 or -1
 abbrev pub sign_field : ℕ → ℕ
-sign_field s = if eqb s 0 then 1 else minus_one
+sign_field s = when eqb s 0 then 1 else minus_one
 
 -- for an index outside the program
 unfoldable pub no_operation : Operation
@@ -67,7 +67,7 @@ row_results_from p i [] fs = []
 row_results_from p i (r ∷ rest) fs = row_record (is_root p r) i fs ∷ row_results_from p (suc i) rest (axes_left (is_root p r) fs)
 
 unfoldable pub row_results : Program → Work → List (List ℕ)
-row_results p w = row_results_from p 0 p.rows (if eqb w.absorbed 0 then [] else w.rows)
+row_results p w = row_results_from p 0 p.rows (when eqb w.absorbed 0 then [] else w.rows)
 
 -- ---- counters: "T-count counts odd rotations, plain and conditional; rotation counts, plain ones; weights, the letters other than I of both
 -- kinds"
@@ -85,17 +85,17 @@ source_rotations = count_of (λ (o : Operation). is_rotate o.kind)
 
 unfoldable pub source_weight : Program → ℕ
 source_weight p =
-    sum_of (λ (o : Operation). (if is_measure o.kind then 0 else weight (width p.qubits) (value_at (values_of p) o.node).word))
+    sum_of (λ (o : Operation). (when is_measure o.kind then 0 else weight (width p.qubits) (value_at (values_of p) o.node).word))
     p.operations
 
 unfoldable pub item_weight : Program → Work → Item → ℕ
 item_weight p w (rotation r) = weight (width p.qubits) (word_of w.store.axes r.axis)
 item_weight p w (barrier o a s) =
-    if is_measure (operation_at p.operations o).kind then 0 else weight (width p.qubits) (word_of w.store.axes a)
+    when is_measure (operation_at p.operations o).kind then 0 else weight (width p.qubits) (word_of w.store.axes a)
 
 -- "T-depths are 0 where `measure_depth` is off"
 unfoldable pub depth_of : Rules → Program → Work → ℕ
-depth_of r p w = if r.depth then t_depth (width p.qubits) w.store.axes w.items else 0
+depth_of r p w = when r.depth then t_depth (width p.qubits) w.store.axes w.items else 0
 
 unfoldable pub counters_of : Rules → Program → Finished → Counters
 counters_of r p f = record {

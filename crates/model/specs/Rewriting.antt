@@ -6,7 +6,7 @@ use Rattle.model.specs.declared.Options.{Options}
 use Rattle.model.specs.declared.Answer.{Answer}
 use Rattle.model.specs.declared.Answer.TheVariants.{Accepted, NonHermitianAxis, ExpansionLimit}
 use Rattle.model.specs.declared.Counters.{Counters}
-use Rattle.model.specs.Lists.{if◌then◌else◌}
+use Rattle.model.specs.Lists.{when◌then◌else◌}
 use Rattle.model.specs.Interface.{accepts, no_counters}
 use Rattle.model.specs.Program.{Job, Program, program_of}
 use Rattle.model.specs.Rules.{Rules, rules_of}
@@ -69,7 +69,7 @@ after_run r p s limit whole = under_limit limit whole (stopped ExpansionLimit s)
 unfoldable pub rewriting : Options → Job → Lent → Reply
 rewriting o j s =
     let next = after_run (rules_of o) (program_of j) s o.max_packed_words (run (rules_of o) o.rounds (program_of j)) in
-    if accepts (checking o j s) then next else refused (checking o j s) s
+    when accepts (checking o j s) then next else refused (checking o j s) s
 
 -- with options o, job j and slices s lent, a call of Rewriting answered a, counted c, m operations and n axes, and left the slices t: what
 -- every public form of Rewriting ensures, and what all promises about it are made of

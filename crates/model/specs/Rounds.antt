@@ -2,7 +2,7 @@
 use Rattle.std.specs.Prelude.{Bool, true, false, not, ◌&&◌, List, ℕ, zero, suc, ◌+◌, eqb, leb}
 use Rattle.model.specs.declared.Strategy.{Strategy}
 use Rattle.model.specs.declared.Strategy.TheVariants.{Merge, Litinski}
-use Rattle.model.specs.Lists.{if◌then◌else◌, any_of}
+use Rattle.model.specs.Lists.{when◌then◌else◌, any_of}
 use Rattle.model.specs.Rules.{is_on, Rules}
 use Rattle.model.specs.Words.{Store}
 use Rattle.model.specs.Packing.{SignedAxis}
@@ -41,7 +41,7 @@ stream_pass l r merging w =
 unfoldable pub exchange_pass : ℕ → Rules → Work → Work
 exchange_pass l r w =
     let s = rewrite_segments (swaps l w.store.axes r.exchange) w.items in
-    if eqb r.exchange.window 0 then w else
+    when eqb r.exchange.window 0 then w else
     record { store = w.store; items = s.items; rows = w.rows; merges = w.merges; swaps = w.swaps + s.changes; absorbed = w.absorbed }
 
 -- layers in each segment
@@ -78,7 +78,7 @@ rounds_from l r (suc k) true before w =
 -- "then one more stream if rounds > 0, absorption is on and an even rotation remains"
 unfoldable pub closing_stream : ℕ → Rules → ℕ → Work → Work
 closing_stream l r zero w = w
-closing_stream l r (suc k) w = if is_on r.absorption && any_of is_even_rotation w.items then stream_pass l r true w else w
+closing_stream l r (suc k) w = when is_on r.absorption && any_of is_even_rotation w.items then stream_pass l r true w else w
 
 unfoldable pub merge_rounds : ℕ → Rules → ℕ → Work → Work
 merge_rounds l r rounds w = closing_stream l r rounds (rounds_from l r rounds true no_round w)
@@ -90,7 +90,7 @@ litinski_from l r zero w = w
 litinski_from l r (suc k) w =
     let v = layering_pass l w in
     let next = litinski_from l r k (stream_pass l r false v) in
-    if eqb v.merges w.merges then v else next
+    when eqb v.merges w.merges then v else next
 
 -- "Rounds 0 does nothing. Otherwise a stream; then each round .."
 unfoldable pub litinski_rounds : ℕ → Rules → ℕ → Work → Work

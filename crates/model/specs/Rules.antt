@@ -7,7 +7,7 @@ use Rattle.model.specs.declared.Absorption.TheVariants.{Off as off, AtOnce as at
 use Rattle.model.specs.declared.Strategy.{Strategy}
 use Rattle.model.specs.declared.Options.{Options}
 use Rattle.model.specs.declared.ExchangeRules.{ExchangeRules}
-use Rattle.model.specs.Lists.{if◌then◌else◌}
+use Rattle.model.specs.Lists.{when◌then◌else◌}
 
 -- what becomes of even rotations: "Absorption off: even angles stay", absorbed at their turn, "Lazy: even rotations wait"
 abbrev pub is_on : Absorption → Bool
@@ -42,7 +42,7 @@ absorption_by On = lazy
 absorption_by (From n) = at_once
 
 unfoldable pub absorption_of : Options → Absorption
-absorption_of o = if o.clifford_to_frame then absorption_by o.lazy_cliffords else off
+absorption_of o = when o.clifford_to_frame then absorption_by o.lazy_cliffords else off
 
 abbrev pub exchange_rules_of : Options → ExchangeRules
 exchange_rules_of o = record {
@@ -89,4 +89,4 @@ with_absorption m r = record {
 
 -- the rules behind operation o, a barrier
 unfoldable pub after_barrier : ℕ → Rules → Rules
-after_barrier o r = with_absorption (if names r.lazy o then to_lazy r.absorption else r.absorption) r
+after_barrier o r = with_absorption (when names r.lazy o then to_lazy r.absorption else r.absorption) r

@@ -3,7 +3,7 @@ use Rattle.std.specs.Prelude.{◌||◌, List, [], ◌∷◌, ◌++◌, map, ℕ,
 use Rattle.pauli.specs.Word.{width, is_identity}
 use Rattle.model.specs.declared.Answer.{Answer}
 use Rattle.model.specs.declared.Answer.TheVariants.{Accepted, NonHermitianAxis, ExpansionLimit}
-use Rattle.model.specs.Lists.{if◌then◌else◌}
+use Rattle.model.specs.Lists.{when◌then◌else◌}
 use Rattle.model.specs.Program.{Kind, rotate, measure, conditional, Operation, Program}
 use Rattle.model.specs.Rules.{Rules}
 use Rattle.model.specs.Words.{Value, word_of}
@@ -18,7 +18,7 @@ use Rattle.model.specs.Rounds.{Work, passes}
 -- barriers."
 unfoldable pub item_of : List (List ℕ) → ℕ → Kind → SignedAxis → ℕ → List Item
 item_of axes o rotate f k =
-    if eqb (with_sign f.sign k) 0 || is_identity (word_of axes f.axis) then [] else rotation (rot f.axis (with_sign f.sign k)) ∷ []
+    when eqb (with_sign f.sign k) 0 || is_identity (word_of axes f.axis) then [] else rotation (rot f.axis (with_sign f.sign k)) ∷ []
 item_of axes o measure f k = barrier o f.axis f.sign ∷ []
 item_of axes o conditional f k = barrier o f.axis f.sign ∷ []
 
@@ -66,13 +66,13 @@ finished_run r rounds p =
 unfoldable pub run : Rules → ℕ → Program → Run
 run r rounds p =
     let whole = finished_run r rounds p in
-    if (packed p).refused then record { peak = (packed p).store.peak; ending = non_hermitian } else whole
+    when (packed p).refused then record { peak = (packed p).store.peak; ending = non_hermitian } else whole
 
 -- ---- "9 a root's total phase is odd; 10 a tested word sum exceeds the limit"
 
 -- what a run comes to under a limit: the first sum above it ends the work, whatever the ending
 abbrev pub under_limit : {A : Type 0} → ℕ → Run → A → (Ending → A) → A
-under_limit limit r exceeded ended = if ltb limit r.peak then exceeded else ended r.ending
+under_limit limit r exceeded ended = when ltb limit r.peak then exceeded else ended r.ending
 
 abbrev pub end_answer : Ending → Answer
 end_answer non_hermitian = NonHermitianAxis

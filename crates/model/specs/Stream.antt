@@ -1,7 +1,7 @@
 -- 01, "optimize.rs", Stream. Assumes nothing.
 use Rattle.std.specs.Prelude.{Bool, true, not, ◌&&◌, ◌||◌, List, [], ◌∷◌, ◌++◌, ℕ, suc, ◌+◌, ◌-◌, ◌%◌, eqb, leb, length, get_or, drop, set}
 use Rattle.pauli.specs.Word.{anticommutes}
-use Rattle.model.specs.Lists.{if◌then◌else◌, all_of, is_even}
+use Rattle.model.specs.Lists.{when◌then◌else◌, all_of, is_even}
 use Rattle.model.specs.declared.Absorption.{Absorption}
 use Rattle.model.specs.declared.Absorption.TheVariants.{Off as off, AtOnce as at_once, Lazy as lazy}
 use Rattle.model.specs.Rules.{is_at_once, Rules, after_barrier}
@@ -47,7 +47,7 @@ put_out i p = pass_with_out (p.out ++ (i ∷ [])) p
 -- ---- `last`
 
 unfoldable pub set_last : ℕ → Place → (ℕ → Place) → ℕ → Place
-set_last a place last b = if eqb b a then place else last b
+set_last a place last b = when eqb b a then place else last b
 
 abbrev pub cleared_last : ℕ → Place
 cleared_last a = nowhere
@@ -118,7 +118,7 @@ module _ (l : ℕ) where
   -- the item at place j is absorbed, if it waits and `picks` takes its axis
   unfoldable pub absorb_waiting_at : (ℕ → Bool) → Pass → ℕ → Item → Pass
   absorb_waiting_at picks p j (rotation r) =
-      if is_clifford r.angle && picks r.axis then
+      when is_clifford r.angle && picks r.axis then
       leave_zero j r.axis (absorb p r.axis r.angle) else p
   absorb_waiting_at picks p j (barrier o a s) = p
 
@@ -151,21 +151,21 @@ module _ (l : ℕ) where
   -- even if an older equal axis exists or `last` names a newer one."
   unfoldable pub merge_at : Absorption → Pass → ℕ → ℕ → ℕ → Pass
   merge_at absorption p j a k =
-      if is_at_once absorption && is_clifford k then leave_zero j a (absorb p a k) else
-      if eqb k 0 then leave_zero j a p else set_angle j a k p
+      when is_at_once absorption && is_clifford k then leave_zero j a (absorb p a k) else
+      when eqb k 0 then leave_zero j a p else set_angle j a k p
 
   -- "if `last` names place j for its axis and j can be reached, it merges there; else it is put out and `last` set"
   unfoldable pub merge_or_put_out : Rules → Pass → ℕ → ℕ → Place → Pass
   merge_or_put_out r p a k nowhere = put_out_rotation p a k
   merge_or_put_out r p a k (at j) =
-      if can_reach l r.lookback p.store.axes p.out j a then
+      when can_reach l r.lookback p.store.axes p.out j a then
       merge_at r.absorption (count_merge p) j a ((angle_at p.out j + k) % 8) else put_out_rotation p a k
 
   -- "An even rotation is absorbed. Otherwise .." A stream that does not merge does not look at `last`
   unfoldable pub take_rotation : Rules → Bool → Pass → ℕ → ℕ → Pass
   take_rotation r merging p a k =
-      if is_at_once r.absorption && is_even k then absorb p a k else
-      merge_or_put_out r p a k (if merging then p.last a else nowhere)
+      when is_at_once r.absorption && is_even k then absorb p a k else
+      merge_or_put_out r p a k (when merging then p.last a else nowhere)
 
   -- ---- the stream
 
@@ -191,7 +191,7 @@ module _ (l : ℕ) where
       carry_rows_from c.pass (done ++ (record { axis = c.axis; sign = (c.turns + f.sign) % 4 } ∷ [])) rest
 
   unfoldable pub carry_rows : Pass → List SignedAxis → Rowed
-  carry_rows p rows = if eqb p.absorbed 0 then record { pass = p; rows = rows } else carry_rows_from p [] rows
+  carry_rows p rows = when eqb p.absorbed 0 then record { pass = p; rows = rows } else carry_rows_from p [] rows
 
 -- a pass begins with F the identity
 unfoldable pub begin : Store → Pass

@@ -4,7 +4,7 @@ use mathlib.Core.List.{List, [], ◌∷◌, ◌++◌, map, flatten}
 use Rattle.std.specs.Int.Bits.{bit_or}
 use Rattle.store.specs.Equal.{same_list}
 use Rattle.pauli.specs.Word.{x_word, z_word, xor_words, phase, anticommutes}
-use Rattle.model.specs.Lists.{if◌then◌else◌, numbers_from, is_odd}
+use Rattle.model.specs.Lists.{when◌then◌else◌, numbers_from, is_odd}
 
 -- ---- values
 
@@ -33,7 +33,7 @@ multiply l p q = record {
 unfoldable pub set_bits : ℕ → ℕ → ℕ → List ℕ
 set_bits zero q n = []
 set_bits (suc k) q zero = []
-set_bits (suc k) q (suc n) = let rest = set_bits k (suc q) (suc n / 2) in if is_odd (suc n) then q ∷ rest else rest
+set_bits (suc k) q (suc n) = let rest = set_bits k (suc q) (suc n / 2) in when is_odd (suc n) then q ∷ rest else rest
 
 -- "qubit q is bit q mod 64 of word q div 64": the x-word and the z-word of each place together
 unfoldable pub support : ℕ → List ℕ → List ℕ
@@ -44,7 +44,7 @@ support l w = flatten (map (λ j. set_bits 64 (64 * j) (bit_or (x_word w j) (z_w
 -- a word's id is its first place among the axes; for a word that is not stored, the id that it would get
 unfoldable pub id_of : List (List ℕ) → List ℕ → ℕ
 id_of [] w = 0
-id_of (a ∷ axes) w = if same_list a w then 0 else suc (id_of axes w)
+id_of (a ∷ axes) w = when same_list a w then 0 else suc (id_of axes w)
 
 abbrev pub word_of : List (List ℕ) → ℕ → List ℕ
 word_of axes a = get_or axes a []
@@ -65,5 +65,5 @@ tested sum st = record { axes = st.axes; peak = max st.peak sum }
 -- "stored + 2l + all slot words (packing) or images (a pass)" is tested. "A word already stored is never refused."
 unfoldable pub intern : ℕ → ℕ → Store → List ℕ → Store
 intern l others st w =
-    if ltb (id_of st.axes w) (length st.axes) then st else
+    when ltb (id_of st.axes w) (length st.axes) then st else
     record { axes = st.axes ++ (w ∷ []); peak = max st.peak (length st.axes * (2 * l) + 2 * l + others) }

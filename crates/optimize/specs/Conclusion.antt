@@ -9,7 +9,7 @@ use Rattle.std.proofs.Math.ListN.{length}
 use Rattle.model.specs.declared.Options.{Options}
 use Rattle.model.specs.declared.Answer.{Answer}
 use Rattle.model.specs.declared.Answer.TheVariants.{Accepted, NonHermitianAxis, ExpansionLimit}
-use Rattle.model.specs.Lists.{if◌then◌else◌}
+use Rattle.model.specs.Lists.{when◌then◌else◌}
 use Rattle.model.specs.Program.{Program}
 use Rattle.model.specs.Rules.{Rules, rules_of}
 use Rattle.model.specs.Run.{Run, Ending, non_hermitian, finished, end_answer, answer_of}
@@ -75,7 +75,7 @@ reply_same : (z : Shape) (o : Options) (ns os rs : List ℕ) {ws xs vs ys : List
 unfolding after_run
 reply_same z o ns os rs to rt e =
     let whole = run_in z o ns os rs in
-    ap₂ (λ (a b : Reply). if ltb z.limit whole.peak then a else b) (stopped_same ExpansionLimit to rt e)
+    ap₂ (λ (a b : Reply). when ltb z.limit whole.peak then a else b) (stopped_same ExpansionLimit to rt e)
     (ending_same (rules_of o) (program_in z ns os rs) to rt whole.ending e)
 
 -- ---- an accepted run

@@ -1,7 +1,7 @@
 -- What packing demands and leaves: the model's `packed`, read through views. Assumes nothing.
 use Rattle.std.specs.Prelude.{◌≡◌, List, ◌∷◌, ◌++◌, map, ℕ, ◌+◌, ◌*◌, get_or}
 use Rattle.store.specs.Row.{row}
-use Rattle.model.specs.Lists.{if◌then◌else◌, numbers_from}
+use Rattle.model.specs.Lists.{when◌then◌else◌, numbers_from}
 use Rattle.model.specs.Program.{PauliRef, Program}
 use Rattle.model.specs.Roots.{is_root, operation_root}
 use Rattle.model.specs.Packing.{packed, values_of, SignedAxis, signed_axis}
@@ -34,7 +34,7 @@ signs_in z xs = map (sign_at z xs) (numbers_from 0 (z.operations + 2 * z.qubits)
 
 -- a frame row that is no root has none
 unfoldable pub row_sign : Program → PauliRef → SignedAxis
-row_sign p r = if is_root p r then signed_axis (packed p).store.axes (values_of p) r else record { axis = no_axis; sign = 0 }
+row_sign p r = when is_root p r then signed_axis (packed p).store.axes (values_of p) r else record { axis = no_axis; sign = 0 }
 
 -- in the model: operations, then frame rows
 unfoldable pub signs_of : Program → List SignedAxis

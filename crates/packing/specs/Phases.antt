@@ -2,7 +2,7 @@
 use Rattle.std.specs.Prelude.{◌≡◌, List, ℕ, ◌+◌, ◌-◌, ◌*◌, ◌≤◌, ◌<◌, ltb, length}
 use Rattle.std.proofs.Math.Path.{sym, ap}
 use Rattle.std.proofs.Common.{◌∙◌, lt-ltb, le-ltb}
-use Rattle.model.specs.Lists.{if◌then◌else◌}
+use Rattle.model.specs.Lists.{when◌then◌else◌}
 use Rattle.theory.specs.Cases.{if_true, if_false}
 use Rattle.records.specs.declared.OperationRecord.{OperationRecord}
 use Rattle.records.specs.declared.RowRecord.{RowRecord}
@@ -15,7 +15,7 @@ pub record PhasePre (count : ℕ) (os rs : List ℕ) (j : ℕ) : Type 0 where
 
 -- its phase
 unfoldable pub phase_in : ℕ → List ℕ → List ℕ → ℕ → ℕ
-phase_in count os rs j = if ltb j count then (operation_record os j).phase else (row_record rs (j - count)).phase
+phase_in count os rs j = when ltb j count then (operation_record os j).phase else (row_record rs (j - count)).phase
 
 -- what the code answers, from the record that it read
 module _ (count : ℕ) (os rs : List ℕ) (j : ℕ) where

@@ -11,7 +11,7 @@ use Rattle.std.proofs.Math.ListN.{length, get_or, set}
 use Rattle.std.proofs.Math.Seq.{take-set-lt}
 use borrow.Author.Tests.{eqb-true, eq-eqb}
 use Rattle.store.specs.Row.{row, row_length}
-use Rattle.model.specs.Lists.{if◌then◌else◌, any_of, member}
+use Rattle.model.specs.Lists.{when◌then◌else◌, any_of, member}
 use Rattle.model.specs.Program.{Program}
 use Rattle.model.specs.Words.{Value}
 use Rattle.model.specs.Packing.{one_use_less, Pack, use_node}
@@ -139,7 +139,7 @@ module _ {l limit u nodes b slots free : ℕ} {value : ℕ → Value} {k : Pack}
         let one : get_or k.uses m 0 ≡ 1 = sym count ∙ eqb-true (uses_of xs u m) 1 e in
         let c : r ≡ free + 1 = t.count ∙ ap (λ (n : ℕ). free + n) (if_true _ _ e) in
         let q : row xs' u free_row ≡ set (row xs u free_row) free (slot_of xs u m) = t.stack ∙ if_true _ _ e in
-        let one_less : ◌≡◌ {A = ℕ} (if eqb (get_or k.uses m 0) 1 then 1 else 0) 1 = if_true _ _ (eq-eqb (get_or k.uses m 0) 1 one) in
+        let one_less : ◌≡◌ {A = ℕ} (when eqb (get_or k.uses m 0) 1 then 1 else 0) 1 = if_true _ _ (eq-eqb (get_or k.uses m 0) 1 one) in
         let room : free < length (row xs u free_row) = omega (arith, free_room, row_length xs u row_count free_row long (omega arith)) in (
           omega (arith, s.all, s.live, used_below_some b m k.uses d used),
           rw (same_slots, same_phases, q, c) (slots_freed s.held m d one room),
@@ -147,7 +147,7 @@ module _ {l limit u nodes b slots free : ℕ} {value : ℕ → Value} {k : Pack}
     last false e =
         let c : r ≡ free = t.count ∙ ap (λ (n : ℕ). free + n) (if_false _ _ e) ∙ add-zero free in
         let q : row xs' u free_row ≡ row xs u free_row = t.stack ∙ if_false _ _ e in
-        let none : ◌≡◌ {A = ℕ} (if eqb (get_or k.uses m 0) 1 then 1 else 0) 0 = if_false _ _ (ap (λ (n : ℕ). eqb n 1) (sym count) ∙ e) in
+        let none : ◌≡◌ {A = ℕ} (when eqb (get_or k.uses m 0) 1 then 1 else 0) 0 = if_false _ _ (ap (λ (n : ℕ). eqb n 1) (sym count) ∙ e) in
         (omega (arith, s.all), rw (same_slots, same_phases, q, c) (slots_fewer s.held m))
 
     -- "a slot is freed after its last use"

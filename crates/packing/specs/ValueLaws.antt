@@ -17,7 +17,7 @@ use Rattle.pauli.specs.Word.{identity as identity_word}
 use Rattle.pauli.specs.Letter.{single}
 use Rattle.pauli.specs.ProductLaws.{phase_lt}
 use Rattle.product.specs.Product.{StoredPre, StoredProduct}
-use Rattle.model.specs.Lists.{if◌then◌else◌, all_of, any_of, member}
+use Rattle.model.specs.Lists.{when◌then◌else◌, all_of, any_of, member}
 use Rattle.model.specs.Words.{Value, as_value, scaled, multiply}
 use Rattle.model.specs.Value.{node_value}
 use Rattle.theory.specs.Cases.{by_if, if_true, if_false}
@@ -200,7 +200,7 @@ module _ {s : List ℕ} {u free : ℕ} {x : NodeRecord} where
   pub second_pre : (r : ℕ) {t : List ℕ} → ChildrenPre s u free x → 2 ≤ x.kind → Released s u free x.left r t
       → ReleasePre t u r x.right
   second_pre r {t} pre k one =
-      let most : (if eqb (uses_of s u x.left) 1 then 1 else 0) ≤ 1 = by_if (λ (i : ℕ). i ≤ 1) _ _ _ (omega arith) (omega arith) in
+      let most : (when eqb (uses_of s u x.left) 1 then 1 else 0) ≤ 1 = by_if (λ (i : ℕ). i ≤ 1) _ _ _ (omega arith) (omega arith) in
       record {
         long = omega (arith, pre.long, one.only.long);
         node = pre.second k;

@@ -2,7 +2,7 @@
 use Rattle.std.specs.Prelude.{◌≡◌, List, [], ◌∷◌, ℕ, ◌+◌, ◌-◌, ◌*◌, ◌≤◌, ◌<◌, max, eqb, ltb, length, get_or, set}
 use Rattle.store.specs.Part.{part, put}
 use Rattle.store.specs.Row.{row}
-use Rattle.model.specs.Lists.{if◌then◌else◌}
+use Rattle.model.specs.Lists.{when◌then◌else◌}
 use Rattle.model.specs.Words.{Value}
 use Rattle.model.specs.Value.{node_value}
 use Rattle.layout.specs.declared.Shape.{Shape}
@@ -80,8 +80,8 @@ pub record ReleasePre (s : List ℕ) (u free n : ℕ) : Type 0 where
 pub record Released (s : List ℕ) (u free n r : ℕ) (t : List ℕ) : Type 0 where
   pub only : Only (uses_row ∷ free_row ∷ []) u s t
   pub uses : row t u uses_row ≡ set (row s u uses_row) n (uses_of s u n - 1)
-  pub count : r ≡ free + (if eqb (uses_of s u n) 1 then 1 else 0)
-  pub stack : row t u free_row ≡ (if eqb (uses_of s u n) 1 then set (row s u free_row) free (slot_of s u n) else row s u free_row)
+  pub count : r ≡ free + (when eqb (uses_of s u n) 1 then 1 else 0)
+  pub stack : row t u free_row ≡ (when eqb (uses_of s u n) 1 then set (row s u free_row) free (slot_of s u n) else row s u free_row)
 
 -- both children are used; the second still is where the first is given up
 pub record ChildrenPre (s : List ℕ) (u free : ℕ) (x : NodeRecord) : Type 0 where
@@ -133,8 +133,8 @@ new_taken z st = record { axes = st.axes; peak = max st.peak (slot_sum z st); sl
 -- "a slot is freed after its last use and reused, last freed first"; for a new one the sum is tested
 unfoldable pub taken : Shape → List ℕ → Slots → PackStep
 taken z xs st =
-    if ltb 0 st.free then Next (free_taken z xs st)
-    else if ltb z.limit (slot_sum z st) then ExpansionLimit
+    when ltb 0 st.free then Next (free_taken z xs st)
+    else when ltb z.limit (slot_sum z st) then ExpansionLimit
     else Next (new_taken z st)
 
 -- ---- keeping a value

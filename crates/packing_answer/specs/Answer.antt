@@ -7,7 +7,7 @@ use Rattle.std.proofs.Math.Dec.{ltb}
 use borrow.Author.Tests.{lt-ltb, le-ltb, ltb-false}
 use Rattle.model.specs.declared.Answer.{Answer}
 use Rattle.model.specs.declared.Answer.TheVariants as answers
-use Rattle.model.specs.Lists.{if◌then◌else◌}
+use Rattle.model.specs.Lists.{when◌then◌else◌}
 use Rattle.model.specs.Interface.{number_of}
 use Rattle.model.specs.Packing.{Pack}
 use Rattle.theory.specs.Cases.{if_true, if_false}
@@ -17,8 +17,8 @@ use Rattle.packing_answer.specs.declared.Packed.TheVariants.{Axes, NonHermitianA
 -- "9 a root's total phase is odd; 10 a tested word sum exceeds the limit": the first sum above the limit ends the work
 unfoldable pub packed_answer : ℕ → Pack → Packed
 packed_answer limit k =
-    if ltb limit k.store.peak then ExpansionLimit
-    else if k.refused then NonHermitianAxis else Axes (length k.store.axes) k.store.peak
+    when ltb limit k.store.peak then ExpansionLimit
+    else when k.refused then NonHermitianAxis else Axes (length k.store.axes) k.store.peak
 
 -- 01's answer
 abbrev pub packing_answer : Packed → Answer

@@ -4,7 +4,7 @@ use Rattle.std.proofs.Common.{sym, ◌∙◌, ap, ap₂, true≢false, arith}
 use Rattle.groups.specs.Abelian.{map_neg}
 use Rattle.groups.specs.Eighth.{Eighth, prev, eighth, eighth_neg}
 use Rattle.groups.specs.Real.{cos2, sin2, cos2_add, cos2_flip, sin2_flip}
-use Rattle.model.specs.Lists.{if◌then◌else◌, is_odd}
+use Rattle.model.specs.Lists.{when◌then◌else◌, is_odd}
 use Rattle.model.specs.Items.{with_sign}
 use Rattle.effect.specs.Phase.{odd, minus}
 use Rattle.effect.specs.Words.{Setting}
@@ -26,7 +26,7 @@ minus_angle (suc (suc (suc (suc (suc (suc (suc (suc k)))))))) h = absurd (omega 
 
 -- for 0 and 2 quarter turns the model's angle with a sign is the source's
 pub with_sign_angle : (s k : ℕ) → s < 4 → is_odd s ≡ false → k ≤ 7 → eighth (pos (with_sign s k)) ≡ signed_angle (sign_of s) k
-unfolding with_sign if◌then◌else◌
+unfolding with_sign when◌then◌else◌
 with_sign_angle zero k b e h = refl
 with_sign_angle (suc zero) k b e h = absurd (true≢false e)
 with_sign_angle (suc (suc zero)) k b e h = minus_angle k h

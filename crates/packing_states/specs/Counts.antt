@@ -3,7 +3,7 @@ use Rattle.std.specs.Prelude.{◌≡◌, refl, List, [], ◌∷◌, map, ℕ, ze
 use Rattle.std.proofs.Common.{sym, ◌∙◌, le_refl, arith, length-set, get_or-set_same, get_or-set_other, eqb-true}
 use Rattle.std.proofs.lemmas.List.{length-map}
 use Rattle.std.proofs.lemmas.Bool.{eqb-false}
-use Rattle.model.specs.Lists.{if◌then◌else◌, numbers_from}
+use Rattle.model.specs.Lists.{when◌then◌else◌, numbers_from}
 use Rattle.model.specs.Program.{Node, identity, letter, product, PauliRef}
 use Rattle.model.specs.Packing.{roots_at, one_use_more, one_use_less, count_children, Pack, use_node, use_children}
 use Rattle.theory.specs.Lists.{numbers_length, map_range}
@@ -21,7 +21,7 @@ less_same (u ∷ uses) zero = refl
 less_same (u ∷ uses) (suc n) = less_same uses n
 
 -- the entry at place c after one use more of node a
-pub more_at : (uses : List ℕ) (a c : ℕ) → c < length uses → get_or (one_use_more a uses) c 0 ≡ get_or uses c 0 + (if eqb a c then 1 else 0)
+pub more_at : (uses : List ℕ) (a c : ℕ) → c < length uses → get_or (one_use_more a uses) c 0 ≡ get_or uses c 0 + (when eqb a c then 1 else 0)
 unfolding one_use_more
 more_at uses a c h =
     on_if (λ (x : ℕ). get_or (one_use_more a uses) c 0 ≡ get_or uses c 0 + x) (eqb a c) 1 0
@@ -29,7 +29,7 @@ more_at uses a c h =
     (λ e. omega (arith, get_or-set_other uses a c (suc (get_or uses a 0)) 0 (λ z. eqb-false a c e (sym z))))
 
 -- the same after one use less
-pub less_at : (uses : List ℕ) (a c : ℕ) → get_or (one_use_less a uses) c 0 ≡ get_or uses c 0 - (if eqb a c then 1 else 0)
+pub less_at : (uses : List ℕ) (a c : ℕ) → get_or (one_use_less a uses) c 0 ≡ get_or uses c 0 - (when eqb a c then 1 else 0)
 less_at uses a c =
     on_if (λ (x : ℕ). get_or (one_use_less a uses) c 0 ≡ get_or uses c 0 - x) (eqb a c) 1 0 (λ e. rw (eqb-true a c e) (less_same uses c))
     (λ e. omega (arith, less_other uses a c (λ z. eqb-false a c e (sym z))))
@@ -45,9 +45,9 @@ more_length uses a = length-set uses a _
 unfoldable pub edges : Node → ℕ → ℕ
 edges identity c = 0
 edges (letter q x) c = 0
-edges (product a u b v) c = (if eqb a c then 1 else 0) + (if eqb b c then 1 else 0)
+edges (product a u b v) c = (when eqb a c then 1 else 0) + (when eqb b c then 1 else 0)
 
-not_child : (a c : ℕ) → a < c → ◌≡◌ {A = ℕ} (if eqb a c then 1 else 0) 0
+not_child : (a c : ℕ) → a < c → ◌≡◌ {A = ℕ} (when eqb a c then 1 else 0) 0
 not_child a c h = on_if (λ (x : ℕ). x ≡ 0) (eqb a c) 1 0 (λ e. absurd (omega (arith, eqb-true a c e))) (λ e. refl)
 
 -- children stand before
@@ -98,7 +98,7 @@ counted_most (product a u b v) uses m = omega (arith, more_most (one_use_more a 
 
 -- node n's turn in the count
 abbrev pub count_node : ℕ → Node → List ℕ → List ℕ
-count_node n node uses = if eqb (get_or uses n 0) 0 then uses else count_children node uses
+count_node n node uses = when eqb (get_or uses n 0) 0 then uses else count_children node uses
 
 -- it adds at most 2 to an entry
 pub count_node_most : (n : ℕ) (node : Node) (uses : List ℕ) (m : ℕ) → get_or (count_node n node uses) m 0 ≤ get_or uses m 0 + 2

@@ -2,7 +2,7 @@
 use Rattle.std.specs.Prelude.{◌≡◌, List, ℕ, ◌+◌, ◌*◌, ◌≤◌, ◌<◌, length, get_or}
 use Rattle.std.proofs.Common.{arith}
 use Rattle.store.specs.Row.{row}
-use Rattle.model.specs.Lists.{if◌then◌else◌}
+use Rattle.model.specs.Lists.{when◌then◌else◌}
 use Rattle.model.specs.Program.{Program}
 use Rattle.model.specs.Roots.{relevant}
 use Rattle.theory.specs.ByNode.{ChildrenBefore, Ordered, children_before}
@@ -46,7 +46,7 @@ module _ {ns : List ℕ} {u count : ℕ} {xs : List ℕ} (h : NodesInRows ns u c
 
 -- row RELEVANT tells the relevant nodes
 abbrev pub TellsRelevant : Program → Shape → List ℕ → Type 0
-TellsRelevant p z xs = (n : ℕ) → n < z.nodes → get_or (row xs z.u relevant_row) n 0 ≡ (if relevant p n then 1 else 0)
+TellsRelevant p z xs = (n : ℕ) → n < z.nodes → get_or (row xs z.u relevant_row) n 0 ≡ (when relevant p n then 1 else 0)
 
 -- the nodes of a program that Checking passed
 pub given_rows : {z : Shape} {ns os rs xs : List ℕ} → Sized z → Given z ns os rs → row_count * z.u ≤ length xs

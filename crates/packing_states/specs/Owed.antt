@@ -6,7 +6,7 @@ use Prim.Native.Nat.{ℕ, zero, suc, ◌+◌, ◌-◌, ◌≤◌, ◌<◌}
 use native.Mathlib.Omega.{arith}
 use Rattle.std.proofs.Math.ListN.{length}
 use Rattle.std.proofs.lemmas.Bool.{eqb-false}
-use Rattle.model.specs.Lists.{if◌then◌else◌}
+use Rattle.model.specs.Lists.{when◌then◌else◌}
 use Rattle.model.specs.Program.{Node, identity, PauliRef}
 use Rattle.model.specs.Packing.{roots_at, count_children, count_uses, use_counts}
 use Rattle.theory.specs.Cases.{on_if, if_true, if_false}
@@ -19,7 +19,7 @@ use Rattle.packing_states.specs.Counts.{root_counts, root_counts_at, root_counts
 unfoldable pub owed_within : List Node → List ℕ → ℕ → ℕ → ℕ → ℕ
 owed_within nodes uses c zero m = 0
 owed_within nodes uses c (suc k) m =
-    (if eqb (get_or uses m 0) 0 then 0 else edges (get_or nodes m identity) c) + owed_within nodes uses c k (suc m)
+    (when eqb (get_or uses m 0) 0 then 0 else edges (get_or nodes m identity) c) + owed_within nodes uses c k (suc m)
 
 unfoldable pub owed : List Node → List ℕ → ℕ → ℕ → ℕ
 owed nodes uses m c = owed_within nodes uses c (length nodes - m) m
@@ -30,14 +30,14 @@ module _ (nodes : List Node) where
   owed_end uses c = let e : length nodes - length nodes ≡ 0 = omega arith in rw e refl
 
   owed_step : (uses : List ℕ) (m c : ℕ) → m < length nodes
-      → owed nodes uses m c ≡ (if eqb (get_or uses m 0) 0 then 0 else edges (get_or nodes m identity) c) + owed nodes uses (suc m) c
+      → owed nodes uses m c ≡ (when eqb (get_or uses m 0) 0 then 0 else edges (get_or nodes m identity) c) + owed nodes uses (suc m) c
   unfolding owed owed_within
   owed_step uses m c h = let e : length nodes - m ≡ suc (length nodes - suc m) = omega arith in rw e refl
 
   -- a node that is not used owes nothing
   pub owed_unused : (uses : List ℕ) (m c : ℕ) → m < length nodes → get_or uses m 0 ≡ 0 → owed nodes uses m c ≡ owed nodes uses (suc m) c
   owed_unused uses m c h z =
-      let none : ◌≡◌ {A = ℕ} (if eqb (get_or uses m 0) 0 then 0 else edges (get_or nodes m identity) c) 0 =
+      let none : ◌≡◌ {A = ℕ} (when eqb (get_or uses m 0) 0 then 0 else edges (get_or nodes m identity) c) 0 =
       if_true _ _ (eq-eqb (get_or uses m 0) 0 z) in
       omega (arith, owed_step uses m c h)
 
@@ -45,7 +45,7 @@ module _ (nodes : List Node) where
   pub owed_used : (uses : List ℕ) (m c : ℕ) → m < length nodes → 0 < get_or uses m 0
       → owed nodes uses m c ≡ edges (get_or nodes m identity) c + owed nodes uses (suc m) c
   owed_used uses m c h u =
-      let some : (if eqb (get_or uses m 0) 0 then 0 else edges (get_or nodes m identity) c) ≡ edges (get_or nodes m identity) c =
+      let some : (when eqb (get_or uses m 0) 0 then 0 else edges (get_or nodes m identity) c) ≡ edges (get_or nodes m identity) c =
       if_false _ _ (ne_eqb (get_or uses m 0) 0 (λ z. omega arith)) in
       omega (arith, owed_step uses m c h)
 

@@ -10,7 +10,7 @@ use Rattle.std.proofs.Math.Decide.{ℕ_discrete}
 use Rattle.std.proofs.Math.Dec.{eqb}
 use Rattle.std.proofs.Math.ListN.{length, length-append, get_or-append}
 use Rattle.std.proofs.lemmas.List.{length-map}
-use Rattle.model.specs.Lists.{if◌then◌else◌, keep, count_of, numbers_from}
+use Rattle.model.specs.Lists.{when◌then◌else◌, keep, count_of, numbers_from}
 use Rattle.model.specs.Program.{PauliRef, Program}
 use Rattle.model.specs.Roots.{is_root, root_rows, operation_root, roots}
 use Rattle.model.specs.Packing.{roots_at}
@@ -112,7 +112,7 @@ module _ (p : Program) (n : ℕ) where
   roots_from_end = let e : total p - total p ≡ 0 = omega arith in rw e refl
 
   -- one reference more
-  pub roots_from_step : (j : ℕ) → j < total p → roots_from p n j ≡ (if root_of p n j then 1 else 0) + roots_from p n (suc j)
+  pub roots_from_step : (j : ℕ) → j < total p → roots_from p n j ≡ (when root_of p n j then 1 else 0) + roots_from p n (suc j)
   unfolding roots_from count_of numbers_from
   roots_from_step j h = rw (rest_length j (total p) h) refl
 

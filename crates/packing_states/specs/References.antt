@@ -1,6 +1,6 @@
 -- A program's references by number, operations first, then frame rows; which are roots, and of which node. Assumes nothing.
 use Rattle.std.specs.Prelude.{Bool, ◌&&◌, ◌||◌, List, map, ◌++◌, ℕ, zero, suc, ◌-◌, eqb, ltb, length, get_or}
-use Rattle.model.specs.Lists.{if◌then◌else◌}
+use Rattle.model.specs.Lists.{when◌then◌else◌}
 use Rattle.model.specs.Program.{PauliRef, Program}
 use Rattle.model.specs.Roots.{relevant, operation_root}
 
@@ -29,7 +29,7 @@ root_of p n j = is_root_at p j && eqb (reference_at p j).node n
 -- the first root of node n among the k references from j on, as a link: its number plus 1; 0 if there is none
 unfoldable pub link_within : Program → ℕ → ℕ → ℕ → ℕ
 link_within p n zero j = 0
-link_within p n (suc k) j = if root_of p n j then suc j else link_within p n k (suc j)
+link_within p n (suc k) j = when root_of p n j then suc j else link_within p n k (suc j)
 
 -- the same from reference j on
 unfoldable pub link_from : Program → ℕ → ℕ → ℕ

@@ -9,7 +9,7 @@ use Rattle.std.proofs.Math.ListN.{length}
 use Rattle.std.proofs.Math.Seq.{drop-length}
 use borrow.Author.Tests.{eq-eqb, ne_eqb}
 use Rattle.pauli.specs.Word.{width}
-use Rattle.model.specs.Lists.{if◌then◌else◌, keep, numbers_from}
+use Rattle.model.specs.Lists.{when◌then◌else◌, keep, numbers_from}
 use Rattle.model.specs.Program.{identity, PauliRef, Program}
 use Rattle.model.specs.Roots.{roots}
 use Rattle.model.specs.Packing.{roots_at, Pack, pack_root, pack_roots, pack_node, pack_from, values_of, packed}
@@ -29,7 +29,7 @@ module _ (p : Program) (n : ℕ) where
   skip_reference j e = if_false _ _ e
 
   step_root : (j : ℕ) → root_of p n j ≡ true → within p n (suc j)
-      ≡ (if (within p n j).refused then within p n j else pack_root (width p.qubits) n (value_of p n) (within p n j) (reference_at p j))
+      ≡ (when (within p n j).refused then within p n j else pack_root (width p.qubits) n (value_of p n) (within p n j) (reference_at p j))
   unfolding within pack_reference
   step_root j e = if_true _ _ e
 

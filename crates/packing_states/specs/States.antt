@@ -1,7 +1,7 @@
 -- The model's packing before each node's turn, and within it before each reference. Assumes nothing.
 use Rattle.std.specs.Prelude.{ℕ, zero, suc, get_or}
 use Rattle.pauli.specs.Word.{width}
-use Rattle.model.specs.Lists.{if◌then◌else◌}
+use Rattle.model.specs.Lists.{when◌then◌else◌}
 use Rattle.model.specs.Program.{Node, identity, Program}
 use Rattle.model.specs.Words.{Value}
 use Rattle.model.specs.Value.{value_at}
@@ -28,7 +28,7 @@ slotted p n = take_slot (width p.qubits) (use_children (node_at p n) (before p n
 -- reference j's turn at node n: it is packed if it is a root of the node
 unfoldable pub pack_reference : Program → ℕ → ℕ → Pack → Pack
 pack_reference p n j k =
-    if root_of p n j then (if k.refused then k else pack_root (width p.qubits) n (value_of p n) k (reference_at p j)) else k
+    when root_of p n j then (when k.refused then k else pack_root (width p.qubits) n (value_of p n) k (reference_at p j)) else k
 
 -- within node n's turn, before reference j
 unfoldable pub within : Program → ℕ → ℕ → Pack

@@ -5,7 +5,7 @@ use Rattle.std.proofs.Common.{sym, ap, ◌∙◌, true≢false, le_refl, arith, 
 use Rattle.std.proofs.Math.Bool.{false}
 use Rattle.std.proofs.Math.Decide.{ℕ_discrete}
 use Rattle.std.proofs.Math.ListN.{get_or}
-use Rattle.model.specs.Lists.{if◌then◌else◌}
+use Rattle.model.specs.Lists.{when◌then◌else◌}
 use Rattle.model.specs.Program.{Node, identity, product, PauliRef, Program}
 use Rattle.model.specs.Words.{Value}
 use Rattle.model.specs.Roots.{roots}
@@ -77,7 +77,7 @@ module _ (p : Program) where
   skip : (n j : ℕ) (uses : List ℕ) → j < total p → root_of p n j ≡ false → Covers p n j (suc n) uses → Covers p n (suc j) (suc n) uses
   skip n j uses b f h = record {
     own = λ c.
-        let none : ◌≡◌ {A = ℕ} (if root_of p n j then 1 else 0) 0 = if_false _ _ f in
+        let none : ◌≡◌ {A = ℕ} (when root_of p n j then 1 else 0) 0 = if_false _ _ f in
         omega (arith, h.own c, roots_from_step p n j b);
     earlier = h.earlier;
     later = h.later;
@@ -88,7 +88,7 @@ module _ (p : Program) where
       → Covers p n (suc j) (suc n) (one_use_less n uses)
   root n j uses b d f h = record {
     own = λ c.
-        let one : ◌≡◌ {A = ℕ} (if root_of p n j then 1 else 0) 1 = if_true _ _ f in
+        let one : ◌≡◌ {A = ℕ} (when root_of p n j then 1 else 0) 1 = if_true _ _ f in
         omega (arith, h.own c, roots_from_step p n j d, less_same uses n, same n);
     earlier = λ c e. omega (arith, h.earlier c e, same c, less_other uses n c (λ z. omega arith));
     later = λ c e g. omega (arith, h.later c e g, same c, less_other uses n c (λ z. omega arith));
@@ -177,7 +177,7 @@ module _ (p : Program) (o : Ordered 0 p.nodes) where
 
 -- ---- no use is missing
 
-itself : (a : ℕ) → ◌≡◌ {A = ℕ} (if eqb a a then 1 else 0) 1
+itself : (a : ℕ) → ◌≡◌ {A = ℕ} (when eqb a a then 1 else 0) 1
 itself a = if_true _ _ (eq-eqb a a refl)
 
 module _ (p : Program) (fine : Fine p) (n : ℕ) (b : n < length p.nodes) where
@@ -212,5 +212,5 @@ module _ (p : Program) (fine : Fine p) (n : ℕ) (b : n < length p.nodes) where
       -- and so has the node for each of its roots
       pub root_used : (j : ℕ) → j < total p → root_of p n j ≡ true → (within p n j).refused ≡ false → 0 < get_or (within p n j).uses n 0
       root_used j c e g =
-          let one : ◌≡◌ {A = ℕ} (if root_of p n j then 1 else 0) 1 = if_true _ _ e in
+          let one : ◌≡◌ {A = ℕ} (when root_of p n j then 1 else 0) 1 = if_true _ _ e in
           omega (arith, (covers_within p fine.ordered n b u covered j (omega arith) g).own b, roots_from_step p n j c)

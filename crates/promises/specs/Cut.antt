@@ -7,7 +7,7 @@ use Rattle.model.specs.declared.Strategy.TheVariants.{Merge}
 use Rattle.model.specs.declared.Options.{Options}
 use Rattle.model.specs.declared.Answer.TheVariants.{Accepted}
 use Rattle.model.specs.declared.Counters.{Counters}
-use Rattle.model.specs.Lists.{if◌then◌else◌}
+use Rattle.model.specs.Lists.{when◌then◌else◌}
 use Rattle.model.specs.Program.{field_of, Job, node_records, operation_records, row_records, kind_of, measure, Operation, operation_of}
 use Rattle.model.specs.Program.{Program, program_of}
 use Rattle.model.specs.Rules.{Rules, absorption_of, rules_of}
@@ -122,7 +122,7 @@ module _ {j earlier later : Job} (cut : CutAtMeasurement j earlier later) where
 -- ---- the rules
 
 merges_only : (o : Options) → OneRound o → MergesOnly (rules_of o)
-unfolding rules_of absorption_of if◌then◌else◌
+unfolding rules_of absorption_of when◌then◌else◌
 merges_only o h = record { absorption = rw h.absorption refl; strategy = h.strategy }
 
 -- ---- the three calls

@@ -11,7 +11,7 @@ use Rattle.pauli.specs.Word.{width}
 use Rattle.model.specs.declared.Options.{Options}
 use Rattle.model.specs.declared.Answer.TheVariants.{Accepted}
 use Rattle.model.specs.declared.Counters.{Counters}
-use Rattle.model.specs.Lists.{if◌then◌else◌}
+use Rattle.model.specs.Lists.{when◌then◌else◌}
 use Rattle.model.specs.Program.{field_of, records, Job, operation_records, Kind, rotate, measure, conditional, Operation, operation_of}
 use Rattle.model.specs.Program.{PauliRef, Program, program_of}
 use Rattle.model.specs.Rules.{rules_of}
@@ -137,7 +137,7 @@ module _ {W : Type 0} (word : List ℕ → W) (A B : List (List ℕ)) (same : (a
   ops_same rs h = map_every (IdIn (length A)) (result_op word B) (result_op word A) (λ r. op_same (field_of r 0) r) rs h
 
   row_same : (p : Program) (r : List ℕ) → RowIdIn (length A) r → result_row word p B r ≡ result_row word p A r
-  unfolding result_row if◌then◌else◌
+  unfolding result_row when◌then◌else◌
   row_same p r (inl h) = rw h refl
   row_same p r (inr h) = rw (same (field_of r 2) h) refl
 

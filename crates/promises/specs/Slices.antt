@@ -2,7 +2,7 @@
 use Rattle.std.specs.Prelude.{◌≡◌, refl, false, ℕ, zero, suc, ◌-◌, ◌≤◌, eqb, length, get_or, take, drop, replicate}
 use Rattle.std.proofs.Common.{sym, ap, ap₂, ◌∙◌, arith, eq-eqb}
 use mathlib.Core.List.{List, [], ◌∷◌, ◌++◌, flatten, append_assoc}
-use Rattle.model.specs.Lists.{if◌then◌else◌}
+use Rattle.model.specs.Lists.{when◌then◌else◌}
 use Rattle.model.specs.Program.{field_of}
 use Rattle.model.specs.Rewriting.{then_zeros, zeros}
 use Rattle.theory.specs.Cases.{if_true, if_false}
@@ -45,7 +45,7 @@ agree_zeros s s' e e' i = rw (e, e') (zeros_at (length s') i ∙ sym (zeros_at (
 -- at most n records, up to the first that has no kind: "kind 1 rotate, 2 measure, 3 conditional", and zeros behind the last
 unfoldable pub kinds_read : ℕ → List ℕ → List (List ℕ)
 kinds_read zero s = []
-kinds_read (suc n) s = if eqb (get_or s 0 0) 0 then [] else take 6 s ∷ kinds_read n (drop 6 s)
+kinds_read (suc n) s = when eqb (get_or s 0 0) 0 then [] else take 6 s ∷ kinds_read n (drop 6 s)
 
 -- a record of six fields that has a kind
 pub record HasKind (r : List ℕ) : Type 0 where

@@ -2,7 +2,7 @@
 use Rattle.std.specs.Prelude.{Bool, true, false, ◌&&◌, List, [], ◌∷◌, map, ℕ, zero, suc, ◌+◌, ◌*◌, eqb, pos, get_or, take, drop}
 use Rattle.groups.specs.Eighth.{e0, eighth}
 use Rattle.pauli.specs.LetterLaws.{from_letters}
-use Rattle.model.specs.Lists.{if◌then◌else◌}
+use Rattle.model.specs.Lists.{when◌then◌else◌}
 use Rattle.model.specs.Program.{field_of, minus_one, PauliRef, Program}
 use Rattle.model.specs.Roots.{is_root}
 use Rattle.model.specs.Packing.{SignedAxis}
@@ -16,11 +16,11 @@ use Rattle.packing_effect.specs.Source.{source_row, axis_word, packed_row}
 
 -- a sign: 1, or -1 as a lent slice has it, "4,294,967,295"
 unfoldable pub sign_read : ℕ → Sgn
-sign_read f = if eqb f 1 then plus else if eqb f minus_one then minus else nil
+sign_read f = when eqb f 1 then plus else when eqb f minus_one then minus else nil
 
 -- the same in quarter turns, for a row's "phase kept in front"
 unfoldable pub turns_read : ℕ → Quarter
-turns_read f = if eqb f 1 then q0 else q2
+turns_read f = when eqb f 1 then q0 else q2
 
 -- for a place outside the program
 unfoldable pub no_row : PauliRef
@@ -47,7 +47,7 @@ letters_read q first rest = drop (2 * q) (drop (field_of first 6) rest)
 -- "(id, qubit, letter)": the letter of axis a at qubit q, I where none is printed
 unfoldable pub letter_read : List (List ℕ) → ℕ → ℕ → ℕ
 letter_read [] a q = 0
-letter_read (r ∷ rest) a q = if eqb (field_of r 0) a && eqb (field_of r 1) q then field_of r 2 else letter_read rest a q
+letter_read (r ∷ rest) a q = when eqb (field_of r 0) a && eqb (field_of r 1) q then field_of r 2 else letter_read rest a q
 
 -- the words, of width l, of the axes a, a + 1, ..: n of them
 unfoldable pub axes_read : ℕ → ℕ → ℕ → List (List ℕ) → List (List ℕ)
@@ -79,7 +79,7 @@ module _ {W : Type 0} (word : List ℕ → W) where
   -- "rows (qubit, row, id, sign; kept is -1, 0, ..)": a kept row is the source's row at its place, no other has sign 0
   unfoldable pub result_row : Program → List (List ℕ) → List ℕ → Quarter × W
   result_row p axes r =
-      if eqb (field_of r 3) 0 then source_row word p (row_at p.rows (2 * field_of r 0 + field_of r 1)) else
+      when eqb (field_of r 3) 0 then source_row word p (row_at p.rows (2 * field_of r 0 + field_of r 1)) else
       (turns_read (field_of r 3), axis_word word axes (field_of r 2))
 
   -- the rows of a result, in order
@@ -101,4 +101,4 @@ module _ {W : Type 0} (word : List ℕ → W) where
 
   -- "and for all rows if no pass absorbed anything"
   unfoldable pub work_rows : Program → Work → List (Quarter × W)
-  work_rows p w = work_rows_from p w.store.axes p.rows (if eqb w.absorbed 0 then [] else w.rows)
+  work_rows p w = work_rows_from p w.store.axes p.rows (when eqb w.absorbed 0 then [] else w.rows)

@@ -4,7 +4,7 @@ use Rattle.std.proofs.Math.Path.{refl}
 use Rattle.std.proofs.Common.{sym, ap, ap₂, subst, arith}
 use Rattle.groups.specs.Eighth.{Eighth, eighth}
 use Rattle.pauli.specs.Word.{width}
-use Rattle.model.specs.Lists.{if◌then◌else◌}
+use Rattle.model.specs.Lists.{when◌then◌else◌}
 use Rattle.model.specs.Program.{Kind, rotate, measure, conditional, Operation, Program}
 use Rattle.model.specs.Rules.{Rules}
 use Rattle.model.specs.Words.{Value}
@@ -52,7 +52,7 @@ ItemStands ops (barrier o a s) = StopsAt ops o × ((operation_at ops o).angle �
 
 -- a sign as it is written is read as it was
 sign_read_lem : (s : ℕ) → IsSign s → sign_read (sign_field s) ≡ sign_of s
-unfolding sign_read if◌then◌else◌
+unfolding sign_read when◌then◌else◌
 sign_read_lem zero h = refl
 sign_read_lem (suc zero) h = absurd (omega arith)
 sign_read_lem (suc (suc zero)) h = refl

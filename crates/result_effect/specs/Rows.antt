@@ -9,7 +9,7 @@ use native.Mathlib.Omega.{arith}
 use Rattle.std.proofs.Math.ListN.{length}
 use Rattle.std.proofs.lemmas.List.{length-map}
 use Rattle.pauli.specs.Word.{width}
-use Rattle.model.specs.Lists.{if◌then◌else◌}
+use Rattle.model.specs.Lists.{when◌then◌else◌}
 use Rattle.model.specs.Program.{PauliRef, Program}
 use Rattle.model.specs.Rules.{Rules}
 use Rattle.model.specs.Roots.{is_root, root_rows}
@@ -35,14 +35,14 @@ use Rattle.result_effect.specs.Definitions.{turns_read, no_row, row_at, result_r
 module _ {W : Type 0} (word : List ℕ → W) (p : Program) (axes : List (List ℕ)) where
   -- a kept row's place says which row of the source it is
   kept_row_lem : (i : ℕ) (r : PauliRef) → row_at p.rows i ≡ r → result_row word p axes (kept_row i) ≡ source_row word p r
-  unfolding result_row kept_row if◌then◌else◌
+  unfolding result_row kept_row when◌then◌else◌
   kept_row_lem i r e =
       let place : 2 * (i / 2) + i % 2 ≡ i = omega arith in
       ap (λ (n : ℕ). source_row word p (row_at p.rows n)) place ∙ ap (source_row word p) e
 
   -- a sign as it is written is not 0, and is read as it was
-  sign_read_lem : (s : ℕ) → IsSign s → (x : Quarter × W) (Q : W) → (if eqb (sign_field s) 0 then x else (turns_read (sign_field s), Q)) ≡ (quarter s, Q)
-  unfolding turns_read quarter if◌then◌else◌
+  sign_read_lem : (s : ℕ) → IsSign s → (x : Quarter × W) (Q : W) → (when eqb (sign_field s) 0 then x else (turns_read (sign_field s), Q)) ≡ (quarter s, Q)
+  unfolding turns_read quarter when◌then◌else◌
   sign_read_lem zero h x Q = refl
   sign_read_lem (suc zero) h x Q = absurd (omega arith)
   sign_read_lem (suc (suc zero)) h x Q = refl
@@ -80,7 +80,7 @@ pub row_results_rows : {W : Type 0} (word : List ℕ → W) (p : Program) (w : W
     → result_rows word p w.store.axes (row_results p w) ≡ work_rows word p w
 unfolding result_rows row_results work_rows
 row_results_rows word p w h =
-    rows_records word p w.store.axes 0 p.rows (if eqb w.absorbed 0 then [] else w.rows) refl (by_if (Every RowSign) _ [] w.rows tt h)
+    rows_records word p w.store.axes 0 p.rows (when eqb w.absorbed 0 then [] else w.rows) refl (by_if (Every RowSign) _ [] w.rows tt h)
 
 -- ---- there is a row of the work for each root row
 

@@ -6,7 +6,7 @@ use mathlib.Core.List.{List, [], ◌∷◌, ◌++◌, map, flatten}
 use native.Mathlib.Omega.{arith}
 use Rattle.store.specs.Part.{put, put_length}
 use Rattle.store.specs.From.{list_from, from_none, from_more, from_same, flatten_one}
-use Rattle.model.specs.Lists.{if◌then◌else◌, keep}
+use Rattle.model.specs.Lists.{when◌then◌else◌, keep}
 use Rattle.model.specs.Program.{PauliRef, Program}
 use Rattle.model.specs.Roots.{is_root}
 use Rattle.model.specs.Packing.{SignedAxis}
@@ -30,7 +30,7 @@ row_fields r = r.qubit ∷ r.half ∷ r.axis ∷ r.sign ∷ []
 
 -- row i, whose axis and sign are f: "kept is -1, 0, for a row that is no root, and for all rows if no pass absorbed anything"
 unfoldable pub row_here : Bool → SignedAxis → ℕ → List ℕ
-row_here changed f i = if changed && is_given f then given_row i f else kept_row i
+row_here changed f i = when changed && is_given f then given_row i f else kept_row i
 
 -- ---- one row
 
@@ -136,13 +136,13 @@ module _ (changed : Bool) (z : Shape) (xs : List ℕ) where
 -- all kept
 kept_all : (p : Program) (rows : List PauliRef) (i : ℕ) (f : ℕ → SignedAxis)
     → row_results_from p i rows [] ≡ list_from (λ k. row_here false (f k) k) i (length rows)
-unfolding row_results_from list_from row_here row_record axes_left if◌then◌else◌
+unfolding row_results_from list_from row_here row_record axes_left when◌then◌else◌
 kept_all p [] i f = refl
 kept_all p (r ∷ rows) i f = go (is_root p r) (kept_all p rows (suc i) f)
   where
     go : (b : Bool) → row_results_from p (suc i) rows [] ≡ list_from (λ k. row_here false (f k) k) (suc i) (length rows)
         → row_record b i [] ∷ row_results_from p (suc i) rows (axes_left b [])
-        ≡ (if false then given_row i (f i) else kept_row i) ∷ list_from (λ k. row_here false (f k) k) (suc i) (length rows)
+        ≡ (when false then given_row i (f i) else kept_row i) ∷ list_from (λ k. row_here false (f k) k) (suc i) (length rows)
     go true ih = ap (λ (t : List (List ℕ)). kept_row i ∷ t) ih
     go false ih = ap (λ (t : List (List ℕ)). kept_row i ∷ t) ih
 
@@ -150,7 +150,7 @@ kept_all p (r ∷ rows) i f = go (is_root p r) (kept_all p rows (suc i) f)
 given_all : (p : Program) (rows : List PauliRef) (i : ℕ) (f : ℕ → SignedAxis)
     → list_from (λ k. is_given (f k)) i (length rows) ≡ map (is_root p) rows
     → row_results_from p i rows (keep is_given (list_from f i (length rows))) ≡ list_from (λ k. row_here true (f k) k) i (length rows)
-unfolding row_results_from list_from row_here row_record axes_left if◌then◌else◌ keep
+unfolding row_results_from list_from row_here row_record axes_left when◌then◌else◌ keep
 given_all p [] i f g = refl
 given_all p (r ∷ rows) i f g = go (is_root p r) (is_given (f i)) head refl (given_all p rows (suc i) f tail)
   where
@@ -165,8 +165,8 @@ given_all p (r ∷ rows) i f g = go (is_root p r) (is_given (f i)) head refl (gi
 
     go : (b c : Bool) → c ≡ b → is_given (f i) ≡ c
         → row_results_from p (suc i) rows rest ≡ list_from (λ k. row_here true (f k) k) (suc i) (length rows)
-        → row_record b i (if c then f i ∷ rest else rest) ∷ row_results_from p (suc i) rows (axes_left b (if c then f i ∷ rest else rest))
-        ≡ (if c then given_row i (f i) else kept_row i) ∷ list_from (λ k. row_here true (f k) k) (suc i) (length rows)
+        → row_record b i (when c then f i ∷ rest else rest) ∷ row_results_from p (suc i) rows (axes_left b (when c then f i ∷ rest else rest))
+        ≡ (when c then given_row i (f i) else kept_row i) ∷ list_from (λ k. row_here true (f k) k) (suc i) (length rows)
     go true true e n ih = ap (λ (t : List (List ℕ)). given_row i (f i) ∷ t) ih
     go false false e n ih = ap (λ (t : List (List ℕ)). kept_row i ∷ t) ih
     go true false e n ih = absurd (true≢false (sym e))
@@ -197,7 +197,7 @@ rows_are p z w xs changed f e l = ap flatten (go (eqb w.absorbed 0) refl)
         ∙ ap (keep is_given) (sym (shifted (root_at xs z.u) z.operations (2 * z.qubits))) ∙ f.rows
 
     go : (b : Bool) → eqb w.absorbed 0 ≡ b
-        → list_from (row_in changed z xs) 0 (2 * z.qubits) ≡ row_results_from p 0 p.rows (if eqb w.absorbed 0 then [] else w.rows)
+        → list_from (row_in changed z xs) 0 (2 * z.qubits) ≡ row_results_from p 0 p.rows (when eqb w.absorbed 0 then [] else w.rows)
     go true c =
         ap₂ (λ (x : Bool) (n : ℕ). list_from (row_in x z xs) 0 n) (e ∙ ap not c) (sym l)
         ∙ sym (kept_all p p.rows 0 roots)

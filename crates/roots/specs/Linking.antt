@@ -4,7 +4,7 @@ use Rattle.std.proofs.Math.Path.{refl}
 use Rattle.std.proofs.Common.{sym, ap, ◌∙◌, arith, ext_get_or, lt-ltb, le-ltb}
 use Rattle.store.specs.Part.{put}
 use Rattle.store.specs.Row.{row}
-use Rattle.model.specs.Lists.{if◌then◌else◌, all_of, any_of, member}
+use Rattle.model.specs.Lists.{when◌then◌else◌, all_of, any_of, member}
 use Rattle.model.specs.Program.{Program}
 use Rattle.model.specs.Roots.{relevant, roots}
 use Rattle.theory.specs.Cases.{if_true, if_false}
@@ -113,7 +113,7 @@ module _ (z : Shape) (rs s : List ℕ) where
         kept : RowsIn p z rs x
         kept = rows_kept o a.records
 
-        said : get_or (row x z.u relevant_row) n 0 ≡ (if relevant p n then 1 else 0)
+        said : get_or (row x z.u relevant_row) n 0 ≡ (when relevant p n then 1 else 0)
         said = kept.tells n node_in
 
         go : (t : Bool) → relevant p n ≡ t → LinksFrom p z (z.operations + r) y

@@ -6,7 +6,7 @@ use Prim.Native.Nat.{ℕ, suc, ◌+◌, ◌-◌, ◌*◌, ◌≤◌, ◌<◌}
 use native.Mathlib.Omega.{arith}
 use Rattle.std.proofs.Math.Seq.{take-set-lt}
 use Rattle.store.specs.Row.{row, row_length, Written}
-use Rattle.model.specs.Lists.{if◌then◌else◌}
+use Rattle.model.specs.Lists.{when◌then◌else◌}
 use Rattle.model.specs.Program.{Node, identity, letter, product}
 use Rattle.model.specs.Packing.{one_use_more, count_children, count_uses}
 use Rattle.theory.specs.Cases.{by_if, if_true, if_false}
@@ -88,8 +88,8 @@ take_children count n (letter q x) uses h c = refl
 take_children count n (product a p b q) uses h c =
     take_more count b (one_use_more a uses) (omega arith) ∙ ap (one_use_more b) (take_more count a uses (omega arith))
 
-take_if : (count : ℕ) (t : Bool) (x y : List ℕ) → take count (if t then x else y) ≡ (if t then take count x else take count y)
-unfolding if◌then◌else◌
+take_if : (count : ℕ) (t : Bool) (x y : List ℕ) → take count (when t then x else y) ≡ (when t then take count x else take count y)
+unfolding when◌then◌else◌
 take_if count true x y = refl
 take_if count false x y = refl
 

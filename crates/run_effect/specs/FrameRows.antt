@@ -5,7 +5,7 @@ use Rattle.std.proofs.Common.{sym, ◌∙◌, ap₂, subst, inl, inr, arith}
 use mathlib.Core.List.{List, [], ◌∷◌, map}
 use Rattle.std.proofs.Math.ListN.{length}
 use Rattle.pauli.specs.Word.{width}
-use Rattle.model.specs.Lists.{if◌then◌else◌, keep}
+use Rattle.model.specs.Lists.{when◌then◌else◌, keep}
 use Rattle.model.specs.Program.{PauliRef, Program}
 use Rattle.model.specs.Rules.{Rules}
 use Rattle.model.specs.Words.{Value, as_value, scaled}
@@ -51,7 +51,7 @@ module _ {W : Type 0} (word : List ℕ → W) (p : Program) where
       → ((r : PauliRef) → In r rest → is_root p r ≡ false → g (source_row word p r) ≡ source_row word p r)
       → length fs ≡ length (keep (is_root p) rest) → map (packed_row word ys) fs' ≡ map g (map (packed_row word xs) fs)
       → work_rows_from word p ys rest fs' ≡ map g (work_rows_from word p xs rest fs)
-  unfolding work_rows_from work_row axes_left keep if◌then◌else◌
+  unfolding work_rows_from work_row axes_left keep when◌then◌else◌
   rows_moved g xs ys [] fs fs' kept n e = refl
   rows_moved g xs ys (r ∷ rest) fs fs' kept n e =
       go (λ fs fs' m f. rows_moved g xs ys rest fs fs' (λ x i. kept x (inr i)) m f) (is_root p r) refl fs fs' n e
@@ -64,7 +64,7 @@ module _ {W : Type 0} (word : List ℕ → W) (p : Program) where
           → work_rows_from word p ys rest fs' ≡ map g (work_rows_from word p xs rest fs)
 
       go : Later → (b : Bool) → is_root p r ≡ b → (fs fs' : List SignedAxis)
-          → length fs ≡ length (if b then r ∷ keep (is_root p) rest else keep (is_root p) rest)
+          → length fs ≡ length (when b then r ∷ keep (is_root p) rest else keep (is_root p) rest)
           → map (packed_row word ys) fs' ≡ map g (map (packed_row word xs) fs)
           → work_row word p ys b r fs' ∷ work_rows_from word p ys rest (axes_left b fs')
           ≡ map g (work_row word p xs b r fs ∷ work_rows_from word p xs rest (axes_left b fs))
@@ -79,7 +79,7 @@ module _ {W : Type 0} (word : List ℕ → W) (p : Program) where
   -- the work's rows are the source's
   pub rows_source : (xs : List (List ℕ)) (rest : List PauliRef) (fs : List SignedAxis)
       → map (packed_row word xs) fs ≡ map (source_row word p) (keep (is_root p) rest) → work_rows_from word p xs rest fs ≡ map (source_row word p) rest
-  unfolding work_rows_from work_row axes_left keep if◌then◌else◌
+  unfolding work_rows_from work_row axes_left keep when◌then◌else◌
   rows_source xs [] fs e = refl
   rows_source xs (r ∷ rest) fs e = go (rows_source xs rest) (is_root p r) fs e
     where
@@ -89,7 +89,7 @@ module _ {W : Type 0} (word : List ℕ → W) (p : Program) where
           → work_rows_from word p xs rest fs ≡ map (source_row word p) rest
 
       go : Later → (b : Bool) (fs : List SignedAxis)
-          → map (packed_row word xs) fs ≡ map (source_row word p) (if b then r ∷ keep (is_root p) rest else keep (is_root p) rest)
+          → map (packed_row word xs) fs ≡ map (source_row word p) (when b then r ∷ keep (is_root p) rest else keep (is_root p) rest)
           → work_row word p xs b r fs ∷ work_rows_from word p xs rest (axes_left b fs) ≡ source_row word p r ∷ map (source_row word p) rest
       go later false fs e = ap (λ (l : List Row). source_row word p r ∷ l) (later fs e)
       go later true [] e =

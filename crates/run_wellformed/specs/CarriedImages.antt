@@ -12,7 +12,7 @@ use Rattle.pauli.specs.Word.{x_word, z_word, symplectic}
 use Rattle.pauli.specs.Letter.{x_bit, z_bit, letter_of, letter_at, single, other, acts}
 use Rattle.pauli.specs.ProductLaws.{symplectic_xor, symplectic_lt}
 use Rattle.pauli.specs.LetterLaws.{acts_bit}
-use Rattle.model.specs.Lists.{if◌then◌else◌, numbers_from, is_odd}
+use Rattle.model.specs.Lists.{when◌then◌else◌, numbers_from, is_odd}
 use Rattle.model.specs.Words.{Value, as_value, scaled, multiply, set_bits, support}
 use Rattle.model.specs.Clifford.{Images, absorb_image, absorb_images, own_images, Touched, touch, touch_all, absorb_word, image_of, letter_image}
 use Rattle.model.specs.Clifford.{multiply_images}
@@ -89,7 +89,7 @@ module _ (l : ℕ) where
       on_if (λ (v : Value). v ≡ as_value (single l q c)) (eqb (own_images l t).qubit q) (image_of c (own_images l t)) (as_value (single l q c))
       (λ e. own_image l t h ∙ ap (λ (i : ℕ). as_value (single l i c)) (unfold own_images in (eqb-true t q e))) (λ e. refl)
   touched_letter (g ∷ held) t q {c} h =
-      ap (λ (v : Value). if eqb g.qubit q then image_of c g else v) (touched_letter held t q h)
+      ap (λ (v : Value). when eqb g.qubit q then image_of c g else v) (touched_letter held t q h)
 
   touch_letter : (s : Touched) (t q : ℕ) {c : ℕ} → Proper c → letter_image l (touch l s t).held q c ≡ letter_image l s.held q c
   unfolding touch
@@ -129,10 +129,10 @@ module _ (l : ℕ) where
         later = letter_image l (map (absorb_images l b k) held) q c
 
         go : (t : Bool) → eqb h.qubit q ≡ t → symplectic l v later.word ≡ symplectic l v (letter_image l held q c).word
-            → symplectic l v (if eqb (absorb_images l b k h).qubit q then image_of c (absorb_images l b k h) else later).word
-            ≡ symplectic l v (if eqb h.qubit q then image_of c h else letter_image l held q c).word
-        go true e ih = unfold absorb_images if◌then◌else◌ in (rw e (image_of_same c h))
-        go false e ih = unfold absorb_images if◌then◌else◌ in (rw e ih)
+            → symplectic l v (when eqb (absorb_images l b k h).qubit q then image_of c (absorb_images l b k h) else later).word
+            ≡ symplectic l v (when eqb h.qubit q then image_of c h else letter_image l held q c).word
+        go true e ih = unfold absorb_images when◌then◌else◌ in (rw e (image_of_same c h))
+        go false e ih = unfold absorb_images when◌then◌else◌ in (rw e ih)
 
   -- ---- carrying: the images of the letters multiply
 

@@ -5,7 +5,7 @@ use Rattle.std.proofs.Math.Nat.{add-mul}
 use Rattle.std.proofs.Math.ListN.{length}
 use Rattle.std.proofs.lemmas.List.{length-map}
 use Rattle.pauli.specs.Word.{width}
-use Rattle.model.specs.Lists.{if◌then◌else◌}
+use Rattle.model.specs.Lists.{when◌then◌else◌}
 use Rattle.model.specs.Program.{Node, identity, letter, product, PauliRef, Program}
 use Rattle.model.specs.Words.{Value, word_of, Store, tested, intern, support}
 use Rattle.model.specs.Value.{value_at}
@@ -67,7 +67,7 @@ pub pack_roots_fits : (l n : ℕ) (v : Value) (p : Pack) (rs : List PauliRef) �
 unfolding pack_roots
 pack_roots_fits l n v p [] h = h
 pack_roots_fits l n v p (r ∷ rs) h =
-    pack_roots_fits l n v (if p.refused then p else pack_root l n v p r) rs (by_if (PackFits l) p.refused p (pack_root l n v p r) h (pack_root_fits l n v p r h))
+    pack_roots_fits l n v (when p.refused then p else pack_root l n v p r) rs (by_if (PackFits l) p.refused p (pack_root l n v p r) h (pack_root_fits l n v p r h))
 
 -- a node's turn
 pub pack_node_fits : (l : ℕ) (rs : List PauliRef) (vs : List Value) (n : ℕ) (node : Node) (p : Pack) → PackFits l p

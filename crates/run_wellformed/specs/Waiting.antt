@@ -11,7 +11,7 @@ use Rattle.std.proofs.Math.Seq.{set-append_seam}
 use borrow.Author.Tests.{eqb-true, eqb-false}
 use Rattle.pauli.specs.Word.{symplectic, anticommutes}
 use Rattle.pauli.specs.ProductLaws.{symplectic_comm, anticommutes_false}
-use Rattle.model.specs.Lists.{if◌then◌else◌, is_even}
+use Rattle.model.specs.Lists.{when◌then◌else◌, is_even}
 use Rattle.model.specs.declared.Absorption.{Absorption}
 use Rattle.model.specs.declared.Absorption.TheVariants.{Lazy as lazy}
 use Rattle.model.specs.Rules.{is_at_once, Rules}
@@ -145,13 +145,13 @@ module _ (l : ℕ) where
   unfolding absorb_waiting_at zeroed leave_zero set_angle with_last
   absorb_waiting_at_out picks p front (rotation r) is e = go (is_clifford r.angle && picks r.axis)
     where
-      go : (t : Bool) → (if t then leave_zero (length front) r.axis (absorb l p r.axis r.angle) else p).out
-          ≡ front ++ ((if t then rotation (rot r.axis 0) else rotation r) ∷ is)
+      go : (t : Bool) → (when t then leave_zero (length front) r.axis (absorb l p r.axis r.angle) else p).out
+          ≡ front ++ ((when t then rotation (rot r.axis 0) else rotation r) ∷ is)
       go true =
-          unfold if◌then◌else◌ leave_zero set_angle with_last absorb in
+          unfold when◌then◌else◌ leave_zero set_angle with_last absorb in
           (ap (λ (x : List Item). set x (length front) (rotation (rot r.axis 0))) e ∙ set-append_seam front (rotation r) is
           (rotation (rot r.axis 0)))
-      go false = unfold if◌then◌else◌ in e
+      go false = unfold when◌then◌else◌ in e
   absorb_waiting_at_out picks p front (barrier o a s) is e = e
 
   -- from the place after `front` on
@@ -377,7 +377,7 @@ module _ (l : ℕ) where
     take_rotation_waiting merging p a k b n y h =
         on_if (Waiting l) (is_at_once r.absorption && is_even k) (absorb l p a k) _
         (λ e. absurd (false≢true (sym (ap is_at_once is_lazy_lem) ∙ and_left (is_at_once r.absorption) (is_even k) e)))
-        (λ e. merge_or_put_out_waiting p a k (if merging then p.last a else nowhere) b n y
+        (λ e. merge_or_put_out_waiting p a k (when merging then p.last a else nowhere) b n y
         (λ j. by_if (λ (x : Place). x ≡ at j → p.last a ≡ at j) merging (p.last a) nowhere (λ f. f) (λ f. nowhere_at j f)) h)
 
   -- ---- at a barrier and at the end none waits

@@ -5,7 +5,7 @@ use Rattle.std.proofs.lemmas.Bool.{false≢true}
 use mathlib.Core.List.{List, [], ◌∷◌, ◌++◌, map}
 use Rattle.pauli.specs.Word.{symplectic}
 use Rattle.pauli.specs.ProductLaws.{symplectic_comm, symplectic_self, anticommutes_false}
-use Rattle.model.specs.Lists.{if◌then◌else◌, all_of}
+use Rattle.model.specs.Lists.{when◌then◌else◌, all_of}
 use Rattle.model.specs.Words.{word_of, anticommute}
 use Rattle.model.specs.Items.{Rot, rot, Item, rotation, barrier, is_clifford}
 use Rattle.model.specs.Stream.{lets_pass}
@@ -28,7 +28,7 @@ Still (barrier o a s) = Unit {0}
 
 -- a rotation that waits and whose axis is picked is absorbed, and leaves a zero
 unfoldable pub zeroed : (ℕ → Bool) → Item → Item
-zeroed picks (rotation r) = if is_clifford r.angle && picks r.axis then rotation (rot r.axis 0) else rotation r
+zeroed picks (rotation r) = when is_clifford r.angle && picks r.axis then rotation (rot r.axis 0) else rotation r
 zeroed picks (barrier o a s) = barrier o a s
 
 -- none waits once all were picked

@@ -1,6 +1,6 @@
 -- What a run shows at a word limit. Assumes nothing.
 use Rattle.std.specs.Prelude.{ℕ, ltb}
-use Rattle.model.specs.Lists.{if◌then◌else◌}
+use Rattle.model.specs.Lists.{when◌then◌else◌}
 use Rattle.model.specs.Program.{Program}
 use Rattle.model.specs.Rules.{Rules}
 use Rattle.model.specs.Run.{run}
@@ -13,4 +13,4 @@ pub data Outcome : Type 0 where
   within : Shown → Outcome
 
 abbrev pub outcome : ℕ → Rules → ℕ → Program → Outcome
-outcome limit r k p = if ltb limit (run r k p).peak then limit_exceeded else within (shown r k p)
+outcome limit r k p = when ltb limit (run r k p).peak then limit_exceeded else within (shown r k p)

@@ -7,7 +7,7 @@ use mathlib.Core.List.{List, [], ◌∷◌, ◌++◌}
 use Rattle.std.proofs.Math.Dec.{eqb}
 use Rattle.std.proofs.Math.Seq.{set-append_seam}
 use Rattle.model.specs.Program.{Operation}
-use Rattle.model.specs.Lists.{if◌then◌else◌, all_of, is_even}
+use Rattle.model.specs.Lists.{when◌then◌else◌, all_of, is_even}
 use Rattle.model.specs.declared.Absorption.{Absorption}
 use Rattle.model.specs.Rules.{is_at_once, Rules}
 use Rattle.model.specs.Items.{rot, Item, rotation, is_clifford}
@@ -121,7 +121,7 @@ module _ (l : ℕ) (operations : List Operation) where
     merge_at_follows m k h =
         let n = (split.angle + k) % 8 in
         let g = merged k h in
-        on_if (S X) (is_at_once m && is_clifford n) (leave_zero j a (absorb l p a n)) (if eqb n 0 then leave_zero j a p else set_angle j a n p)
+        on_if (S X) (is_at_once m && is_clifford n) (leave_zero j a (absorb l p a n)) (when eqb n 0 then leave_zero j a p else set_angle j a n p)
         (λ e. merged_absorbed n (omega arith) (and_right (is_at_once m) (is_clifford n) e) g)
         (λ e. on_if (S X) (eqb n 0) (leave_zero j a p) (set_angle j a n p) (λ z. merged_zero n (eqb-true n 0 z) g) (λ z. merged_set n g))
 
@@ -169,9 +169,9 @@ module _ (l : ℕ) (operations : List Operation) where
       → 0 < k → k ≤ 7 → Pending l operations X p a k → S X (take_rotation l r merging p a k)
   unfolding take_rotation
   take_rotation_follows X r merging p a k w s b z n h =
-      on_if (S X) (is_at_once r.absorption && is_even k) (absorb l p a k) (merge_or_put_out l r p a k (if merging then p.last a else nowhere))
+      on_if (S X) (is_at_once r.absorption && is_even k) (absorb l p a k) (merge_or_put_out l r p a k (when merging then p.last a else nowhere))
       (λ e. absorbed (and_right (is_at_once r.absorption) (is_even k) e))
-      (λ e. merge_or_put_out_follows X r p a k (if merging then p.last a else nowhere) w s
+      (λ e. merge_or_put_out_follows X r p a k (when merging then p.last a else nowhere) w s
       (λ j. by_if (λ (x : Place). x ≡ at j → p.last a ≡ at j) merging (p.last a) nowhere (λ f. f) (λ f. nowhere_at j f)) h)
     where
       absorbed : is_even k ≡ true → S X (absorb l p a k)

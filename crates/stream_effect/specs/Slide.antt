@@ -8,7 +8,7 @@ use Rattle.std.proofs.Math.Dec.{eqb}
 use Rattle.std.proofs.Math.IntN.{pos-+ℤ-pos}
 use borrow.Author.Tests.{eqb-true}
 use Rattle.groups.specs.Eighth.{Eighth, eighth}
-use Rattle.model.specs.Lists.{if◌then◌else◌, keep}
+use Rattle.model.specs.Lists.{when◌then◌else◌, keep}
 use Rattle.model.specs.Items.{Rot, rot, Item, rotation, barrier, is_nonzero, drop_zeros}
 use Rattle.theory.specs.Cases.{on_if}
 use Rattle.theory.specs.Every.{Every}
@@ -116,7 +116,7 @@ module _ (H : Setting) (word : ℕ → H.words.W) (barrier_op : ℕ → ℕ → 
   -- ---- "Zeros are removed"
 
   pub drop_zeros_effect : (is : List Item) → ops (drop_zeros is) ≈ ops is
-  unfolding drop_zeros keep if◌then◌else◌
+  unfolding drop_zeros keep when◌then◌else◌
   drop_zeros_effect [] = ≈-refl H []
   drop_zeros_effect (rotation t ∷ is) =
       let x = turn t.angle (word t.axis) in

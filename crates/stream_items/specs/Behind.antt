@@ -3,7 +3,7 @@ use Rattle.std.specs.Prelude.{◌≡◌, refl, Bool, false, ◌&&◌, List, [], 
 use Rattle.std.proofs.Math.Path.{sym, ap, ap₂, subst}
 use Rattle.std.proofs.Common.{◌∙◌, true≢false, arith}
 use Rattle.std.proofs.Math.Bool.{true}
-use Rattle.model.specs.Lists.{if◌then◌else◌}
+use Rattle.model.specs.Lists.{when◌then◌else◌}
 use Rattle.model.specs.declared.Lazy.{Lazy}
 use Rattle.model.specs.declared.Lazy.TheVariants.{Off, On, From}
 use Rattle.model.specs.declared.Absorption.{Absorption}
@@ -41,14 +41,14 @@ begins_at c x = is_at_once c.absorption && named_item c.lazy (item_said x)
 abbrev pub rules_then : Bool → StreamRules → StreamRules
 rules_then begin c = record {
   lookback = c.lookback;
-  absorption = if begin then lazy else c.absorption;
+  absorption = when begin then lazy else c.absorption;
   lazy = c.lazy;
   merge = c.merge;
 }
 
 -- none is named yet
 unfoldable pub state_then : Bool → State → State
-state_then begin st = if begin then with_waiting 0 st else st
+state_then begin st = when begin then with_waiting 0 st else st
 
 -- whether x is named, by the setting
 module _ (setting : Lazy) (x : Tagged) where
@@ -82,12 +82,12 @@ module _ (c : StreamRules) (x : Tagged) {b : Bool} (told : b ≡ is_at_once c.ab
 
 -- the rules and the state, by whether even rotations begin to wait
 pub rules_kept : (c : StreamRules) {begin : Bool} → begin ≡ false → c ≡ rules_then begin c
-unfolding if◌then◌else◌
+unfolding when◌then◌else◌
 rules_kept c e = ap (λ (b : Bool). rules_then b c) (sym e)
 
 pub rules_begun : (c : StreamRules) {begin : Bool} → begin ≡ true
     → ◌≡◌ {A = StreamRules} (record { lookback = c.lookback; absorption = lazy; lazy = c.lazy; merge = c.merge }) (rules_then begin c)
-unfolding if◌then◌else◌
+unfolding when◌then◌else◌
 rules_begun c e = ap (λ (b : Bool). rules_then b c) (sym e)
 
 pub state_kept : (st : State) {begin : Bool} → begin ≡ false → st ≡ state_then begin st
@@ -110,8 +110,8 @@ then_absorbed begin st = by_if (λ (s : State). s.absorbed ≡ st.absorbed) begi
 -- ---- it is the model's `rulesAfter`
 
 item_absorption : (g : Rules) (i : Item)
-    → (rules_after g i).absorption ≡ (if named_item g.lazy i then to_lazy g.absorption else g.absorption)
-unfolding after_barrier named_item if◌then◌else◌
+    → (rules_after g i).absorption ≡ (when named_item g.lazy i then to_lazy g.absorption else g.absorption)
+unfolding after_barrier named_item when◌then◌else◌
 item_absorption g (rotation t) = refl
 item_absorption g (barrier o a s) = refl
 
@@ -121,8 +121,8 @@ item_others g (rotation t) = (refl, refl)
 item_others g (barrier o a s) = (refl, refl)
 
 -- only where they are absorbed at once does it change anything
-begun_is : (m : Absorption) (named : Bool) → (if is_at_once m && named then lazy else m) ≡ (if named then to_lazy m else m)
-unfolding if◌then◌else◌
+begun_is : (m : Absorption) (named : Bool) → (when is_at_once m && named then lazy else m) ≡ (when named then to_lazy m else m)
+unfolding when◌then◌else◌
 begun_is off true = refl
 begun_is off false = refl
 begun_is at_once true = refl
@@ -140,7 +140,7 @@ module _ {c : StreamRules} {g : Rules} (said : RulesAs c g) (x : Tagged) where
   rules_then_lem = record {
     lookback = said.lookback ∙ sym (item_others g (item_said x)).0;
     absorption = unfold begins_at in (begun_is c.absorption (named_item c.lazy (item_said x)))
-        ∙ ap₂ (λ (m : Absorption) (s : Lazy). if named_item s (item_said x) then to_lazy m else m) said.absorption said.lazy
+        ∙ ap₂ (λ (m : Absorption) (s : Lazy). when named_item s (item_said x) then to_lazy m else m) said.absorption said.lazy
         ∙ sym (item_absorption g (item_said x));
     lazy = said.lazy ∙ sym (item_others g (item_said x)).1;
   }

@@ -9,7 +9,7 @@ use mathlib.Core.List.{List}
 use Rattle.std.proofs.Math.Decide.{ℕ_discrete}
 use Rattle.std.proofs.Math.ListN.{get_or}
 use Rattle.store.specs.Row.{Written}
-use Rattle.model.specs.Lists.{if◌then◌else◌, all_of, any_of, member, is_even}
+use Rattle.model.specs.Lists.{when◌then◌else◌, all_of, any_of, member, is_even}
 use Rattle.model.specs.declared.Absorption.TheVariants.{Off as off}
 use Rattle.model.specs.Words.{anticommute}
 use Rattle.model.specs.Items.{rot, Item, rotation, barrier, is_clifford}
@@ -133,7 +133,7 @@ pass_over l picks p j (barrier o a s) e = refl
 
 module _ (l : ℕ) (picks : ℕ → Bool) (p : Pass) (j : ℕ) (x : Tagged) (waits : is_waiting (item_said x) ≡ true) where
   as_rotation : absorb_waiting_at l picks p j (item_said x)
-      ≡ (if is_clifford x.angle && picks x.axis then leave_zero j x.axis (absorb l p x.axis x.angle) else p)
+      ≡ (when is_clifford x.angle && picks x.axis then leave_zero j x.axis (absorb l p x.axis x.angle) else p)
   unfolding absorb_waiting_at
   as_rotation = ap (absorb_waiting_at l picks p j) (said_rotation x (waiting_tag x waits))
 

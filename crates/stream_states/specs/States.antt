@@ -2,7 +2,7 @@
 use Rattle.std.specs.Prelude.{◌≡◌, refl, Bool, true, false, List, ◌∷◌, ℕ, ◌+◌, ◌-◌, ◌≤◌, ◌<◌, ltb, get_or}
 use Rattle.std.proofs.Common.{sym, subst, true≢false, arith}
 use Rattle.store.specs.Row.{row}
-use Rattle.model.specs.Lists.{if◌then◌else◌}
+use Rattle.model.specs.Lists.{when◌then◌else◌}
 use Rattle.model.specs.declared.Absorption.{Absorption}
 use Rattle.model.specs.declared.Absorption.TheVariants.{Off as off, AtOnce as at_once, Lazy as lazy}
 use Rattle.model.specs.Rules.{is_lazy, Rules}
@@ -30,7 +30,7 @@ held_of p = record { store = p.store; held = p.held }
 
 -- an entry of row LAST: a place that counts lies behind the segment's start
 unfoldable pub place_said : ℕ → ℕ → Place
-place_said start v = if ltb start v then at (v - 1) else nowhere
+place_said start v = when ltb start v then at (v - 1) else nowhere
 
 -- axis a's entry
 abbrev pub last_in : Shape → List ℕ → ℕ → ℕ

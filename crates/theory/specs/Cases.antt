@@ -4,39 +4,39 @@ use Rattle.std.specs.Prelude.{◌≡◌, refl, Bool, true, false, ◌&&◌, ◌|
 use Rattle.std.proofs.Common.{sym, ap, ◌∙◌, true≢false, arith}
 use Rattle.std.proofs.Math.Bool.{or-true}
 use Rattle.std.proofs.Math.Option.{Option, none, some, or_else, bind, map}
-use Rattle.model.specs.Lists.{if◌then◌else◌}
+use Rattle.model.specs.Lists.{when◌then◌else◌}
 
 -- whatever the test says
-pub by_if : {A : Type 0} (P : A → Type 0) (b : Bool) (x y : A) → P x → P y → P (if b then x else y)
-unfolding if◌then◌else◌
+pub by_if : {A : Type 0} (P : A → Type 0) (b : Bool) (x y : A) → P x → P y → P (when b then x else y)
+unfolding when◌then◌else◌
 by_if P b x y hx hy = go b
   where
-    go : (b : Bool) → P (if b then x else y)
+    go : (b : Bool) → P (when b then x else y)
     go true = hx
     go false = hy
 
 -- with the test's value in hand
-pub on_if : {A : Type 0} (P : A → Type 0) (b : Bool) (x y : A) → (b ≡ true → P x) → (b ≡ false → P y) → P (if b then x else y)
-unfolding if◌then◌else◌
+pub on_if : {A : Type 0} (P : A → Type 0) (b : Bool) (x y : A) → (b ≡ true → P x) → (b ≡ false → P y) → P (when b then x else y)
+unfolding when◌then◌else◌
 on_if P b x y hx hy = go b hx hy
   where
-    go : (b : Bool) → (b ≡ true → P x) → (b ≡ false → P y) → P (if b then x else y)
+    go : (b : Bool) → (b ≡ true → P x) → (b ≡ false → P y) → P (when b then x else y)
     go true hx hy = hx refl
     go false hx hy = hy refl
 
 -- where the test holds
-pub if_true : {A : Type 0} {b : Bool} (x y : A) → b ≡ true → (if b then x else y) ≡ x
-unfolding if◌then◌else◌
+pub if_true : {A : Type 0} {b : Bool} (x y : A) → b ≡ true → (when b then x else y) ≡ x
+unfolding when◌then◌else◌
 if_true x y e = rw e refl
 
 -- where it fails
-pub if_false : {A : Type 0} {b : Bool} (x y : A) → b ≡ false → (if b then x else y) ≡ y
-unfolding if◌then◌else◌
+pub if_false : {A : Type 0} {b : Bool} (x y : A) → b ≡ false → (when b then x else y) ≡ y
+unfolding when◌then◌else◌
 if_false x y e = rw e refl
 
 -- a function of a choice
-pub of_if : {A B : Type 0} (g : A → B) (b : Bool) (x y : A) → g (if b then x else y) ≡ (if b then g x else g y)
-unfolding if◌then◌else◌
+pub of_if : {A B : Type 0} (g : A → B) (b : Bool) (x y : A) → g (when b then x else y) ≡ (when b then g x else g y)
+unfolding when◌then◌else◌
 of_if g true x y = refl
 of_if g false x y = refl
 

@@ -9,7 +9,7 @@ use Rattle.model.specs.declared.Answer.{Answer}
 use Rattle.model.specs.declared.Answer.TheVariants.{Accepted, CountOutside, OptionOutside, SliceShort, BadNode, BadQubit, BadReference}
 use Rattle.model.specs.declared.Answer.TheVariants.{BadOperation}
 use Rattle.model.specs.declared.Answer.TheVariants.{BadOutcome, NonHermitianAxis, ExpansionLimit, BadText, BadPlace}
-use Rattle.model.specs.Lists.{if◌then◌else◌}
+use Rattle.model.specs.Lists.{when◌then◌else◌}
 use Rattle.model.specs.Interface.{number_of, accepts}
 use Rattle.model.specs.Program.{field_of, Job, node_records, operation_records, row_records, Node, identity, letter, product, node_of_kind, node_of}
 use Rattle.model.specs.Program.{Operation}
@@ -70,8 +70,8 @@ both_accepted a b =
     (λ e h. (accepts_only a e, h)) (λ e h. absurd (not_accepted a e h))
 
 -- a refusal that did not come
-pub not_refused : (t : Bool) (a b : Answer) → accepts a ≡ false → (if t then a else b) ≡ Accepted → (t ≡ false) × (b ≡ Accepted)
-unfolding if◌then◌else◌
+pub not_refused : (t : Bool) (a b : Answer) → accepts a ≡ false → (when t then a else b) ≡ Accepted → (t ≡ false) × (b ≡ Accepted)
+unfolding when◌then◌else◌
 not_refused true a b n h = absurd (not_accepted a n h)
 not_refused false a b n h = (refl, h)
 

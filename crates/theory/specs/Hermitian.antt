@@ -8,7 +8,7 @@ use borrow.Author.Tests.{eqb-true, ltb-true, ltb-false}
 use Rattle.pauli.specs.Word.{width}
 use Rattle.model.specs.declared.Options.{Options}
 use Rattle.model.specs.declared.Answer.TheVariants.{Accepted, ExpansionLimit}
-use Rattle.model.specs.Lists.{if◌then◌else◌, keep, is_odd}
+use Rattle.model.specs.Lists.{when◌then◌else◌, keep, is_odd}
 use Rattle.model.specs.Program.{Job, Node, PauliRef, Program, program_of}
 use Rattle.model.specs.Rules.{rules_of}
 use Rattle.model.specs.Words.{Value}
@@ -51,7 +51,7 @@ pack_roots_even : (l n : ℕ) (v : Value) (p : Pack) (rs : List PauliRef) → Ev
 unfolding pack_roots
 pack_roots_even l n v p [] h e = e
 pack_roots_even l n v p (r ∷ rs) h e =
-    pack_roots_even l n v (if p.refused then p else pack_root l n v p r) rs h.1
+    pack_roots_even l n v (when p.refused then p else pack_root l n v p r) rs h.1
     (by_if (λ (q : Pack). q.refused ≡ false) p.refused p (pack_root l n v p r) e (pack_root_even l n v p r h.0 ∙ e))
 
 -- the roots at node n have its value

@@ -3,7 +3,7 @@ use Rattle.std.specs.Prelude.{◌≡◌, refl, Bool, true, false, List, [], ◌�
 use Rattle.std.proofs.Common.{sym, ap, ◌∙◌, le_refl, le_trans, arith, length-append, ltb-true, lt-ltb}
 use Rattle.std.proofs.Math.ListN.{get_or-append}
 use Rattle.store.specs.Equal.{same_list, same_refl, same_true}
-use Rattle.model.specs.Lists.{if◌then◌else◌}
+use Rattle.model.specs.Lists.{when◌then◌else◌}
 use Rattle.model.specs.Words.{id_of, word_of, Store, intern}
 use Rattle.theory.specs.Cases.{by_if, on_if, if_true, if_false}
 
@@ -26,7 +26,7 @@ id_word (a ∷ axes) w h =
 pub id_append : (axes : List (List ℕ)) (w : List ℕ) → id_of (axes ++ (w ∷ [])) w ≡ id_of axes w
 unfolding id_of
 id_append [] w = rw (same_refl w) (if_true _ _ refl)
-id_append (a ∷ axes) w = ap (λ (n : ℕ). if same_list a w then 0 else suc n) (id_append axes w)
+id_append (a ∷ axes) w = ap (λ (n : ℕ). when same_list a w then 0 else suc n) (id_append axes w)
 
 -- storing a word does not change what its id is
 pub id_stored : (l extra : ℕ) (st : Store) (w : List ℕ) → id_of (intern l extra st w).axes w ≡ id_of st.axes w
@@ -98,11 +98,11 @@ id_behind [] v w h = absurd (omega arith)
 id_behind (a ∷ axes) v w h = go (same_list a w) refl (λ s. id_behind axes v w s)
   where
     go : (b : Bool) → same_list a w ≡ b → (Stored axes w → id_of (axes ++ (v ∷ [])) w ≡ id_of axes w)
-        → (if same_list a w then 0 else suc (id_of (axes ++ (v ∷ [])) w)) ≡ (if same_list a w then 0 else suc (id_of axes w))
+        → (when same_list a w then 0 else suc (id_of (axes ++ (v ∷ [])) w)) ≡ (when same_list a w then 0 else suc (id_of axes w))
     go true e ih = if_true 0 _ e ∙ sym (if_true 0 _ e)
     go false e ih =
-        let s : (if same_list a w then 0 else suc (id_of axes w)) ≡ suc (id_of axes w) = if_false 0 _ e in
-        ap (λ (n : ℕ). if same_list a w then 0 else suc n) (ih (omega arith))
+        let s : (when same_list a w then 0 else suc (id_of axes w)) ≡ suc (id_of axes w) = if_false 0 _ e in
+        ap (λ (n : ℕ). when same_list a w then 0 else suc n) (ih (omega arith))
 
 -- so storing a word changes no stored word's id
 pub id_keeps : (l others : ℕ) (st : Store) (v w : List ℕ) → Stored st.axes w → id_of (intern l others st v).axes w ≡ id_of st.axes w

@@ -6,7 +6,7 @@ use Rattle.std.proofs.Math.Bool.{false}
 use Rattle.model.specs.declared.Options.{Options}
 use Rattle.model.specs.declared.Answer.{Answer}
 use Rattle.model.specs.declared.Answer.TheVariants.{Accepted, CountOutside, OptionOutside, SliceShort, NonHermitianAxis, ExpansionLimit}
-use Rattle.model.specs.Lists.{if◌then◌else◌}
+use Rattle.model.specs.Lists.{when◌then◌else◌}
 use Rattle.model.specs.Interface.{accepts}
 use Rattle.model.specs.Program.{Job, Program, program_of}
 use Rattle.model.specs.Rules.{Rules, rules_of}
@@ -81,9 +81,9 @@ module _ (o o' : Options) (j j' : Job) (s s' : Lent) (alike : Alike j j') (same 
       let count : bad_count j'.counts ≡ false = rw alike.counts (not_refused _ CountOutside _ refl c).0 in
       let short = program_short j' || lent_short j'.counts s' (limit_of o') in
       let records = check_records o'.lazy_cliffords j' in
-      let left = if short then SliceShort else records in
+      let left = when short then SliceShort else records in
       let right : records ≡ Accepted = rw lazy_same (alike_records _ j j' alike ∙ checking_records o j s (unfold checking in c)) in
-      rw (if_false CountOutside (if bad_option o' then OptionOutside else left) count)
+      rw (if_false CountOutside (when bad_option o' then OptionOutside else left) count)
       (on_if (λ (x : Answer). (x ≡ OptionOutside → ⊥) → (x ≡ SliceShort → ⊥) → x ≡ Accepted) (bad_option o') OptionOutside left
       (λ e p q. absurd (p refl))
       (λ e. on_if (λ (x : Answer). (x ≡ OptionOutside → ⊥) → (x ≡ SliceShort → ⊥) → x ≡ Accepted) short SliceShort records

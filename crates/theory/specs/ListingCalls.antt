@@ -11,7 +11,7 @@ use Rattle.model.specs.declared.Counts.{Counts}
 use Rattle.model.specs.declared.Answer.{Answer}
 use Rattle.model.specs.declared.Answer.TheVariants.{Accepted, CountOutside, OptionOutside, NonHermitianAxis, ExpansionLimit, BadText}
 use Rattle.model.specs.declared.Counters.{Counters}
-use Rattle.model.specs.Lists.{if◌then◌else◌}
+use Rattle.model.specs.Lists.{when◌then◌else◌}
 use Rattle.model.specs.Interface.{number_of, accepts, of_checking, defaults_at}
 use Rattle.model.specs.Program.{field_of, Program, program_of}
 use Rattle.model.specs.Rules.{Rules, absorption_of, rules_of}
@@ -46,7 +46,7 @@ checks_of t = listing_checks (options_of t) t.job
 -- 11 for a text that cannot be read, then as Rewriting
 unfoldable pub listing_answer : Option Read → Answer
 listing_answer none = BadText
-listing_answer (some t) = if accepts (checks_of t) then answer_of t.limit (listed_run t) else checks_of t
+listing_answer (some t) = when accepts (checks_of t) then answer_of t.limit (listed_run t) else checks_of t
 
 -- ---- its number is printed first
 
@@ -66,7 +66,7 @@ end_begins r p non_hermitian = refusal_begins NonHermitianAxis
 end_begins r p (finished f) = record { fields = _; rest = _; printed = refl }
 
 run_begins : (r : Rules) (p : Program) (limit : ℕ) (w : Run) → Begins (answer_of limit w) (run_lines r p limit w)
-unfolding answer_of run_lines if◌then◌else◌
+unfolding answer_of run_lines when◌then◌else◌
 run_begins r p limit w = go (ltb limit w.peak) refl
   where
     go : (t : Bool) → ltb limit w.peak ≡ t → Begins (answer_of limit w) (run_lines r p limit w)
@@ -75,7 +75,7 @@ run_begins r p limit w = go (ltb limit w.peak) refl
 
 -- a listing's first field is its answer's number
 pub answer_printed : (x : Option Read) → Begins (listing_answer x) (lines_of x)
-unfolding listing_answer lines_of job_lines if◌then◌else◌
+unfolding listing_answer lines_of job_lines when◌then◌else◌
 answer_printed none = refusal_begins BadText
 answer_printed (some t) = go (accepts (checks_of t)) refl
   where
@@ -119,8 +119,8 @@ pub defaults_good : (limit : ℕ) → limit ≤ 256 → bad_option (defaults_at 
 unfolding bad_option
 defaults_good limit h = le-ltb 1048576 limit (omega arith)
 
-checks_are : (t : Read) → t.limit ≤ 256 → checks_of t ≡ (if bad_count t.job.counts then CountOutside else check_program t.job)
-unfolding listing_checks if◌then◌else◌
+checks_are : (t : Read) → t.limit ≤ 256 → checks_of t ≡ (when bad_count t.job.counts then CountOutside else check_program t.job)
+unfolding listing_checks when◌then◌else◌
 checks_are t h = rw (defaults_good t.limit h) refl
 
 checks_low : (t : Read) → number_of (checks_of t) ≤ 8
@@ -139,7 +139,7 @@ module _ (text text' : List ℕ) (t t' : Read) (reads : read text ≡ some t) (r
   same_checks : checks_of t' ≡ checks_of t
   same_checks =
       checks_are t' (read_limit text' t' reads')
-      ∙ ap₂ (λ (c : Counts) (a : Answer). if bad_count c then CountOutside else a) alike.counts (alike_checked t.job t'.job alike)
+      ∙ ap₂ (λ (c : Counts) (a : Answer). when bad_count c then CountOutside else a) alike.counts (alike_checked t.job t'.job alike)
       ∙ sym (checks_are t (read_limit text t reads))
 
   same_rules : rules_of (options_of t') ≡ rules_of (options_of t)
@@ -149,7 +149,7 @@ module _ (text text' : List ℕ) (t t' : Read) (reads : read text ≡ some t) (r
   same_run = rw (same_rules, alike_program t.job t'.job alike) refl
 
   same_lines : t.limit ≤ t'.limit → accepts (checks_of t) ≡ true → (listed_run t).peak ≤ t.limit → job_lines t' ≡ job_lines t
-  unfolding job_lines run_lines if◌then◌else◌
+  unfolding job_lines run_lines when◌then◌else◌
   same_lines le a h =
       let b : accepts (checks_of t') ≡ true = ap accepts same_checks ∙ a in
       let h' : (listed_run t').peak ≤ t'.limit = rw same_run (le_trans h le) in

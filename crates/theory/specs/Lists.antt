@@ -9,7 +9,7 @@ use Rattle.std.proofs.Math.Nat.{le_refl, zero-add}
 use native.Mathlib.Omega.{arith}
 use Rattle.std.proofs.Math.ListN.{length, get_or, get_or-map}
 use Rattle.std.proofs.lemmas.List.{length-map}
-use Rattle.model.specs.Lists.{if◌then◌else◌, any_of, keep, count_of, sum_of, numbers_from}
+use Rattle.model.specs.Lists.{when◌then◌else◌, any_of, keep, count_of, sum_of, numbers_from}
 use Rattle.theory.specs.Cases.{by_if, on_if, if_true, if_false}
 
 module _ {A : Type 0} (f : A → ℕ) where
@@ -86,7 +86,7 @@ module _ {A : Type 0} (f : A → Bool) (x : A) (xs : List A) where
 
 -- all, if it takes all
 keep_all : {A : Type 0} (xs : List A) → keep (λ x. true) xs ≡ xs
-unfolding keep if◌then◌else◌
+unfolding keep when◌then◌else◌
 keep_all [] = refl
 keep_all {A} (x ∷ xs) = ap (λ (ys : List A). x ∷ ys) (keep_all xs)
 
@@ -125,7 +125,7 @@ pub keep_count : {A : Type 0} (f : A → Bool) (xs : List A) → length (keep f 
 unfolding keep count_of
 keep_count f [] = refl
 keep_count f (x ∷ xs) =
-    on_if (λ (ys : List _). length ys ≡ (if f x then 1 else 0) + count_of f xs) (f x) (x ∷ keep f xs) (keep f xs)
+    on_if (λ (ys : List _). length ys ≡ (when f x then 1 else 0) + count_of f xs) (f x) (x ∷ keep f xs) (keep f xs)
     (λ e. rw (if_true {A = ℕ} 1 0 e) (omega (arith, keep_count f xs))) (λ e. rw (if_false {A = ℕ} 1 0 e) (omega (arith, keep_count f xs)))
 
 -- a test counts at most all
@@ -210,6 +210,6 @@ pub keep_append : {A : Type 0} (f : A → Bool) (xs ys : List A) → keep f (xs 
 unfolding keep
 keep_append f [] ys = refl
 keep_append {A} f (x ∷ xs) ys =
-    on_if (λ (r : List A). (if f x then x ∷ keep f (xs ++ ys) else keep f (xs ++ ys)) ≡ r ++ keep f ys) (f x) (x ∷ keep f xs) (keep f xs)
+    on_if (λ (r : List A). (when f x then x ∷ keep f (xs ++ ys) else keep f (xs ++ ys)) ≡ r ++ keep f ys) (f x) (x ∷ keep f xs) (keep f xs)
     (λ e. if_true _ _ e ∙ ap (λ (r : List A). x ∷ r) (keep_append f xs ys))
     (λ e. if_false _ _ e ∙ keep_append f xs ys)

@@ -7,7 +7,7 @@ use Rattle.std.proofs.Math.Nat.{le_refl, le_trans, zero-add, suc-add}
 use native.Mathlib.Omega.{arith}
 use Rattle.model.specs.declared.Strategy.{Strategy}
 use Rattle.model.specs.declared.Strategy.TheVariants.{Merge, Litinski}
-use Rattle.model.specs.Lists.{if◌then◌else◌}
+use Rattle.model.specs.Lists.{when◌then◌else◌}
 use Rattle.model.specs.Rules.{Rules}
 use Rattle.model.specs.Rounds.{Work, stream_pass, layering_pass, merge_round, RoundBefore, no_round, rounds_from, closing_stream, merge_rounds}
 use Rattle.model.specs.Rounds.{litinski_from}
@@ -101,7 +101,7 @@ module _ (m : ℕ → ℕ) (law : Measure m) where
       (le_trans (stream_pass_no_more m law l r false (layering_pass l w)) (layering_pass_no_more m law l w)))
 
   litinski_from_more : (l : ℕ) (r : Rules) (k d : ℕ) (w : Work) → NoMore (litinski_from l r k w) (litinski_from l r (k + d) w)
-  unfolding litinski_from if◌then◌else◌
+  unfolding litinski_from when◌then◌else◌
   litinski_from_more l r zero d w = rw zero-add (litinski_from_no_more l r d w)
   litinski_from_more l r (suc k) d w =
       rw suc-add
@@ -109,7 +109,7 @@ module _ (m : ℕ → ℕ) (law : Measure m) where
       (litinski_from l r (k + d) (stream_pass l r false (layering_pass l w)))
       (litinski_from_more l r k d (stream_pass l r false (layering_pass l w))))
     where
-      go : (b : Bool) (x y : Work) → NoMore x y → NoMore (if b then layering_pass l w else x) (if b then layering_pass l w else y)
+      go : (b : Bool) (x y : Work) → NoMore x y → NoMore (when b then layering_pass l w else x) (when b then layering_pass l w else y)
       go true x y h = le_refl _
       go false x y h = h
 

@@ -6,7 +6,7 @@ use Rattle.std.proofs.Math.Bool.{false}
 use mathlib.Core.List.{List, [], ◌∷◌, ◌++◌, map}
 use Rattle.std.proofs.Math.Decide.{ℕ_discrete}
 use Rattle.pauli.specs.Word.{width}
-use Rattle.model.specs.Lists.{if◌then◌else◌, keep, numbers_from, is_odd}
+use Rattle.model.specs.Lists.{when◌then◌else◌, keep, numbers_from, is_odd}
 use Rattle.model.specs.Program.{Node, identity, letter, product, Kind, rotate, measure, conditional, Operation, PauliRef, Program}
 use Rattle.model.specs.Words.{Value, Store, tested}
 use Rattle.model.specs.Value.{value_at}
@@ -84,7 +84,7 @@ pack_roots_later : (l n : ℕ) (v : Value) (p : Pack) (rs : List PauliRef) → L
 unfolding pack_roots
 pack_roots_later l n v p [] k b = refl
 pack_roots_later l n v p (r ∷ rs) k b =
-    pack_roots_later l n v (if p.refused then p else pack_root l n v p r) rs k b ∙ by_if (λ (q : Pack). get_or q.uses k 0 ≡ get_or p.uses k 0) _ _ _ refl (pack_root_later l n v p r k b)
+    pack_roots_later l n v (when p.refused then p else pack_root l n v p r) rs k b ∙ by_if (λ (q : Pack). get_or q.uses k 0 ≡ get_or p.uses k 0) _ _ _ refl (pack_root_later l n v p r k b)
 
 pack_node_later : (l : ℕ) (rs : List PauliRef) (vs : List Value) (n : ℕ) (node : Node) (p : Pack) → ChildrenBefore n node
     → Later n p (pack_node l rs vs n node p)
@@ -126,9 +126,9 @@ pack_root_refused l n v p r =
 pack_roots_stays : (l n : ℕ) (v : Value) (p : Pack) (rs : List PauliRef) → (pack_roots l n v p rs).refused ≡ false → p.refused ≡ false
 unfolding pack_roots
 pack_roots_stays l n v p [] h = h
-pack_roots_stays l n v p (r ∷ rs) h = go p.refused refl (pack_roots_stays l n v (if p.refused then p else pack_root l n v p r) rs h)
+pack_roots_stays l n v p (r ∷ rs) h = go p.refused refl (pack_roots_stays l n v (when p.refused then p else pack_root l n v p r) rs h)
   where
-    go : (t : Bool) → p.refused ≡ t → (if p.refused then p else pack_root l n v p r).refused ≡ false → p.refused ≡ false
+    go : (t : Bool) → p.refused ≡ t → (when p.refused then p else pack_root l n v p r).refused ≡ false → p.refused ≡ false
     go true e f = absurd (true≢false (sym e ∙ sym (ap (λ (q : Pack). q.refused) (if_true p (pack_root l n v p r) e)) ∙ f))
     go false e f = e
 
@@ -143,7 +143,7 @@ pack_roots_grows l n v p [] = grows_refl _
 pack_roots_grows l n v p (r ∷ rs) =
     grows_trans (by_if (λ (q : Pack). Grows p.store.axes q.store.axes) p.refused p (pack_root l n v p r) (grows_refl _)
     (pack_root_grows l n v p r))
-    (pack_roots_grows l n v (if p.refused then p else pack_root l n v p r) rs)
+    (pack_roots_grows l n v (when p.refused then p else pack_root l n v p r) rs)
 
 pack_root_stored : (l n : ℕ) (v : Value) (p : Pack) (r : PauliRef) → (pack_root l n v p r).refused ≡ false
     → Stored (pack_root l n v p r).store.axes v.word
@@ -165,7 +165,7 @@ pack_roots_rooted : (l n : ℕ) (v : Value) (p : Pack) (rs : List PauliRef) → 
 unfolding pack_roots
 pack_roots_rooted l n v p [] h r k = absurd k
 pack_roots_rooted l n v p (x ∷ rs) h r k =
-    let q = if p.refused then p else pack_root l n v p x in
+    let q = when p.refused then p else pack_root l n v p x in
     let f : q.refused ≡ false = pack_roots_stays l n v q rs h in
     let e : q ≡ pack_root l n v p x = if_false p (pack_root l n v p x) (pack_roots_stays l n v p (x ∷ rs) (unfold pack_roots in h)) in
     let g : (pack_root l n v p x).refused ≡ false = rw e at f in

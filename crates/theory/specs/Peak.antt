@@ -4,7 +4,7 @@ use mathlib.Core.List.{List, [], ◌∷◌}
 use Rattle.std.proofs.Math.Nat.{le_refl, le_trans}
 use Rattle.std.proofs.Common.{arith}
 use Rattle.pauli.specs.Word.{width}
-use Rattle.model.specs.Lists.{if◌then◌else◌}
+use Rattle.model.specs.Lists.{when◌then◌else◌}
 use Rattle.model.specs.declared.Strategy.{Strategy}
 use Rattle.model.specs.declared.Strategy.TheVariants.{Merge, Litinski}
 use Rattle.model.specs.Program.{Node, identity, letter, product, PauliRef, Program}
@@ -63,7 +63,7 @@ pack_root_rises l n v p r = by_if (Packs p) _ _ _ (le_refl _) (intern_rises l _ 
 pack_roots_rises : (l n : ℕ) (v : Value) (p : Pack) (rs : List PauliRef) → Packs p (pack_roots l n v p rs)
 unfolding pack_roots
 pack_roots_rises l n v p [] = le_refl _
-pack_roots_rises l n v p (r ∷ rs) = le_trans (by_if (Packs p) _ _ _ (le_refl _) (pack_root_rises l n v p r)) (pack_roots_rises l n v (if p.refused then p else pack_root l n v p r) rs)
+pack_roots_rises l n v p (r ∷ rs) = le_trans (by_if (Packs p) _ _ _ (le_refl _) (pack_root_rises l n v p r)) (pack_roots_rises l n v (when p.refused then p else pack_root l n v p r) rs)
 
 pack_node_rises : (l : ℕ) (rs : List PauliRef) (vs : List Value) (n : ℕ) (node : Node) (p : Pack) → Packs p (pack_node l rs vs n node p)
 unfolding pack_node

@@ -11,7 +11,7 @@ use Rattle.model.specs.declared.Answer.{Answer}
 use Rattle.model.specs.declared.Answer.TheVariants.{Accepted, CountOutside, OptionOutside, SliceShort, BadNode, BadQubit, BadReference}
 use Rattle.model.specs.declared.Answer.TheVariants.{BadOperation}
 use Rattle.model.specs.declared.Answer.TheVariants.{BadOutcome, NonHermitianAxis, ExpansionLimit, BadPlace}
-use Rattle.model.specs.Lists.{if◌then◌else◌}
+use Rattle.model.specs.Lists.{when◌then◌else◌}
 use Rattle.model.specs.Interface.{number_of, accepts, of_checking}
 use Rattle.model.specs.Program.{field_of, Job, operation_records, Program, program_of}
 use Rattle.model.specs.Rules.{Rules, rules_of}
@@ -34,18 +34,18 @@ limit_of o = o.max_packed_words
 module _ (o : Options) (j : Job) (s : Lent) where
   -- 1 to 8: counters 0, nothing written
   pub refused_reply : (a : Answer) → checking o j s ≡ a → accepts a ≡ false → rewriting o j s ≡ refused a s
-  unfolding rewriting if◌then◌else◌
+  unfolding rewriting when◌then◌else◌
   refused_reply a c n = rw (c, n) refl
 
   -- 10
   pub beyond_limit : checking o j s ≡ Accepted → limit_of o < (run_of o j).peak → rewriting o j s ≡ stopped ExpansionLimit s
-  unfolding rewriting after_run if◌then◌else◌
+  unfolding rewriting after_run when◌then◌else◌
   beyond_limit c h = rw (c, lt-ltb (limit_of o) (run_of o j).peak h) refl
 
   -- 0 and 9
   pub within_limit : checking o j s ≡ Accepted → (run_of o j).peak ≤ limit_of o
       → rewriting o j s ≡ after_ending (rules_of o) (program_of j) s (run_of o j).ending
-  unfolding rewriting after_run if◌then◌else◌
+  unfolding rewriting after_run when◌then◌else◌
   within_limit c h = rw (c, le-ltb (limit_of o) (run_of o j).peak h) refl
 
 -- 9 and 10 answer themselves
@@ -71,7 +71,7 @@ module _ (o : Options) (j : Job) (s : Lent) where
   run_answer c =
       let m = ltb (limit_of o) (run_of o j).peak in
       ap (λ (x : Reply). x.answer) (if_true _ (refused (checking o j s) s) (ap accepts c))
-      ∙ on_if (λ (x : Reply). x.answer ≡ (if m then ExpansionLimit else end_answer (run_of o j).ending)) m _ _
+      ∙ on_if (λ (x : Reply). x.answer ≡ (when m then ExpansionLimit else end_answer (run_of o j).ending)) m _ _
       (λ e. stopped_answer ExpansionLimit s ∙ sym (if_true _ _ e))
       (λ e. ending_answer (rules_of o) (program_of j) s (run_of o j).ending ∙ sym (if_false _ _ e))
 

@@ -9,7 +9,7 @@ use Rattle.pauli.specs.Word.{width}
 use Rattle.model.specs.declared.Strategy.{Strategy}
 use Rattle.model.specs.declared.Strategy.TheVariants.{Merge, Litinski}
 use Rattle.model.specs.declared.Absorption.{Absorption}
-use Rattle.model.specs.Lists.{if◌then◌else◌, any_of, is_even}
+use Rattle.model.specs.Lists.{when◌then◌else◌, any_of, is_even}
 use Rattle.model.specs.Rules.{is_on, is_at_once, Rules}
 use Rattle.model.specs.Program.{Program}
 use Rattle.model.specs.Items.{with_sign, Item, rotation, barrier, is_even_rotation, t_count}
@@ -32,8 +32,8 @@ module _ (l : ℕ) (r r' : Rules) (lookback : r'.lookback ≡ r.lookback) (absor
   take_same : (merging : Bool) (p : Pass) (a k : ℕ) → take_rotation l r' merging p a k ≡ take_rotation l r merging p a k
   unfolding take_rotation
   take_same merging p a k =
-      ap₂ (λ (m : Absorption) (q : Pass). if is_at_once m && is_even k then absorb l p a k else q) absorption
-      (put_same p a k (if merging then p.last a else nowhere))
+      ap₂ (λ (m : Absorption) (q : Pass). when is_at_once m && is_even k then absorb l p a k else q) absorption
+      (put_same p a k (when merging then p.last a else nowhere))
 
   pub item_same : (merging : Bool) (p : Pass) (i : Item) → stream_item l r' merging p i ≡ stream_item l r merging p i
   unfolding stream_item
@@ -51,7 +51,7 @@ module _ (l : ℕ) (r r' : Rules) (streams : (merging : Bool) (w : Work) → str
   litinski_from_same zero w = refl
   litinski_from_same (suc k) w =
       let v = layering_pass l w in
-      ap (λ (u : Work). if eqb v.merges w.merges then v else u)
+      ap (λ (u : Work). when eqb v.merges w.merges then v else u)
       (litinski_from_same k (stream_pass l r' false v) ∙ ap (litinski_from l r k) (streams false v))
 
   litinski_same : (k : ℕ) (w : Work) → litinski_rounds l r' k w ≡ litinski_rounds l r k w
@@ -79,7 +79,7 @@ module _ (l : ℕ) (r r' : Rules) (streams : (merging : Bool) (w : Work) → str
       unfolding closing_stream
       closing_same zero w = refl
       closing_same (suc k) w =
-          ap₂ (λ (b : Bool) (u : Work). if b && any_of is_even_rotation w.items then u else w) on (streams true w)
+          ap₂ (λ (b : Bool) (u : Work). when b && any_of is_even_rotation w.items then u else w) on (streams true w)
 
       merge_same : (k : ℕ) (w : Work) → merge_rounds l r' k w ≡ merge_rounds l r k w
       unfolding merge_rounds

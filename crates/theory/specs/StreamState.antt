@@ -4,7 +4,7 @@ use Rattle.std.proofs.Common.{sym, ◌∙◌, le_trans, arith, eqb-true}
 use Rattle.std.specs.Prelude.{Bool, ℕ, zero, suc, ◌≤◌, ◌<◌, eqb, length, drop, set}
 use mathlib.Core.List.{List, [], ◌∷◌, ◌++◌, map, append_assoc, append-nil}
 use Rattle.std.proofs.Math.ListN.{get_or}
-use Rattle.model.specs.Lists.{if◌then◌else◌, keep}
+use Rattle.model.specs.Lists.{when◌then◌else◌, keep}
 use Rattle.model.specs.declared.Absorption.{Absorption}
 use Rattle.model.specs.declared.Absorption.TheVariants.{Off as off, AtOnce as at_once, Lazy as lazy}
 use Rattle.model.specs.Rules.{Rules}
@@ -132,7 +132,7 @@ cleared p q a s g e f = record {
   names = λ b j h. rw e (s.names b j (go b j (sym (ap (λ (g : ℕ → Place). g b) f) ∙ h)));
 }
   where
-    go : (b j : ℕ) → (if eqb b a then nowhere else p.last b) ≡ at j → p.last b ≡ at j
+    go : (b j : ℕ) → (when eqb b a then nowhere else p.last b) ≡ at j → p.last b ≡ at j
     go b j =
         on_if (λ (x : Place). x ≡ at j → p.last b ≡ at j) (eqb b a) nowhere (p.last b)
         (λ e h. let z : ◌≡◌ {A = ℕ} 0 1 = cc in absurd (omega arith))
@@ -364,7 +364,7 @@ module _ (l : ℕ) where
   unfolding take_rotation
   take_rotation_stepped r merging p a k s h =
       by_if (Stepped [] p) _ _ _ (kept_stepped p (absorb l p a k) (absorb_kept l p a k s))
-      (merge_or_put_out_stepped r p a k (if merging then p.last a else nowhere) s h
+      (merge_or_put_out_stepped r p a k (when merging then p.last a else nowhere) s h
       (λ j. by_if (λ (x : Place). x ≡ at j → p.last a ≡ at j) merging (p.last a) nowhere (λ e. e)
       (λ e. let z : ◌≡◌ {A = ℕ} 0 1 = cc in absurd (omega arith))))
 
@@ -424,7 +424,7 @@ unfolding begin
 begin_sound s = record { ids = unfold without_angles in tt; names = λ a j e. let z : ◌≡◌ {A = ℕ} 0 1 = cc in absurd (omega arith) }
 
 barriers_of_drop_zeros : (is : List Item) → barriers_of (drop_zeros is) ≡ barriers_of is
-unfolding drop_zeros keep if◌then◌else◌ barriers_of
+unfolding drop_zeros keep when◌then◌else◌ barriers_of
 barriers_of_drop_zeros [] = refl
 barriers_of_drop_zeros (rotation r ∷ is) =
     by_if (λ (x : List Item). barriers_of x ≡ barriers_of is) (is_nonzero r) (rotation r ∷ keep stays is) (keep stays is) (barriers_of_drop_zeros is)

@@ -9,7 +9,7 @@ use Prim.Native.Nat.{ℕ, zero, suc, ◌+◌, ◌≤◌, ◌<◌}
 use Rattle.std.proofs.Math.Nat.{le_refl}
 use Rattle.std.proofs.Math.ListN.{length, length-append}
 use Rattle.model.specs.declared.ExchangeRules.{ExchangeRules}
-use Rattle.model.specs.Lists.{if◌then◌else◌, all_of, is_empty}
+use Rattle.model.specs.Lists.{when◌then◌else◌, all_of, is_empty}
 use Rattle.model.specs.Items.{Rot}
 use Rattle.model.specs.Exchange.{improves, Start, starts, End, ends, Triple, with_ends, with_starts, triples, Swap, swap_of, try_exchange, first_with_second}
 use Rattle.model.specs.Exchange.{second_with_third, try_triple, RunEnd, run_end_from, run_end, no_triple, Swapping, next_start, swap_step, swaps_from}
@@ -148,6 +148,6 @@ module _ (l : ℕ) (axes : List (List ℕ)) (rules : ExchangeRules) (opens : 0 <
 
       go : (t : Bool) → stop s ≡ t
           → (length next.rest ≤ k → length next.rest ≤ k' → swaps_from l axes rules k next ≡ swaps_from l axes rules k' next)
-          → (if stop s then s else swaps_from l axes rules k next) ≡ (if stop s then s else swaps_from l axes rules k' next)
+          → (when stop s then s else swaps_from l axes rules k next) ≡ (when stop s then s else swaps_from l axes rules k' next)
       go true e ih = if_true _ _ e ∙ sym (if_true _ _ e)
       go false e ih = if_false _ _ e ∙ ih (omega (arith, swap_step_less s e)) (omega (arith, swap_step_less s e)) ∙ sym (if_false _ _ e)

@@ -7,7 +7,7 @@ use native.Mathlib.Omega.{arith}
 use Rattle.std.proofs.lemmas.Bool.{eqb-false}
 use Rattle.pauli.specs.Word.{width}
 use Rattle.model.specs.declared.Strategy.{Strategy}
-use Rattle.model.specs.Lists.{if◌then◌else◌, count_of, sum_of}
+use Rattle.model.specs.Lists.{when◌then◌else◌, count_of, sum_of}
 use Rattle.model.specs.Program.{Kind, rotate, measure, conditional, Operation, Program}
 use Rattle.model.specs.Rules.{Rules}
 use Rattle.model.specs.Items.{Rot, Item, rotation, barrier, with_sign, t_count}
@@ -19,7 +19,7 @@ use Rattle.theory.specs.StreamState.{barriers_of, InRange}
 use Rattle.theory.specs.Steady.{passes_steady}
 
 -- a test as a number
-pub is_odd_number : (k : ℕ) → (if eqb (k % 2) 1 then 1 else 0) ≡ k % 2
+pub is_odd_number : (k : ℕ) → (when eqb (k % 2) 1 then 1 else 0) ≡ k % 2
 is_odd_number k =
     on_if (λ (x : ℕ). x ≡ k % 2) _ _ _ (λ e. sym (eqb-true (k % 2) 1 e)) (λ e. let n : k % 2 ≡ 1 → ⊥ = eqb-false (k % 2) 1 e in omega arith)
 
@@ -43,7 +43,7 @@ unfolding result_t_count count_of
 records_cons x xs = omega arith
 
 barrier_odd : (op : Operation) (kind : Kind) (a s : ℕ) → op.angle ≤ 7 → result_t_count (barrier_record op kind a s ∷ []) ≡ kind_odd kind op.angle
-unfolding result_t_count count_of barrier_record kind_odd if◌then◌else◌
+unfolding result_t_count count_of barrier_record kind_odd when◌then◌else◌
 barrier_odd op rotate a s h = refl
 barrier_odd op measure a s h = refl
 barrier_odd op conditional a s h = omega (arith, is_odd_number (with_sign s op.angle), with_sign_parity s op.angle h)

@@ -3,7 +3,7 @@ use Rattle.std.specs.Prelude.{◌≡◌, refl, false, not, ◌&&◌, List, [], �
 use Rattle.std.proofs.Common.{ap, ◌∙◌, le_refl, arith}
 use Rattle.pauli.specs.Word.{width}
 use Rattle.model.specs.declared.Strategy.{Strategy}
-use Rattle.model.specs.Lists.{if◌then◌else◌, count_of, sum_of, is_odd}
+use Rattle.model.specs.Lists.{when◌then◌else◌, count_of, sum_of, is_odd}
 use Rattle.model.specs.Program.{Kind, rotate, measure, conditional, is_measure, Operation, Program}
 use Rattle.model.specs.Rules.{Rules}
 use Rattle.model.specs.Words.{Value}
@@ -28,10 +28,10 @@ op_odd measure k = 0
 op_odd conditional k = k % 2
 
 ops_cons : (op : Operation) (ops : List Operation) → source_t_count (op ∷ ops) ≡ op_odd op.kind op.angle + source_t_count ops
-unfolding source_t_count count_of op_odd if◌then◌else◌
+unfolding source_t_count count_of op_odd when◌then◌else◌
 ops_cons op ops = go op.kind
   where
-    go : (k : Kind) → (if not (is_measure k) && is_odd op.angle then 1 else 0) + source_t_count ops ≡ op_odd k op.angle + source_t_count ops
+    go : (k : Kind) → (when not (is_measure k) && is_odd op.angle then 1 else 0) + source_t_count ops ≡ op_odd k op.angle + source_t_count ops
     go rotate = omega (arith, is_odd_number op.angle)
     go measure = refl
     go conditional = omega (arith, is_odd_number op.angle)

@@ -5,7 +5,7 @@ use Rattle.std.proofs.Math.Bool.{true, false}
 use Rattle.std.proofs.Math.Option.{Option, none, some, or_else}
 use mathlib.Core.List.{List, [], ◌∷◌}
 use Rattle.model.specs.declared.ExchangeRules.{ExchangeRules}
-use Rattle.model.specs.Lists.{if◌then◌else◌}
+use Rattle.model.specs.Lists.{when◌then◌else◌}
 use Rattle.model.specs.Exchange.{Triple, Swap, first_with_second, second_with_third, try_exchanges, try_triple}
 use Rattle.theory.specs.Cases.{by_if, by_else}
 use Rattle.theory.specs.Every.{Every}
@@ -23,14 +23,14 @@ module _ (l : ℕ) (axes : List (List ℕ)) (rules : ExchangeRules) (t : Triple)
   second = second_with_third l axes rules t
 
   chosen : (b : Bool) {x y : Swap} (f g : Option Swap) → f ≡ some x → g ≡ some y
-      → (if b then or_else g f else or_else f g) ≡ some (if b then y else x)
-  unfolding if◌then◌else◌ or_else
+      → (when b then or_else g f else or_else f g) ≡ some (when b then y else x)
+  unfolding when◌then◌else◌ or_else
   chosen true f g e d = rw d refl
   chosen false f g e d = rw e refl
 
   -- "Where both exchanges improve a triple at one start and end, take second with third"
   pub both_improve : {x y : Swap} → first ≡ some x → second ≡ some y
-      → try_exchanges l axes rules t ≡ some (if rules.second_first then y else x)
+      → try_exchanges l axes rules t ≡ some (when rules.second_first then y else x)
   unfolding try_exchanges
   both_improve = chosen rules.second_first first second
 

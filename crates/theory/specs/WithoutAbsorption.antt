@@ -10,7 +10,7 @@ use Rattle.model.specs.declared.Absorption.{Absorption}
 use Rattle.model.specs.declared.Absorption.TheVariants.{Off as off}
 use Rattle.model.specs.declared.Options.{Options}
 use Rattle.model.specs.declared.Answer.TheVariants.{Accepted, CountOutside, OptionOutside, SliceShort}
-use Rattle.model.specs.Lists.{if◌then◌else◌}
+use Rattle.model.specs.Lists.{when◌then◌else◌}
 use Rattle.model.specs.Rules.{Rules, absorption_of, rules_of, names, to_lazy, with_absorption, after_barrier}
 use Rattle.model.specs.Program.{Job, program_of}
 use Rattle.model.specs.Items.{Item, rotation, barrier}
@@ -88,7 +88,7 @@ passes_unnamed o j s h =
     if_false _ _ a.0 ∙ if_false _ _ b.0 ∙ if_false _ _ c.0 ∙ unnamed_records j ∙ checking_program o j s (unfold checking in h)
 
 rules_unnamed : (o : Options) → o.clifford_to_frame ≡ false → rules_of (lazily Off o) ≡ with_lazy Off (rules_of o)
-unfolding rules_of absorption_of if◌then◌else◌
+unfolding rules_of absorption_of when◌then◌else◌
 rules_unnamed o e = rw e refl
 
 -- so a call that it passes replies as one that names nothing

@@ -5,7 +5,7 @@ use mathlib.Core.Bool.{Bool, true, false}
 use Rattle.std.proofs.Math.Decide.{ℕ_discrete, dec_lt}
 use Rattle.std.proofs.lemmas.Bool.{eqb-false}
 use Rattle.store.specs.Row.{Written}
-use Rattle.model.specs.Lists.{if◌then◌else◌}
+use Rattle.model.specs.Lists.{when◌then◌else◌}
 use Rattle.theory.specs.Cases.{if_true, if_false}
 use Rattle.layout.specs.Rows.{row_count, waiting_row}
 use Rattle.layout.specs.Only.{Only, only_none, only_then, only_written}
@@ -21,7 +21,7 @@ pub record UpTo (u n j : ℕ) (xs : List ℕ) (r : ℕ) : Type 0 where
 
 -- the last of the first n places is j
 unfoldable pub is_last : ℕ → ℕ → ℕ → List ℕ → Bool
-is_last u n j xs = if eqb n 0 then false else eqb (place_in u xs (n - 1)) j
+is_last u n j xs = when eqb n 0 then false else eqb (place_in u xs (n - 1)) j
 
 pub last_none : (u n j : ℕ) (xs : List ℕ) → n ≡ 0 → false ≡ is_last u n j xs
 unfolding is_last

@@ -9,7 +9,7 @@ use Rattle.model.specs.declared.Lazy.TheVariants.{Off, On, From}
 use Rattle.model.specs.declared.Options.{Options}
 use Rattle.model.specs.declared.Strategy.{Strategy}
 use Rattle.model.specs.declared.Strategy.TheVariants.{Merge, Litinski}
-use Rattle.model.specs.Lists.{if◌then◌else◌}
+use Rattle.model.specs.Lists.{when◌then◌else◌}
 use Rattle.model.specs.Interface.{number_of}
 use Rattle.model.specs.Program.{Job}
 use Rattle.model.specs.Checking.{Lent, checking}
@@ -32,7 +32,7 @@ strategy_of false = Merge
 -- whether even rotations wait, whether an operation is named, and its place; 02, M-112: "in place of the lazy setting"
 unfoldable pub lazy_of : Bool → Bool → ℕ → Lazy
 lazy_of z true n = From n
-lazy_of z false n = if z then On else Off
+lazy_of z false n = when z then On else Off
 
 -- the options: lookback, window, candidates, rounds, absorption, exchanges at no loss, second exchange first, lazy, whether an operation is
 -- named and its place, Litinski's strategy, T-depth, word limit

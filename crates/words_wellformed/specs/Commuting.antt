@@ -11,7 +11,7 @@ use Rattle.pauli.specs.Letter.{letter_of, letter_at, single}
 use Rattle.pauli.specs.ProductLaws.{common_comm, common_none, symplectic_comm, symplectic_self, symplectic_xor, symplectic_lt}
 use Rattle.pauli.specs.ProductLaws.{anticommutes_true, anticommutes_false}
 use Rattle.pauli.specs.LetterLaws.{letter_mul, letter_xor, single_word, single_elsewhere, xor_words_word, is_y, ν-letters}
-use Rattle.model.specs.Lists.{if◌then◌else◌}
+use Rattle.model.specs.Lists.{when◌then◌else◌}
 use Rattle.theory.specs.Cases.{on_if}
 
 -- ---- nothing in common
@@ -104,7 +104,7 @@ singles_commute l q c r d b k n = single_commutes l q c (single l r d) b (single
 -- ---- a quarter turn about b: what anticommutes with b is multiplied by it
 
 unfoldable pub quarter_turned : ℕ → List ℕ → List ℕ → List ℕ
-quarter_turned l b p = if anticommutes l b p then xor_words b p else p
+quarter_turned l b p = when anticommutes l b p then xor_words b p else p
 
 -- on the left, as `symplectic-xor` on the right
 pub xor_symplectic : (l : ℕ) (p q r : List ℕ) → symplectic l (xor_words q r) p ≡ (symplectic l q p + symplectic l r p) % 2
@@ -115,7 +115,7 @@ xor_symplectic l p q r =
 pub quarter_turned_symplectic : (l : ℕ) (b p q : List ℕ) → symplectic l (quarter_turned l b p) (quarter_turned l b q) ≡ symplectic l p q
 unfolding quarter_turned
 quarter_turned_symplectic l b p q =
-    on_if (λ (u : List ℕ). symplectic l u (if anticommutes l b q then xor_words b q else q) ≡ symplectic l p q) (anticommutes l b p) _ _
+    on_if (λ (u : List ℕ). symplectic l u (when anticommutes l b q then xor_words b q else q) ≡ symplectic l p q) (anticommutes l b p) _ _
     (λ e. on_if (λ (v : List ℕ). symplectic l (xor_words b p) v ≡ symplectic l p q) (anticommutes l b q) _ _
     (λ f. both (anticommutes_true l b p e) (anticommutes_true l b q f)) (λ f. left (anticommutes_false l b q f)))
     (λ e. on_if (λ (v : List ℕ). symplectic l p v ≡ symplectic l p q) (anticommutes l b q) _ _

@@ -14,7 +14,7 @@ use Rattle.pauli.specs.Word.{IsWord, identity, xor_words, phase, symplectic, ant
 use Rattle.pauli.specs.Letter.{letter_of, letter_at, single, other, acts}
 use Rattle.pauli.specs.ProductLaws.{phase_odd, symplectic_comm, symplectic_identity, anticommutes_true, anticommutes_none}
 use Rattle.pauli.specs.LetterLaws.{single_word, xor_words_word, identity_word}
-use Rattle.model.specs.Lists.{if◌then◌else◌, any_of}
+use Rattle.model.specs.Lists.{when◌then◌else◌, any_of}
 use Rattle.model.specs.Words.{Value, as_value, scaled, multiply, support}
 use Rattle.model.specs.Clifford.{Images, absorb_image, absorb_images, is_held, own_images, Touched, touch, touch_all, absorb_word, image_of, letter_image}
 use Rattle.model.specs.Clifford.{multiply_images, word_image}
@@ -104,12 +104,12 @@ multiply_signed l Angles u v a b h = record {
 
 module _ (l : ℕ) (b : List ℕ) (k : ℕ) where
   -- its word: for k = 4 as it is, else turned
-  pub absorb_image_word : (p : Value) → (absorb_image l b k p).word ≡ (if eqb k 4 then p.word else quarter_turned l b p.word)
-  unfolding absorb_image quarter_turned if◌then◌else◌ scaled multiply
+  pub absorb_image_word : (p : Value) → (absorb_image l b k p).word ≡ (when eqb k 4 then p.word else quarter_turned l b p.word)
+  unfolding absorb_image quarter_turned when◌then◌else◌ scaled multiply
   absorb_image_word p = go (anticommutes l b p.word) (eqb k 4)
     where
-      go : (t u : Bool) → (if not t then p else if u then scaled 2 p else scaled (k / 2) (multiply l (as_value b) p)).word
-          ≡ (if u then p.word else if t then xor_words b p.word else p.word)
+      go : (t u : Bool) → (when not t then p else when u then scaled 2 p else scaled (k / 2) (multiply l (as_value b) p)).word
+          ≡ (when u then p.word else when t then xor_words b p.word else p.word)
       go true true = refl
       go true false = refl
       go false true = refl
@@ -123,10 +123,10 @@ module _ (l : ℕ) (b : List ℕ) (k : ℕ) where
   -- images commute or anticommute as before
   pub absorb_image_symplectic : (p q : Value)
       → symplectic l (absorb_image l b k p).word (absorb_image l b k q).word ≡ symplectic l p.word q.word
-  unfolding if◌then◌else◌
+  unfolding when◌then◌else◌
   absorb_image_symplectic p q = ap₂ (symplectic l) (absorb_image_word p) (absorb_image_word q) ∙ go (eqb k 4)
     where
-      go : (t : Bool) → symplectic l (if t then p.word else quarter_turned l b p.word) (if t then q.word else quarter_turned l b q.word)
+      go : (t : Bool) → symplectic l (when t then p.word else quarter_turned l b p.word) (when t then q.word else quarter_turned l b q.word)
           ≡ symplectic l p.word q.word
       go true = refl
       go false = quarter_turned_symplectic l b p.word q.word
@@ -211,7 +211,7 @@ unfolding letter_image
 letter_image_touched l [] r q c h =
     on_if (λ (v : Value). v ≡ as_value (single l q c)) (eqb (own_images l r).qubit q) (image_of c (own_images l r)) _
     (λ e. own_image l r c h ∙ ap (λ (i : ℕ). as_value (single l i c)) (eqb-true r q (unfold own_images in e))) (λ e. refl)
-letter_image_touched l (h ∷ held) r q c x = ap (λ (v : Value). if eqb h.qubit q then image_of c h else v) (letter_image_touched l held r q c x)
+letter_image_touched l (h ∷ held) r q c x = ap (λ (v : Value). when eqb h.qubit q then image_of c h else v) (letter_image_touched l held r q c x)
 
 -- the letters' images after touching
 pub touch_all_letter : (l : ℕ) (t : Touched) (qs : List ℕ) (q c : ℕ) → IsXYZ c
@@ -309,8 +309,8 @@ letter_image_absorbed l b k (x ∷ held) q c h =
     go : (t : Bool) → eqb x.qubit q ≡ t
         → ((is_held q held ≡ false → symplectic l b (single l q c) ≡ 0)
         → letter_image l (map (absorb_images l b k) held) q c ≡ absorb_image l b k (letter_image l held q c))
-        → (if eqb (absorb_images l b k x).qubit q then image_of c (absorb_images l b k x) else letter_image l (map (absorb_images l b k) held) q c)
-        ≡ absorb_image l b k (if eqb x.qubit q then image_of c x else letter_image l held q c)
+        → (when eqb (absorb_images l b k x).qubit q then image_of c (absorb_images l b k x) else letter_image l (map (absorb_images l b k) held) q c)
+        ≡ absorb_image l b k (when eqb x.qubit q then image_of c x else letter_image l held q c)
     go true e ih =
         if_true _ _ (unfold absorb_images in e) ∙ image_of_absorbed l b k c x ∙ ap (absorb_image l b k) (sym (if_true _ _ e))
     go false e ih =

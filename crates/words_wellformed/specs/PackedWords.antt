@@ -4,7 +4,7 @@ use Rattle.std.proofs.Common.{◌∙◌, subst, le_trans, arith, length-append}
 use mathlib.Core.List.{List, [], ◌∷◌, ◌++◌}
 use Rattle.pauli.specs.Word.{width, IsWord}
 use Rattle.pauli.specs.LetterLaws.{width_holds, single_word, xor_words_word, identity_word}
-use Rattle.model.specs.Lists.{if◌then◌else◌}
+use Rattle.model.specs.Lists.{when◌then◌else◌}
 use Rattle.model.specs.Program.{Node, identity, letter, product, PauliRef, Program}
 use Rattle.model.specs.Words.{Value, as_value, scaled, multiply, tested}
 use Rattle.model.specs.Value.{node_value, value_at, values_from, values}
@@ -84,7 +84,7 @@ module _ (l : ℕ) where
   unfolding pack_roots
   pack_roots_stored n v p [] h s = s
   pack_roots_stored n v p (r ∷ rs) h s =
-      pack_roots_stored n v (if p.refused then p else pack_root l n v p r) rs h (by_if Packed p.refused p (pack_root l n v p r) s (pack_root_stored n v p r h s))
+      pack_roots_stored n v (when p.refused then p else pack_root l n v p r) rs h (by_if Packed p.refused p (pack_root l n v p r) s (pack_root_stored n v p r h s))
 
   module _ (rs : List PauliRef) (vs : List Value) (words : Every (ValueWord l) vs) where
     pack_node_stored : (n : ℕ) (node : Node) (p : Pack) → n < length vs → Packed p → Packed (pack_node l rs vs n node p)

@@ -6,7 +6,7 @@ use Rattle.std.proofs.Math.ListN.{get_or-append}
 use Rattle.std.proofs.Math.Seq.{get_or-append_seam}
 use Rattle.store.specs.Equal.{same_list}
 use Rattle.pauli.specs.Word.{IsWord}
-use Rattle.model.specs.Lists.{if◌then◌else◌}
+use Rattle.model.specs.Lists.{when◌then◌else◌}
 use Rattle.model.specs.Words.{id_of, word_of, Store, intern}
 use Rattle.theory.specs.Cases.{on_if, if_true, if_false}
 use Rattle.theory.specs.Ids.{id_le, id_append}
@@ -25,7 +25,7 @@ pub id_kept : (axes more : List (List ℕ)) (w : List ℕ) → id_of axes w < le
 unfolding id_of
 id_kept [] more w h = absurd (omega arith)
 id_kept (a ∷ axes) more w h =
-    on_if (λ (n : ℕ). n < suc (length axes) → (if same_list a w then 0 else suc (id_of (axes ++ more) w)) ≡ n) (same_list a w) _ _
+    on_if (λ (n : ℕ). n < suc (length axes) → (when same_list a w then 0 else suc (id_of (axes ++ more) w)) ≡ n) (same_list a w) _ _
     (λ e k. if_true _ _ e) (λ e k. if_false _ _ e ∙ ap suc (id_kept axes more w (omega arith))) h
 
 -- a word that is not there is stored at the end

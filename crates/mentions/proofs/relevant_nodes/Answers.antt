@@ -2,7 +2,7 @@
 use mathlib.Core.Path.{◌≡◌, refl}
 use mathlib.Core.Bool.{Bool, true, false}
 use mir.Val.{bool_byte}
-use Rattle.model.specs.Lists.{if◌then◌else◌}
+use Rattle.model.specs.Lists.{when◌then◌else◌}
 use Rattle.mentions.specs.Nodes.{node_pre}
 use Rattle.mentions.specs.Relevant.{relevant_none, relevant_next, relevant_all}
 use native.Mathlib.Omega.{arith}
@@ -10,8 +10,8 @@ use borrow.Author.Rules.{rules}
 use Rattle.mentions.proofs.relevant_nodes.Goals as goal
 
 -- a bool as a number
-byte-bit : (b : Bool) → bool_byte b ≡ (if b then 1 else 0)
-unfolding if◌then◌else◌
+byte-bit : (b : Bool) → bool_byte b ≡ (when b then 1 else 0)
+unfolding when◌then◌else◌
 byte-bit true = refl
 byte-bit false = refl
 
