@@ -1,27 +1,21 @@
 -- Packing, then the passes. Assumes nothing.
-use mathlib.Core.Path.{◌≡◌, ap}
-use mathlib.Core.List.{[], ◌∷◌}
-use mathlib.Core.Logic.{inl, inr}
+use mathlib.Core.Path.{◌≡◌, refl, ap}
 use Prim.Native.Nat.{ℕ}
-use types.Run.{OneOf}
-use denote.Enum.Declared.{tag_of}
 use Rattle.model.specs.declared.Answer.TheVariants.{Accepted}
 use Rattle.model.specs.Interface.{number_of}
 use Rattle.packing_answer.specs.declared.Packed.{Packed}
 use Rattle.packing_answer.specs.declared.Packed.TheVariants.{Axes, NonHermitianAxis, ExpansionLimit}
 use Rattle.packing_answer.specs.Answer.{packing_answer}
-use Rattle.packing_answer.specs.contracts.Packed.{the_type}
 use Rattle.decision.specs.Start.{packed_peak}
 use Rattle.decision.specs.Decision.{decide_passes, decide_refused}
 use native.Mathlib.Omega.{arith}
 use Rattle.decision.proofs.decide.Goals as goal
 
 -- without axes packing refuses
-refuses : (r : Packed) → OneOf (1 ∷ 2 ∷ []) (tag_of the_type r) → packing_answer r ≡ Accepted → ⊥
-refuses (Axes n q) (inl e) g = omega (arith, e)
-refuses (Axes n q) (inr e) g = omega (arith, e)
-refuses NonHermitianAxis k g = let z : ◌≡◌ {A = ℕ} 9 0 = ap number_of g in omega arith
-refuses ExpansionLimit k g = let z : ◌≡◌ {A = ℕ} 10 0 = ap number_of g in omega arith
+refuses : (r : Packed) → ((n q : ℕ) → r ≡ Axes n q → ⊥) → packing_answer r ≡ Accepted → ⊥
+refuses (Axes n q) other g = other n q refl
+refuses NonHermitianAxis other g = let z : ◌≡◌ {A = ℕ} 9 0 = ap number_of g in omega arith
+refuses ExpansionLimit other g = let z : ◌≡◌ {A = ℕ} 10 0 = ap number_of g in omega arith
 
 pub pack-p-requires : goal.pack-p-requires
 pack-p-requires c = c.requires.0
@@ -33,7 +27,7 @@ pub shape_of-numbers-in_default : goal.shape_of-numbers-in_default
 shape_of-numbers-in_default c = c.pack-p.ensures.numbers.long
 
 pub returns-in_default : goal.returns-in_default
-returns-in_default c = decide_refused c.pack-p.ensures c.args.options c.answer.ensures (refuses c.pack-p.result c.in_default.keys2)
+returns-in_default c = decide_refused c.pack-p.ensures c.args.options c.answer.ensures (refuses c.pack-p.result c.in_default.not-Axes)
 
 pub passes-requires : goal.passes-requires
 passes-requires c = (
