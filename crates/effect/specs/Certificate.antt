@@ -12,8 +12,8 @@ use Rattle.std.proofs.Math.ListN.{length}
 use Rattle.groups.specs.Abelian.{Ab, nsm, zsm, zsm_add, zsm_mul, zsm_of_add, zsm_zer, zer_add, neg_add_cancel, swap_mid, map_zer, map_zsm, pow2}
 use Rattle.groups.specs.Root.{Root, at, ◌⊞◌, lin}
 use Rattle.groups.specs.Eighth.{eighth}
-use Rattle.groups.specs.Real.{Gen, rot, rots, total, total_real, Commuting}
-use Rattle.groups.specs.Real as Real
+use Rattle.groups.proofs.Real.{Gen, rot, rots, total, total_real, Commuting}
+use Rattle.groups.proofs.Real as Real
 use Rattle.effect.specs.Phase.{Sgn, nil, plus, minus, toℤ, σ}
 use Rattle.effect.specs.Words.{Setting}
 use Rattle.effect.specs.Signs.{act, act_zsm}

@@ -8,7 +8,7 @@ use Rattle.groups.specs.Abelian.{Ab, map_pow2, dbl, pow2, pow2_add, pow2_plus, p
 use Rattle.groups.specs.Normaliser.{at, ◌⊞◌, ab, cancel2}
 use Rattle.groups.specs.Root.{Root}
 use Rattle.groups.specs.Eighth.{Eighth, is_even_e}
-use Rattle.groups.specs.Real.{IsReal, comp_real, id_real}
+use Rattle.groups.proofs.Real.{IsReal, comp_real, id_real}
 use Rattle.effect.specs.Phase.{Quarter, q0, Quarterᵃ, odd, ◌⊞₄◌, even_add, Sgn, ◌·ˢ◌, σ, τ, τ-add}
 use Rattle.effect.specs.Words.{Setting}
 use Rattle.effect.specs.Effect.{Op, plain, measured, conditional, sums, sums_root, times, rotate, measure, signed, step, effect, word, pmul}

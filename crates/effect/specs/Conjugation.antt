@@ -6,8 +6,8 @@ use Rattle.groups.specs.Abelian.{Ab, neg_of_add, IsAdd, map_neg, dbl}
 use Rattle.groups.specs.Normaliser.{halve}
 use Rattle.groups.specs.Root.{Root, at, ∅, ◌⊞◌, ⊟◌, lin}
 use Rattle.groups.specs.Eighth.{Eighth, e0, e1, e2, e3, e4, e5, e6, e7, flip, is_even_e}
-use Rattle.groups.specs.Real.{IsReal, rot, rot_real, comp_real}
-use Rattle.groups.specs.Rules as Rules
+use Rattle.groups.proofs.Real.{IsReal, rot, rot_real, comp_real}
+use Rattle.groups.proofs.Rules as Rules
 use Rattle.effect.specs.Phase.{Quarter, q0, q1, q2, q3, odd, neg4, ◌⊞₄◌, odd_add, odd_neg, Sgn, minus, ◌·ˢ◌, sign_comm, opposite_left, σ, τ}
 use Rattle.effect.specs.Phase.{σ-back, τ-square, τ-one, τ-three, xor}
 use Rattle.effect.specs.Words.{Setting}

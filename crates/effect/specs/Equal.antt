@@ -8,8 +8,8 @@ use Rattle.groups.specs.Abelian.{Ab, map_pow2, dbl, pow2, pow2_plus, pow2_swap}
 use Rattle.groups.specs.Normaliser.{cancel2}
 use Rattle.groups.specs.Root.{Root}
 use Rattle.groups.specs.Eighth.{Eighth, eighth}
-use Rattle.groups.specs.Real.{rot}
-use Rattle.groups.specs.Rules as Rules
+use Rattle.groups.proofs.Real.{rot}
+use Rattle.groups.proofs.Rules as Rules
 use Rattle.effect.specs.Phase.{odd, σ}
 use Rattle.effect.specs.Words.{Setting}
 use Rattle.effect.specs.Effect.{Op, plain, sums, sums_root, J, rotate_at, rotate, step, effect}

@@ -4,7 +4,7 @@ use Rattle.std.proofs.Common.{sym, ◌∙◌, ap, ap₂}
 use Rattle.std.proofs.Math.Path.{fun_ext}
 use Rattle.groups.specs.Abelian.{IsAdd, neg_unique, neg_neg}
 use Rattle.groups.specs.Root.{is_zero}
-use Rattle.groups.specs.Real.{IsReal}
+use Rattle.groups.proofs.Real.{IsReal}
 use Rattle.effect.specs.Phase.{Quarter, odd, neg4, ◌⊞₄◌, Sgn, minus, ◌·ˢ◌, toℤ, σ, τ, σ-cube, σ-even, zero4, zero4_at, fits_of}
 use Rattle.effect.specs.Words.{Setting}
 use Rattle.effect.specs.Signs.{act, act_mul, act_add, act_map, act_diff}

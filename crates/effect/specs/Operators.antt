@@ -6,7 +6,8 @@ use mathlib.Core.List.{List, [], ◌∷◌, ◌++◌}
 use Rattle.groups.specs.Abelian.{Ab, zer_add, IsAdd, map_zer, map_neg, dbl}
 use Rattle.groups.specs.Root.{Root, at, ∅, ◌⊞◌, ⊟◌, lin}
 use Rattle.groups.specs.Eighth.{Eighth, e0, e1, e2, e3, e4, e5, e6, e7, prev}
-use Rattle.groups.specs.Real.{cos2, sin2, cos2_add, IsReal, rot, rot_real, sum_real, comp_real, id_real}
+use Rattle.groups.specs.Real.{cos2, sin2}
+use Rattle.groups.proofs.Real.{cos2_add, IsReal, rot, rot_real, sum_real, comp_real, id_real}
 use Rattle.effect.specs.Phase.{Quarter, q0, q1, q2, q3, odd, neg4, Sgn, nil, plus, minus, ◌·ˢ◌, σ, τ}
 use Rattle.effect.specs.Words.{Setting}
 use Rattle.effect.specs.Signs.{act, act_mul, act_add, act_map}

@@ -5,7 +5,8 @@ use Rattle.std.proofs.Common.{sym, ◌∙◌, ap₂}
 use Rattle.groups.specs.Abelian.{Ab, zer_add, map_zer, dbl}
 use Rattle.groups.specs.Root.{Root, at, ∅, ◌⊞◌, ⊟◌, lin}
 use Rattle.groups.specs.Eighth.{Eighth, e0, e1, e2, e3, e4, e5, e6, e7, is_even_e}
-use Rattle.groups.specs.Real.{cos2, sin2, rot_still, rot_plane}
+use Rattle.groups.specs.Real.{cos2, sin2}
+use Rattle.groups.proofs.Real.{rot_still, rot_plane}
 use Rattle.effect.specs.Phase.{Quarter, odd, neg4, Sgn, minus, ◌·ˢ◌, σ, τ, σ-even, τ-odd, σ-back, τ-back, τ-one, τ-three}
 use Rattle.effect.specs.Words.{Setting}
 use Rattle.effect.specs.Signs.{act, act_add}

@@ -6,4 +6,3 @@ pub mod Coeff
 pub mod Eighth
 pub mod Exchange
 pub mod Real
-pub mod Rules

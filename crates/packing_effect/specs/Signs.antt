@@ -3,7 +3,8 @@ use Rattle.std.specs.Prelude.{◌≡◌, refl, Bool, true, false, ℕ, zero, suc
 use Rattle.std.proofs.Common.{sym, ◌∙◌, ap, ap₂, true≢false, arith}
 use Rattle.groups.specs.Abelian.{map_neg}
 use Rattle.groups.specs.Eighth.{Eighth, prev, eighth, eighth_neg}
-use Rattle.groups.specs.Real.{cos2, sin2, cos2_add, cos2_flip, sin2_flip}
+use Rattle.groups.specs.Real.{cos2, sin2}
+use Rattle.groups.proofs.Real.{cos2_add, cos2_flip, sin2_flip}
 use Rattle.model.specs.Lists.{when◌then◌else◌, is_odd}
 use Rattle.model.specs.Items.{with_sign}
 use Rattle.effect.specs.Phase.{odd, minus}

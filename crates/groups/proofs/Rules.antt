@@ -7,8 +7,9 @@ use Rattle.groups.specs.Abelian.{Ab, nsm, zsm, zsm_add, zer_add, neg_neg, neg_ze
 use Rattle.groups.specs.Normaliser.{halve}
 use Rattle.groups.specs.Root.{Root, at, ∅, ◌⊞◌, ⊟◌, lin}
 use Rattle.groups.specs.Eighth.{Eighth, e2, prev, flip, eighth}
-use Rattle.groups.specs.Real.{cos2, sin2, cos2_add, cos2_flip, sin2_flip, map_cos2, IsReal, Gen, rot, rot_real, rots, total}
-use Rattle.groups.specs.Real.{intertwine, id_real}
+use Rattle.groups.specs.Real.{cos2, sin2}
+use Rattle.groups.proofs.Real.{cos2_add, cos2_flip, sin2_flip, map_cos2, IsReal, Gen, rot, rot_real, rots, total}
+use Rattle.groups.proofs.Real.{intertwine, id_real}
 
 module _ (M : Ab) (Mr : Root M) where
   open M use {C, zer, add as ◌⊹◌, neg, add_assoc, add_zer, add_neg}
