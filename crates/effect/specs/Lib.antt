@@ -3,17 +3,9 @@ pub mod Words
 pub mod Signs
 pub mod Effect
 pub mod Generators
-pub mod Operators
-pub mod Equal
 pub mod Reach
 pub mod Certificate
 pub mod Conjugation
-pub mod Image
-pub mod Single
-pub mod Frame
-pub mod Clifford
 pub mod Packed
-pub mod Examples
 pub mod Apart
 pub mod Held
-pub mod Bridge

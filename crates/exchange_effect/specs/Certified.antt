@@ -18,7 +18,8 @@ use Rattle.theory.specs.Every.{Every}
 use Rattle.effect.specs.Phase.{Quarter, q0, q1, q2, q3, odd, toℤ, σ, σ-even}
 use Rattle.effect.specs.Words.{Setting}
 use Rattle.effect.specs.Effect.{plain, pick}
-use Rattle.effect.specs.Certificate.{row, products, weight, Balanced, Group, turns, exchange}
+use Rattle.effect.specs.Certificate.{row, products, weight, Balanced, Group, turns}
+use Rattle.effect.proofs.Certificate.{exchange}
 use Rattle.items_effect.specs.Ops.{eighth_signed, rot_ops, rot_ops_append}
 use Rattle.items_effect.specs.Rotations as Rotations
 use Rattle.items_effect.specs.AxisWords.{AxisWords, is_one, Sound}

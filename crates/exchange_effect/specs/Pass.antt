@@ -8,7 +8,7 @@ use Rattle.theory.specs.Every.{Every}
 use Rattle.effect.specs.Words.{Setting}
 use Rattle.effect.specs.Effect.{Op}
 use Rattle.effect.specs.Effect as Effect
-use Rattle.effect.specs.Equal.{≈-refl}
+use Rattle.effect.proofs.Equal.{≈-refl}
 use Rattle.items_effect.specs.Ops.{item_ops}
 use Rattle.items_effect.specs.AxisWords.{AxisWords, Sound}
 use Rattle.items_effect.specs.Segments.{OnRotation, rewrite_segments_effect}

@@ -15,8 +15,9 @@ use Rattle.effect.specs.Words.{Setting}
 use Rattle.effect.specs.Effect.{Op}
 use Rattle.effect.specs.Effect as Effect
 use Rattle.effect.specs.Generators.{Commute}
-use Rattle.effect.specs.Equal.{≈-refl, ≈-sym, ≈-trans, ≈-cons, ≈-after, drop_zero}
-use Rattle.effect.specs.Reach.{AllPass, merge_at, to_end}
+use Rattle.effect.proofs.Equal.{≈-refl, ≈-sym, ≈-trans, ≈-cons, ≈-after, drop_zero}
+use Rattle.effect.specs.Reach.{AllPass}
+use Rattle.effect.proofs.Reach.{merge_at, to_end}
 use Rattle.items_effect.specs.Ops.{eighth_mod, rot_op, rot_ops, rot_ops_append}
 
 module _ (H : Setting) (word : ℕ → H.words.W) where

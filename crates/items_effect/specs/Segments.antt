@@ -6,7 +6,7 @@ use Rattle.theory.specs.Every.{Every, every_one}
 use Rattle.effect.specs.Words.{Setting}
 use Rattle.effect.specs.Effect.{Op}
 use Rattle.effect.specs.Effect as Effect
-use Rattle.effect.specs.Equal.{≈-trans, ≈-before, ≈-after}
+use Rattle.effect.proofs.Equal.{≈-trans, ≈-before, ≈-after}
 use Rattle.items_effect.specs.Ops.{rot_ops, rot_ops_append, item_ops, item_ops_append, item_ops_rotations}
 use Rattle.items_effect.specs.Rotations as Rotations
 

@@ -23,7 +23,7 @@ use Rattle.theory.specs.Checked.{NodeIn, SmallAngle, Fine}
 use Rattle.effect.specs.Words.{Setting}
 use Rattle.effect.specs.Effect.{Op, plain}
 use Rattle.effect.specs.Effect as Effect
-use Rattle.effect.specs.Equal.{≈-refl, ≈-sym, ≈-trans, ≈-cons, ≈-after, drop_zero, drop_unit}
+use Rattle.effect.proofs.Equal.{≈-refl, ≈-sym, ≈-trans, ≈-cons, ≈-after, drop_zero, drop_unit}
 use Rattle.items_effect.specs.Ops.{item_ops, item_ops_append}
 use Rattle.packing_effect.specs.Source.{sign_of, signed_angle, op_about, source_op, source_ops, source_row, axis_word, barrier_op, packed_row}
 use Rattle.packing_effect.specs.Signs.{with_sign_angle}

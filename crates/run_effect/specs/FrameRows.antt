@@ -22,10 +22,10 @@ use Rattle.theory.specs.PackedRoots.{In}
 use Rattle.theory.specs.Checked.{Fine, RowIn}
 use Rattle.run_wellformed.specs.Points.{Reached}
 use Rattle.effect.specs.Phase.{Quarter, q0, quarter, quarter_count, add4_zero, ◌⊞₄◌}
-use Rattle.effect.specs.Clifford.{Cliff, carry_row}
+use Rattle.effect.proofs.Clifford.{Cliff, carry_row}
 use Rattle.effect.specs.Packed.{Packed, packed_ext}
 use Rattle.effect.specs.Packed as PackedWords
-use Rattle.effect.specs.Bridge.{value_of, ImagesOf, holds_image}
+use Rattle.effect.proofs.Bridge.{value_of, ImagesOf, holds_image}
 use Rattle.packing_effect.specs.Source.{plain_ref, source_row, packed_row}
 use Rattle.kept_rows.specs.Mentions.{node_word}
 use Rattle.kept_rows.specs.KeptRows.{row_unmoved}

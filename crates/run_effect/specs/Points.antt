@@ -24,8 +24,8 @@ use Rattle.effect.specs.Phase.{Quarter, q0, add4_zero, ◌⊞₄◌}
 use Rattle.effect.specs.Words.{Setting}
 use Rattle.effect.specs.Effect.{Op}
 use Rattle.effect.specs.Effect as Effect
-use Rattle.effect.specs.Equal.{≈-sym}
-use Rattle.effect.specs.Clifford.{Cliff, carry_row}
+use Rattle.effect.proofs.Equal.{≈-sym}
+use Rattle.effect.proofs.Clifford.{Cliff, carry_row}
 use Rattle.effect.specs.Packed.{Packed}
 use Rattle.effect.specs.Packed as PackedWords
 use Rattle.items_effect.specs.Ops.{item_ops}

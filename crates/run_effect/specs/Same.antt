@@ -12,8 +12,8 @@ use Rattle.effect.specs.Phase.{Quarter, q0}
 use Rattle.effect.specs.Words.{Setting}
 use Rattle.effect.specs.Effect.{Op, sums, sums_root, effect, word, product, complex_sums, front, effect_from}
 use Rattle.effect.specs.Effect as Effect
-use Rattle.effect.specs.Frame.{front_pow2}
-use Rattle.effect.specs.Clifford.{Cliff, Sim, carry_row, carry_row_unit, finish}
+use Rattle.effect.proofs.Frame.{front_pow2}
+use Rattle.effect.proofs.Clifford.{Cliff, Sim, carry_row, carry_row_unit, finish}
 
 module _ (H : Setting) where
   open H use {words as Ws}

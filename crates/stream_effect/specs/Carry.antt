@@ -10,7 +10,7 @@ use Rattle.effect.specs.Phase.{Quarter, q0, q1, q2, q3, odd, count, quarter, qua
 use Rattle.effect.specs.Words.{Setting}
 use Rattle.effect.specs.Effect.{plain, measured, conditional as given}
 use Rattle.effect.specs.Conjugation.{turned}
-use Rattle.effect.specs.Clifford.{Cliff, carry}
+use Rattle.effect.proofs.Clifford.{Cliff, carry}
 use Rattle.packing_effect.specs.Source.{sign_of, signed_angle, op_about}
 use Rattle.packing_effect.specs.Signs.{with_sign_angle}
 

@@ -18,11 +18,11 @@ use Rattle.run_wellformed.specs.CliffordAngles.{CliffordAngle, two, four, six}
 use Rattle.effect.specs.Phase.{q0, count}
 use Rattle.effect.specs.Effect.{Op, plain}
 use Rattle.effect.specs.Effect as Effect
-use Rattle.effect.specs.Equal.{≈-sym, ≈-trans, ≈-after}
-use Rattle.effect.specs.Clifford.{Cliff, nothing, absorbed, carry, Sim, sim_start, sim_replace, sim_move}
+use Rattle.effect.proofs.Equal.{≈-sym, ≈-trans, ≈-after}
+use Rattle.effect.proofs.Clifford.{Cliff, nothing, absorbed, carry, Sim, sim_start, sim_replace, sim_move}
 use Rattle.effect.specs.Packed.{Packed, packed}
-use Rattle.effect.specs.Bridge as Bridge
-use Rattle.effect.specs.Bridge.{value_of, Even, even_angle, ImagesOf, holds_start, holds_absorb, holds_image}
+use Rattle.effect.proofs.Bridge as Bridge
+use Rattle.effect.proofs.Bridge.{value_of, Even, even_angle, ImagesOf, holds_start, holds_absorb, holds_image}
 use Rattle.items_effect.specs.Ops.{item_op, item_ops}
 use Rattle.packing_effect.specs.Source.{sign_of, op_about, axis_word, barrier_op}
 use Rattle.stream_effect.specs.PackedAxes.{packed_word, packed_word_is, packed_word_own}

@@ -9,7 +9,7 @@ use Rattle.pauli.specs.LetterLaws.{identity_length}
 use Rattle.pauli.specs.ProductLaws.{anticommutes_none}
 use Rattle.effect.specs.Phase.{odd}
 use Rattle.effect.specs.Packed.{Packed, packed_ext, one, phase4}
-use Rattle.effect.specs.Bridge.{odd_anticommutes}
+use Rattle.effect.proofs.Bridge.{odd_anticommutes}
 
 module _ (l : ℕ) where
   abbrev as_packed : (w : List ℕ) → Dec (length w ≡ 2 * l) → Packed l

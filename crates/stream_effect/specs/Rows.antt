@@ -15,9 +15,9 @@ use Rattle.theory.specs.StreamState.{carried_id}
 use Rattle.words_wellformed.specs.HeldImages.{sign_add}
 use Rattle.words_wellformed.specs.PassWords.{WellRow, WellPass, rows_more, axis_image_signed, carry_axis_well}
 use Rattle.effect.specs.Phase.{Quarter, q0, quarter, count, add4_zero, ◌⊞₄◌}
-use Rattle.effect.specs.Clifford.{Cliff, carry_row}
+use Rattle.effect.proofs.Clifford.{Cliff, carry_row}
 use Rattle.effect.specs.Packed.{Packed, packed}
-use Rattle.effect.specs.Bridge.{ImagesOf}
+use Rattle.effect.proofs.Bridge.{ImagesOf}
 use Rattle.packing_effect.specs.Source.{packed_row}
 use Rattle.stream_effect.specs.PackedAxes.{packed_word}
 use Rattle.stream_effect.specs.Carry.{quarter_carried}

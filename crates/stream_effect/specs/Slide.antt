@@ -16,7 +16,7 @@ use Rattle.effect.specs.Words.{Setting}
 use Rattle.effect.specs.Effect.{Op, plain}
 use Rattle.effect.specs.Effect as Effect
 use Rattle.effect.specs.Generators.{Commute}
-use Rattle.effect.specs.Equal.{≈-refl, ≈-sym, ≈-trans, ≈-cons, ≈-before, ≈-after, merge, swap, drop_zero}
+use Rattle.effect.proofs.Equal.{≈-refl, ≈-sym, ≈-trans, ≈-cons, ≈-before, ≈-after, merge, swap, drop_zero}
 use Rattle.items_effect.specs.Ops.{eighth_mod, item_op, item_ops}
 
 module _ (H : Setting) (word : ℕ → H.words.W) (barrier_op : ℕ → ℕ → ℕ → Op H.words.W) where

@@ -27,7 +27,7 @@ use Rattle.run_wellformed.specs.Waiting.{Waiting, absorb_waiting_axes, absorb_bl
 use Rattle.run_wellformed.specs.Waiting.{waiting_sound}
 use Rattle.run_wellformed.specs.Changing.{WaitsAs, waits_lazy, begin_waits, stream_item_waits}
 use Rattle.effect.specs.Effect.{Op}
-use Rattle.effect.specs.Clifford.{carry, Sim, sim_push}
+use Rattle.effect.proofs.Clifford.{carry, Sim, sim_push}
 use Rattle.effect.specs.Packed.{Packed, packed}
 use Rattle.items_effect.specs.Ops.{item_op}
 use Rattle.stream_effect.specs.Follows.{word_at, barrier_at, ops_of, turn_at, ops_of_append, op_of_grows, Follows, Streamed, Pending}

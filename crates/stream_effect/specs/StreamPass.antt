@@ -17,10 +17,10 @@ use Rattle.words_wellformed.specs.RunWords.{WellWork}
 use Rattle.effect.specs.Phase.{q0}
 use Rattle.effect.specs.Effect.{Op}
 use Rattle.effect.specs.Effect as Effect
-use Rattle.effect.specs.Equal.{≈-sym}
-use Rattle.effect.specs.Clifford.{Cliff, Sim, sim_replace, carry_row}
+use Rattle.effect.proofs.Equal.{≈-sym}
+use Rattle.effect.proofs.Clifford.{Cliff, Sim, sim_replace, carry_row}
 use Rattle.effect.specs.Packed.{Packed, packed}
-use Rattle.effect.specs.Bridge.{ImagesOf}
+use Rattle.effect.proofs.Bridge.{ImagesOf}
 use Rattle.stream_effect.specs.Slide.{drop_zeros_effect}
 use Rattle.stream_effect.specs.Follows.{word_at, barrier_at, ops_of, ops_of_grows, Streamed}
 use Rattle.stream_effect.specs.Steps.{put_inside}

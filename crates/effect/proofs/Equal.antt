@@ -14,8 +14,9 @@ use Rattle.effect.specs.Phase.{odd, σ}
 use Rattle.effect.specs.Words.{Setting}
 use Rattle.effect.specs.Effect.{Op, plain, sums, sums_root, J, rotate_at, rotate, step, effect}
 use Rattle.effect.specs.Effect as Effect
-use Rattle.effect.specs.Generators.{times_real, J_cube, Commute, times_comm, bracket_j}
-use Rattle.effect.specs.Operators.{rotate_is, step_real, effect_append}
+use Rattle.effect.specs.Generators.{Commute}
+use Rattle.effect.proofs.Generators.{times_real, J_cube, times_comm, bracket_j}
+use Rattle.effect.proofs.Operators.{rotate_is, step_real, effect_append}
 
 module _ (H : Setting) where
   open H use {words as Ws, coeff as K}

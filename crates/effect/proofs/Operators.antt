@@ -14,7 +14,7 @@ use Rattle.effect.specs.Signs.{act, act_mul, act_add, act_map}
 use Rattle.effect.specs.Effect.{Op, plain, measured, conditional, sums, sums_root, J, A, rotate_at, rotate, keep_at, measure, signed}
 use Rattle.effect.specs.Effect.{given}
 use Rattle.effect.specs.Effect.{step, effect}
-use Rattle.effect.specs.Generators.{times_at, twice_at, times_real}
+use Rattle.effect.proofs.Generators.{times_at, twice_at, times_real}
 
 module _ (H : Setting) where
   open H use {words as Ws, coeff as K, root as Kr}

@@ -8,7 +8,7 @@ use Rattle.groups.specs.Abelian.{Ab, neg_neg, neg_of_add, dbl, pow2}
 use Rattle.effect.specs.Phase.{Quarter, q0, q1, q2, q3, odd, ◌⊞₄◌, τ}
 use Rattle.effect.specs.Words.{Setting}
 use Rattle.effect.specs.Effect.{sums, pmul, product, complex_sums, front}
-use Rattle.effect.specs.Operators.{sgn}
+use Rattle.effect.proofs.Operators.{sgn}
 
 module _ (H : Setting) where
   open H use {words as Ws}

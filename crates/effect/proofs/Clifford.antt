@@ -13,12 +13,13 @@ use Rattle.effect.specs.Phase.{Quarter, q0, Quarterᵃ, odd, ◌⊞₄◌, even_
 use Rattle.effect.specs.Words.{Setting}
 use Rattle.effect.specs.Effect.{Op, plain, measured, conditional, sums, sums_root, times, rotate, measure, signed, step, effect, word, pmul}
 use Rattle.effect.specs.Effect.{product, complex_sums, front, effect_from, ◌≈◌}
-use Rattle.effect.specs.Generators.{bracket_j, bracket_a}
-use Rattle.effect.specs.Operators.{rotate_real, sgn, sgn_real, sgn_map, sgn_mul, effect_real, effect_append}
-use Rattle.effect.specs.Conjugation.{conj, conj_even, rotate_times, turned, Carries, pass_rotate, pass_given, pass_measure, signed_mul}
-use Rattle.effect.specs.Image.{image, image_mul, image_unit, phased_mul}
-use Rattle.effect.specs.Single.{rotate_even}
-use Rattle.effect.specs.Frame.{product_map, front_add, front_pow2}
+use Rattle.effect.proofs.Generators.{bracket_j, bracket_a}
+use Rattle.effect.proofs.Operators.{rotate_real, sgn, sgn_real, sgn_map, sgn_mul, effect_real, effect_append}
+use Rattle.effect.specs.Conjugation.{conj, turned}
+use Rattle.effect.proofs.Conjugation.{conj_even, rotate_times, Carries, pass_rotate, pass_given, pass_measure, signed_mul}
+use Rattle.effect.proofs.Image.{image, image_mul, image_unit, phased_mul}
+use Rattle.effect.proofs.Single.{rotate_even}
+use Rattle.effect.proofs.Frame.{product_map, front_add, front_pow2}
 
 module _ (H : Setting) where
   open H use {words as Ws}

@@ -26,9 +26,9 @@ use Rattle.effect.specs.Phase.{count}
 use Rattle.effect.specs.Phase.{count_quarter, odd_half}
 use Rattle.effect.specs.Effect.{pmul}
 use Rattle.effect.specs.Conjugation.{conj, conj_at}
-use Rattle.effect.specs.Image.{image}
-use Rattle.effect.specs.Clifford.{Cliff, nothing, absorbed, absorbed_im, carry_row}
-use Rattle.effect.specs.Clifford.{carry_row_mul, carry_row_unit}
+use Rattle.effect.proofs.Image.{image}
+use Rattle.effect.proofs.Clifford.{Cliff, nothing, absorbed, absorbed_im, carry_row}
+use Rattle.effect.proofs.Clifford.{carry_row_mul, carry_row_unit}
 use Rattle.effect.specs.Packed.{Packed, packed_ext, mul, one, one_mul, one_phase, mul_comm, phase4, phase4_swap, packed}
 use Rattle.theory.specs.Support.{walk, walk_append, numbers_append, walk_support}
 use Rattle.effect.specs.Apart.{single_none, letter_at_lt, from_letters_own, next_letter}

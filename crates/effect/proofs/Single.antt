@@ -11,8 +11,9 @@ use Rattle.effect.specs.Phase.{Quarter, odd, neg4, Sgn, minus, ◌·ˢ◌, σ, �
 use Rattle.effect.specs.Words.{Setting}
 use Rattle.effect.specs.Signs.{act, act_add}
 use Rattle.effect.specs.Effect.{conditional, pick, sums, sums_root, times, J, A, rotate, measure, given, step, word}
-use Rattle.effect.specs.Generators.{times_add, times_real, Commute}
-use Rattle.effect.specs.Operators.{rotate_is, measure_is, sgn, sgn_map, sgn_mul}
+use Rattle.effect.specs.Generators.{Commute}
+use Rattle.effect.proofs.Generators.{times_add, times_real}
+use Rattle.effect.proofs.Operators.{rotate_is, measure_is, sgn, sgn_map, sgn_mul}
 use Rattle.effect.specs.Conjugation.{conj, conj_at}
 
 module _ (H : Setting) where

@@ -1,0 +1,12 @@
+pub mod Generators
+pub mod Certificate
+pub mod Conjugation
+pub mod Reach
+pub mod Operators
+pub mod Equal
+pub mod Image
+pub mod Single
+pub mod Frame
+pub mod Clifford
+pub mod Examples
+pub mod Bridge
