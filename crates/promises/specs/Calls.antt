@@ -148,21 +148,25 @@ pub record ShortRefused (o : Options) (j : Job) (s : Lent) : Type 0 where
   pub options : bad_option o ≡ false
   pub short : program_short j || lent_short j.counts s o.max_packed_words ≡ true
 
-pub three_where : (o : Options) (j : Job) (s : Lent) → number_of (checking o j s) ≡ 3 → ShortRefused o j s
+-- its three fields, of which an edit refutes one
+pub three_where : (o : Options) (j : Job) (s : Lent) → number_of (checking o j s) ≡ 3
+    → (bad_count j.counts ≡ false) × (bad_option o ≡ false) × (program_short j || lent_short j.counts s o.max_packed_words ≡ true)
 unfolding checking bad_option
 three_where o j s =
     on_if P (bad_count j.counts) CountOutside _ (λ e h. absurd (omega (arith, h)))
     (λ a. on_if P (bad_option o) OptionOutside _ (λ e h. absurd (omega (arith, h)))
     (λ b. on_if P (program_short j || lent_short j.counts s o.max_packed_words) SliceShort _
-    (λ e h. record { counts = a; options = b; short = e })
+    (λ e h. (a, b, e))
     (λ e h. absurd (records_not_3 o.lazy_cliffords j h))))
   where
     P : Answer → Type 0
-    P a = number_of a ≡ 3 → ShortRefused o j s
+    P a = number_of a ≡ 3
+        → (bad_count j.counts ≡ false) × (bad_option o ≡ false) × (program_short j || lent_short j.counts s o.max_packed_words ≡ true)
 
-pub short_where : (o : Options) (j : Job) (s : Lent) → ShortRefused o j s → checking o j s ≡ SliceShort
+pub short_where : (o : Options) (j : Job) (s : Lent) → bad_count j.counts ≡ false → bad_option o ≡ false
+    → program_short j || lent_short j.counts s o.max_packed_words ≡ true → checking o j s ≡ SliceShort
 unfolding checking
-short_where o j s h = if_false _ _ h.counts ∙ if_false _ _ h.options ∙ if_true _ _ h.short
+short_where o j s counts options short = if_false _ _ counts ∙ if_false _ _ options ∙ if_true _ _ short
 
 -- ---- 02, M-112: 16 comes from a named place alone, exactly where it is bad and all other checks pass
 

@@ -17,11 +17,13 @@ use Rattle.model.specs.Checking.{Lent, check_operations, check_program}
 use Rattle.model.specs.Rewriting.{Called}
 use Rattle.theory.specs.Every.{map_every}
 use Rattle.theory.specs.Called.{answer_is, counters_are}
+use Rattle.theory.specs.Limit.{SameButLimit}
 use Rattle.theory.specs.Checked.{both_accepted, checking_program}
 use Rattle.theory.specs.TCountCalls.{accepted_counters}
 use Rattle.result_effect.specs.Calls.{call_fine, call_hermitian}
 use Rattle.cutting.specs.Worded.{WordedOperation, with_word, worded, worded_all}
-use Rattle.cutting.specs.CutRun.{with_operations, MergesOnly, Runs, worded_end, AddsUp, run_cut}
+use Rattle.cutting.specs.CutRun.{with_operations, MergesOnly, Runs, worded_end, AddsUp}
+use Rattle.cutting.proofs.CutRun.{run_cut}
 use Rattle.promises.specs.Calls.{passed_checking}
 use Rattle.promises.specs.Strategies.{end_work}
 use Rattle.promises.specs.Left.{operations_in, words_in, IdIn, operations_left, words_left, records_in}
@@ -96,9 +98,9 @@ module _ {j earlier later : Job} (cut : CutAtMeasurement j earlier later) where
   abbrev rest : List Operation
   rest = map operation_of (operation_records later)
 
-  measured : last.kind ≡ measure
+  measured : field_of cut.measurement 0 ≡ 2 → last.kind ≡ measure
   unfolding operation_of
-  measured = ap kind_of cut.measures
+  measured h = ap kind_of h
 
   earlier_operations : map operation_of (operation_records earlier) ≡ first ++ (last ∷ [])
   earlier_operations = ap (map operation_of) cut.ends ∙ map-append operation_of cut.before (cut.measurement ∷ [])
@@ -121,9 +123,9 @@ module _ {j earlier later : Job} (cut : CutAtMeasurement j earlier later) where
 
 -- ---- the rules
 
-merges_only : (o : Options) → OneRound o → MergesOnly (rules_of o)
+pub merges_only : (o : Options) → o.clifford_to_frame ≡ false → o.strategy ≡ Merge → MergesOnly (rules_of o)
 unfolding rules_of absorption_of when◌then◌else◌
-merges_only o h = record { absorption = rw h.absorption refl; strategy = h.strategy }
+merges_only o h strategy = record { absorption = rw h refl; strategy = strategy }
 
 -- ---- the three calls
 
@@ -135,31 +137,39 @@ pub record CallsAddUp (j earlier later : Job) (t tₑ tₗ : Lent) (c cₑ cₗ 
 
 module _ {o oₑ oₗ : Options} {j earlier later : Job} {s sₑ sₗ t tₑ tₗ : Lent} {c cₑ cₗ : Counters} {m n mₑ nₑ mₗ nₗ : ℕ}
     (x : Called o j s Accepted c m n t) (y : Called oₑ earlier sₑ Accepted cₑ mₑ nₑ tₑ) (z : Called oₗ later sₗ Accepted cₗ mₗ nₗ tₗ)
-    (same : SameOptionsButLimit o oₑ) (alike : SameOptionsButLimit o oₗ) (one : OneRound o) (cut : CutAtMeasurement j earlier later) where
+    (same : SameButLimit o oₑ) (alike : SameButLimit o oₗ) (merges : MergesOnly (rules_of o)) (rounds : o.rounds ≡ 1)
+    (cut : CutAtMeasurement j earlier later) (measures : field_of cut.measurement 0 ≡ 2) where
   abbrev r : Rules
   r = rules_of o
 
   ends : AddsUp r (program_of j) (program_of earlier) (program_of later)
   ends =
       rw (earlier_program cut, later_program cut, whole_program cut)
-      (run_cut r (merges_only o one) (program_of j) (first cut) (last cut) (measured cut) (rest cut)
+      (run_cut r merges (program_of j) (first cut) (last cut) (measured cut measures) (rest cut)
       (runs_as x (whole_program cut)) (runs_as y (earlier_program cut)) (runs_as z (later_program cut)))
 
-  pub calls_add_up : CallsAddUp j earlier later t tₑ tₗ c cₑ cₗ
-  calls_add_up =
-      let earlier_rules = (but_limit same).rules in
-      let later_rules = (but_limit alike).rules in
-      let once = same.rounds ∙ one.rounds in
-      let once' = alike.rounds ∙ one.rounds in
-      let whole = counters_left x refl one.rounds in
-      let part = counters_left y earlier_rules once in
-      let rest' = counters_left z later_rules once' in
+  -- what the promises' conditions give, which edits refute, stands apart: no promise rests on another
+  pub parts_add_up : CallsAddUp j earlier later t tₑ tₗ c cₑ cₗ
+  parts_add_up =
+      let once = same.rounds ∙ rounds in
+      let once' = alike.rounds ∙ rounds in
+      let whole = counters_left x refl rounds in
+      let part = counters_left y same.rules once in
+      let rest' = counters_left z alike.rules once' in
       record {
-        operations = worded_left x refl one.rounds ∙ ends.operations
-            ∙ ap₂ (λ (u v : List WordedOperation). u ++ v) (sym (worded_left y earlier_rules once)) (sym (worded_left z later_rules once'));
+        operations = worded_left x refl rounds ∙ ends.operations
+            ∙ ap₂ (λ (u v : List WordedOperation). u ++ v) (sym (worded_left y same.rules once)) (sym (worded_left z alike.rules once'));
         swaps = whole.0 ∙ ends.swaps ∙ ap₂ ◌+◌ (sym part.0) (sym rest'.0);
         merges = whole.1 ∙ ends.merges ∙ ap₂ ◌+◌ (sym part.1) (sym rest'.1);
       }
+
+module _ {o oₑ oₗ : Options} {j earlier later : Job} {s sₑ sₗ t tₑ tₗ : Lent} {c cₑ cₗ : Counters} {m n mₑ nₑ mₗ nₗ : ℕ}
+    (x : Called o j s Accepted c m n t) (y : Called oₑ earlier sₑ Accepted cₑ mₑ nₑ tₑ) (z : Called oₗ later sₗ Accepted cₗ mₗ nₗ tₗ)
+    (same : SameOptionsButLimit o oₑ) (alike : SameOptionsButLimit o oₗ) (one : OneRound o) (cut : CutAtMeasurement j earlier later) where
+  pub calls_add_up : CallsAddUp j earlier later t tₑ tₗ c cₑ cₗ
+  calls_add_up =
+      parts_add_up x y z (but_limit same same.others.second_first) (but_limit alike alike.others.second_first)
+      (merges_only o one.absorption one.strategy) one.rounds cut cut.measures
 
 -- ---- outcomes
 

@@ -1,14 +1,12 @@
 -- 02, M-113 by computing, about calls: a job whose later part has other ids than the whole; and what is false with absorption on, with three
 -- rounds, and where the cut is not behind a barrier. Assumes nothing.
 use Rattle.std.specs.Prelude.{◌≡◌, refl, Bool, true, false, List, [], ◌∷◌, ◌++◌, ℕ}
-use Rattle.std.proofs.Common.{sym, ap}
 use Rattle.model.specs.declared.Strategy.TheVariants.{Merge}
 use Rattle.model.specs.declared.Lazy.TheVariants.{Off}
 use Rattle.model.specs.declared.Options.{Options}
-use Rattle.model.specs.declared.Answer.{Answer}
-use Rattle.model.specs.declared.Answer.TheVariants.{Accepted, BadOutcome}
+use Rattle.model.specs.declared.Answer.TheVariants.{BadOutcome}
 use Rattle.model.specs.Program.{Job}
-use Rattle.model.specs.Rewriting.{Reply, rewriting, Called}
+use Rattle.model.specs.Rewriting.{Reply, rewriting}
 use Rattle.model.specs.Everything.{everything}
 use Rattle.runs.specs.Shown.{I, X, Z, rotate, measure, conditional, row, job, rotated, measured+, conditioned}
 use Rattle.runs.specs.Options.{options, lent}
@@ -16,14 +14,12 @@ use Rattle.theory.specs.WithoutExchange.{in_order}
 use Rattle.cutting.specs.Worded.{WordedOperation, with_word}
 use Rattle.promises.specs.Slices.{kinds_read}
 use Rattle.promises.specs.Left.{operations_in}
-use Rattle.promises.specs.Alike.{same_with_limit}
 use Rattle.promises.specs.Cut.{worded_in}
-use Rattle.promises.specs.Promises.{cut_results}
 
 -- ---- calls
 
 -- two qubits; nodes 1 to 4 are X0, Z0, X1, Z1, and so are the rows
-abbrev two_qubits : List (List ℕ) → Job
+abbrev pub two_qubits : List (List ℕ) → Job
 two_qubits operations =
     job 2 (I ∷ X 0 ∷ Z 0 ∷ X 1 ∷ Z 1 ∷ []) operations (row 0 0 1 0 ∷ row 0 1 2 0 ∷ row 1 0 3 0 ∷ row 1 1 4 0 ∷ [])
 
@@ -32,14 +28,14 @@ abbrev options_at : ℕ → Bool → ℕ → ℕ → Options
 options_at limit absorption window rounds = options 0 window 16 rounds absorption true Off Merge false limit
 
 -- absorption off, one round
-abbrev at : ℕ → Options
+abbrev pub at : ℕ → Options
 at limit = options_at limit false 1 1
 
-abbrev reply : Options → List (List ℕ) → Reply
+abbrev pub reply : Options → List (List ℕ) → Reply
 reply o operations = rewriting o (two_qubits operations) (lent o (two_qubits operations))
 
 -- the operations that come out, words in place of ids
-abbrev left : Options → List (List ℕ) → List WordedOperation
+abbrev pub left : Options → List (List ℕ) → List WordedOperation
 left o operations = worded_in (two_qubits operations) (reply o operations).lent
 
 -- its swaps and merges
@@ -59,11 +55,11 @@ worded_conditional w k o = record { kind = 3; word = w; sign = 1; angle = k; out
 -- ---- a cut
 
 -- X0:1 X1:1 X0:1, which both exchanges improve, then a measurement of X0
-abbrev earlier : List (List ℕ)
+abbrev pub earlier : List (List ℕ)
 earlier = rotate 1 0 1 ∷ rotate 3 0 1 ∷ rotate 1 0 1 ∷ measure 1 0 0 5 ∷ []
 
 -- Z1:1 Z1:1, which merge, a measurement of Z1, and X1:3 if it is 1
-abbrev later : List (List ℕ)
+abbrev pub later : List (List ℕ)
 later = rotate 4 0 1 ∷ rotate 4 0 1 ∷ measure 4 0 1 6 ∷ conditional 3 0 3 1 ∷ []
 
 -- what they leave, the earlier part in the one order and in the other
@@ -127,29 +123,3 @@ cut = record {
   rounds_earlier = refl;
   rounds_later = refl;
 }
-
--- ---- such calls are what `cut-results` speaks of
-
-abbrev called : (o : Options) (operations : List (List ℕ)) → (reply o operations).answer ≡ Accepted
-    → Called o (two_qubits operations) (lent o (two_qubits operations)) Accepted (reply o operations).counters (reply o operations).operations
-    (reply o operations).axes (reply o operations).lent
-called o operations e = record {
-  replied = let x = reply o operations in
-      ap (λ (a : Answer). record { answer = a; counters = x.counters; operations = x.operations; axes = x.axes; lent = x.lent }) (sym e);
-}
-
--- at three limits
-pub promised : left (at 32) (earlier ++ later) ≡ left (at 24) earlier ++ left (at 20) later
-unfolding everything
-promised =
-    cut_results (called (at 32) (earlier ++ later) refl) (called (at 24) earlier refl) (called (at 20) later refl)
-    (same_with_limit (at 32) 24) (same_with_limit (at 32) 20) (record { absorption = refl; strategy = refl; rounds = refl })
-    (record {
-      earlier_keeps = record { qubits = refl; nodes = refl; rows = refl };
-      later_keeps = record { qubits = refl; nodes = refl; rows = refl };
-      before = rotate 1 0 1 ∷ rotate 3 0 1 ∷ rotate 1 0 1 ∷ [];
-      measurement = measure 1 0 0 5;
-      measures = refl;
-      ends = refl;
-      joined = refl;
-    })

@@ -24,11 +24,11 @@ use Rattle.model.specs.Run.{Run, start_of, answer_of}
 use Rattle.model.specs.Results.{item_record, operation_results, row_results, source_t_count, result_t_count, counters_of}
 use Rattle.model.specs.Checking.{Lent, checking}
 use Rattle.model.specs.Rewriting.{Reply, then_zeros, zeros, refused, stopped, accepted, rewriting, Called}
-use Rattle.theory.specs.Alike.{alike_program}
+use Rattle.theory.specs.Alike.{Alike, alike_program}
 use Rattle.theory.specs.Called.{answer_is, counters_are, operations_are, axes_are, lent_is}
 use Rattle.theory.specs.Replies.{run_of, limit_of, refused_answer, run_answer, refusal_answer}
 use Rattle.theory.specs.Checked.{limit_fits, checking_options}
-use Rattle.theory.specs.Limit.{run_same, checks_again, same_at_larger_limit, results_answer, results_counters}
+use Rattle.theory.specs.Limit.{SameButLimit, run_same, checks_again, same_at_larger_limit, results_answer, results_counters}
 use Rattle.theory.specs.AcceptedRun.{finish_of, hermitian_peak}
 use Rattle.theory.specs.TCountCalls.{accepted_hermitian, accepted_counters, accepted_operations, accepted_axes, accepted_reply}
 use Rattle.theory.specs.TCountCalls.{no_more_than_source, no_more_with_more_rounds}
@@ -40,7 +40,8 @@ use Rattle.run_wellformed.specs.Points.{Reached}
 use Rattle.run_wellformed.specs.Lengths.{SameLengths, same_lengths}
 use Rattle.result_effect.specs.Calls.{call_fine, call_hermitian}
 use Rattle.run_effect.specs.RunEffect.{Effects, source_effect, result_effect, run_keeps_effect}
-use Rattle.cutting.specs.Outcomes.{NamesNone, names_none}
+use Rattle.cutting.specs.Outcomes.{NamesNone}
+use Rattle.cutting.proofs.Outcomes.{names_none}
 use Rattle.promises.specs.Slices.{Agree, agree_then, agree_zeros}
 use Rattle.promises.specs.Calls.{Replied, by_checking, by_limit, by_root, done, called_of, passed_checking, nine_exactly}
 use Rattle.promises.specs.Calls.{number_low, number_checking, number_stopped, PlaceRefused, sixteen_where}
@@ -49,7 +50,7 @@ use Rattle.promises.specs.Named.{ChangesAt, stream_changes}
 use Rattle.promises.specs.Strategies.{end_work, merge_end, litinski_end, no_rounds_end}
 use Rattle.promises.specs.Left.{operations_in, rows_in, words_in, operations_left, ids_scanned, effect_left}
 use Rattle.promises.specs.Alike.{SameOptionsButLimit, AlikeButRoundsAndLimit, AlikeButLimit, alike_rules, but_limit, not_two}
-use Rattle.promises.specs.Cut.{OneRound, CutAtMeasurement, worded_in, calls_add_up, operations_passed}
+use Rattle.promises.specs.Cut.{OneRound, CutAtMeasurement, worded_in, merges_only, parts_add_up, operations_passed}
 
 -- ==== what the sentences speak of
 
@@ -251,17 +252,16 @@ module _ {o o' : Options} {j j' : Job} {s s' : Lent} {c c' : Counters} {m n m' n
       let e = t_counts_told x in
       let e' = t_counts_told y in
       let k : c'.t_after ≤ c.t_after = rw (← counters_are x, ← counters_are y)
-      (no_more_with_more_rounds o o' j j' s s' alike.job (alike_rules alike.options) h (answer_is x) (answer_is y)) in
+      (no_more_with_more_rounds o o' j j' s s' alike.job (alike_rules alike.options alike.options.second_first) h (answer_is x) (answer_is y)) in
       omega arith
 
-  -- "equal rounds give equal results and counters".
-  -- Rules out: an answer that depends on what the work stores held; ids that depend on the limit
-  pub equal_rounds_equal_results : Called o j s Accepted c m n t → Called o' j' s' Accepted c' m' n' t' → AlikeButLimit o o' j j'
+  -- by one set of rules and as many rounds
+  equal_results : Called o j s Accepted c m n t → Called o' j' s' Accepted c' m' n' t' → Alike j j' → SameButLimit o o'
       → SameLeft t t' × (c' ≡ c)
-  equal_rounds_equal_results x y alike =
+  equal_results x y job same =
       let one = acceptance x in
       let other : AcceptanceLeaves (program_of j) (end_work o j) s' t'
-      = rw (← alike_rules alike.options.others, ← alike.options.rounds, ← alike_program j j' alike.job) (acceptance y) in (
+      = rw (← same.rules, ← same.rounds, ← alike_program j j' job) (acceptance y) in (
         record {
           operations = agree_then _ _ _ one.operations other.operations;
           rows = agree_then _ _ _ one.rows other.rows;
@@ -269,8 +269,14 @@ module _ {o o' : Options} {j j' : Job} {s s' : Lent} {c c' : Counters} {m n m' n
           numbers = agree_zeros _ _ one.numbers other.numbers;
         },
         rw (← counters_are x, ← counters_are y)
-            (results_counters (equal_rounds o o' j j' s s' alike.job (but_limit alike.options) (answer_is x) (answer_is y))),
+            (results_counters (equal_rounds o o' j j' s s' job same (answer_is x) (answer_is y))),
       )
+
+  -- "equal rounds give equal results and counters".
+  -- Rules out: an answer that depends on what the work stores held; ids that depend on the limit
+  pub equal_rounds_equal_results : Called o j s Accepted c m n t → Called o' j' s' Accepted c' m' n' t' → AlikeButLimit o o' j j'
+      → SameLeft t t' × (c' ≡ c)
+  equal_rounds_equal_results x y alike = equal_results x y alike.job (but_limit alike.options alike.options.others.second_first)
 
   -- and as many operations and axes.
   -- Rules out: axes that a refused trial stored; operations counted up to the longest result slice
@@ -278,7 +284,7 @@ module _ {o o' : Options} {j j' : Job} {s s' : Lent} {c c' : Counters} {m n m' n
       → (m' ≡ m) × (n' ≡ n)
   equal_rounds_equal_numbers x y alike =
       let end : end_work o' j' ≡ end_work o j
-      = rw (alike_rules alike.options.others, alike.options.rounds, alike_program j j' alike.job) refl in (
+      = rw (alike_rules alike.options.others alike.options.others.second_first, alike.options.rounds, alike_program j j' alike.job) refl in (
         sym (operations_are y) ∙ accepted_operations o' j' s' (answer_is y) ∙ ap (λ (w : Work). length w.items) end
             ∙ sym (sym (operations_are x) ∙ accepted_operations o j s (answer_is x)),
         sym (axes_are y) ∙ accepted_axes o' j' s' (answer_is y) ∙ ap (λ (w : Work). length w.store.axes) end
@@ -296,7 +302,7 @@ module _ {o o' : Options} {j j' : Job} {s s' : Lent} {a a' : Answer} {c c' : Cou
       let passed = passed_checking x e in
       let not_2 : (rewriting o' j' s').answer ≡ OptionOutside → ⊥ = λ f. let m = ap number_of (sym (answer_is y) ∙ f) in
       not_two s s' alike passed k (sym (only_checking y (ap of_checking m)) ∙ sym (answer_is y) ∙ f) in
-      let same = same_at_larger_limit o o' j j' s s' alike.job (but_limit alike.options) h
+      let same = same_at_larger_limit o o' j j' s s' alike.job (but_limit alike.options alike.options.others.second_first) h
       (⊎_elim (λ f. inl (answer_is x ∙ f)) (λ f. inr (answer_is x ∙ f)) e) not_2 (λ f. n (sym (answer_is y) ∙ f)) in
       (rw (← answer_is x, ← answer_is y) (results_answer same), rw (← counters_are x, ← counters_are y) (results_counters same))
 
@@ -335,28 +341,9 @@ module _ {o : Options} {j : Job} {s : Lent} {a : Answer} {c : Counters} {m n : �
 -- a second call, alike but for the limit, with stores that are long enough for it
 module _ {o o' : Options} {j j' : Job} {s s' : Lent} {a' : Answer} {c c' : Counters} {m n m' n' : ℕ} {t t' : Lent}
     (x : Called o j s Accepted c m n t) (y : Called o' j' s' a' c' m' n' t') (alike : AlikeButLimit o o' j j') (long : a' ≡ SliceShort → ⊥) where
-  -- the number that the first call returned is the sum that the second one's run tests
-  words_again : (run_of o' j').peak ≡ c.packed_words
-  words_again =
-      ap (λ (r : Run). r.peak) (run_same o o' j j' s s' alike.job (but_limit alike.options)) ∙ sym (words_told x refl)
-
-  -- the first passed the checks, and so does the second
+  -- the first passed the checks
   passed : checking o j s ≡ Accepted
   passed = passed_checking x (inl refl)
-
-  passed_again : limit_of o' ≤ 1048576 → checking o' j' s' ≡ Accepted
-  passed_again k =
-      checks_again o o' j j' s s' alike.job (but_limit alike.options) passed (not_two s s' alike passed k)
-      (λ f. long (checks_itself y (ap accepts f) ∙ f))
-
-  -- it is accepted exactly if its limit is no smaller than the number that the first call returned.
-  -- Rules out: the limit itself returned; a number that counts what the stores held
-  pub accepted_by_the_number : limit_of o' ≤ 1048576 → (a' ≡ Accepted) ↔ (c.packed_words ≤ limit_of o')
-  accepted_by_the_number k =
-      let even : Hermitian (program_of j')
-      = rw (alike_program j j' alike.job) ((accepted_where x passed).0 refl).1 in
-      let exactly = accepted_by_the_words y even (passed_again k) in
-      (λ e. rw (← words_again) (exactly.0 e), λ h. exactly.1 (rw words_again h))
 
   -- no number that is returned exceeds the limit
   within_domain : c.packed_words ≤ 1048576
@@ -364,18 +351,45 @@ module _ {o o' : Options} {j j' : Job} {s s' : Lent} {a' : Answer} {c c' : Count
       let h = ((accepted_where x passed).0 refl).0 in
       omega (arith, h, words_told x refl, limit_fits o (checking_options o j s passed))
 
+  -- by one set of rules and as many rounds
+  module _ (same : SameButLimit o o') where
+    -- the number that the first call returned is the sum that the second one's run tests
+    words_again : (run_of o' j').peak ≡ c.packed_words
+    words_again =
+        ap (λ (r : Run). r.peak) (run_same o o' j j' s s' alike.job same) ∙ sym (words_told x refl)
+
+    -- and the second passes the checks
+    passed_again : limit_of o' ≤ 1048576 → checking o' j' s' ≡ Accepted
+    passed_again k =
+        checks_again o o' j j' s s' alike.job same passed (not_two s s' alike passed k)
+        (λ f. long (checks_itself y (ap accepts f) ∙ f))
+
+    by_the_number : limit_of o' ≤ 1048576 → (a' ≡ Accepted) ↔ (c.packed_words ≤ limit_of o')
+    by_the_number k =
+        let even : Hermitian (program_of j')
+        = rw (alike_program j j' alike.job) ((accepted_where x passed).0 refl).1 in
+        let exactly = accepted_by_the_words y even (passed_again k) in
+        (λ e. rw (← words_again) (exactly.0 e), λ h. exactly.1 (rw words_again h))
+
+  -- it is accepted exactly if its limit is no smaller than the number that the first call returned.
+  -- Rules out: the limit itself returned; a number that counts what the stores held
+  pub accepted_by_the_number : limit_of o' ≤ 1048576 → (a' ≡ Accepted) ↔ (c.packed_words ≤ limit_of o')
+  accepted_by_the_number k = by_the_number (but_limit alike.options alike.options.others.second_first) k
+
   -- the number as the limit: accepted, with the same results and the same counters.
   -- Rules out: a number that leaves out the images of F; a test that refuses a sum equal to the limit
   pub number_is_enough : limit_of o' ≡ c.packed_words → (a' ≡ Accepted) × (SameLeft t t' × (c' ≡ c))
   number_is_enough e =
-      let yes' = (accepted_by_the_number (omega (arith, within_domain))).1 (omega (arith, e)) in
-      (yes', equal_rounds_equal_results x (subst (λ (b : Answer). Called o' j' s' b c' m' n' t') yes' y) alike)
+      let same = but_limit alike.options alike.options.others.second_first in
+      let yes' = (by_the_number same (omega (arith, within_domain))).1 (omega (arith, e)) in
+      (yes', equal_results x (subst (λ (b : Answer). Called o' j' s' b c' m' n' t') yes' y) alike.job same)
 
   -- one less: 10.
   -- Rules out: the limit of the first call handed back as the number; a sum that counts slots which are free again
   pub one_less_is_refused : limit_of o' + 1 ≡ c.packed_words → a' ≡ ExpansionLimit
   one_less_is_refused e =
-      (limit_where y (passed_again (omega (arith, within_domain)))).1 (omega (arith, e, words_again))
+      let same = but_limit alike.options alike.options.others.second_first in
+      (limit_where y (passed_again same (omega (arith, within_domain)))).1 (omega (arith, e, words_again same))
 
 -- ==== Request M-107. "Second exchange first". Every promise above is of any options, so of either order
 
@@ -394,8 +408,9 @@ module _ {o : Options} {j : Job} {s : Lent} {a : Answer} {c : Counters} {m n : �
 pub refused_short : {o : Options} {j : Job} {s : Lent} {a : Answer} {c : Counters} {m n : ℕ} {t : Lent} → Called o j s a c m n t
     → (number_of a ≡ 3) ↔ ShortRefused o j s
 refused_short {o} {j} {s} call = (
-  λ e. three_where o j s (ap number_of (sym (only_checking call (ap of_checking e))) ∙ e),
-  λ h. let e = short_where o j s h in ap number_of (checks_itself call (ap accepts e) ∙ e),
+  λ e. let h = three_where o j s (ap number_of (sym (only_checking call (ap of_checking e))) ∙ e) in
+      record { counts = h.0; options = h.1; short = h.2 },
+  λ h. let e = short_where o j s h.counts h.options h.short in ap number_of (checks_itself call (ap accepts e) ∙ e),
 )
 
 -- "Ids and results stay equal to the scan's": a scan of the words that an accepted call leaves finds the word of each of its n axes at its id.
@@ -451,14 +466,20 @@ module _ {o oₑ oₗ : Options} {j earlier later : Job} {s sₑ sₗ t tₑ t�
   -- "the two results' operations written one behind the other must be the whole's in every field, words compared in place of ids".
   -- Rules out: a rotation merged into one before the measurement; an exchange of groups from both sides of it
   pub cut_results : worded_in j t ≡ worded_in earlier tₑ ++ worded_in later tₗ
-  cut_results = (calls_add_up x y z same alike one cut).operations
+  cut_results =
+      (parts_add_up x y z (but_limit same same.others.second_first) (but_limit alike alike.others.second_first)
+      (merges_only o one.absorption one.strategy) one.rounds cut cut.measures).operations
 
   -- "the parts' swaps add up to the whole's": always.
   -- Rules out: the swaps of the last segment only; 1 for however many swaps
   pub cut_swaps : c.swaps ≡ cₑ.swaps + cₗ.swaps
-  cut_swaps = (calls_add_up x y z same alike one cut).swaps
+  cut_swaps =
+      (parts_add_up x y z (but_limit same same.others.second_first) (but_limit alike alike.others.second_first)
+      (merges_only o one.absorption one.strategy) one.rounds cut cut.measures).swaps
 
   -- and so do their merges.
   -- Rules out: a merge counted for an equal axis before the measurement; the merges of the first segment only
   pub cut_merges : c.merges ≡ cₑ.merges + cₗ.merges
-  cut_merges = (calls_add_up x y z same alike one cut).merges
+  cut_merges =
+      (parts_add_up x y z (but_limit same same.others.second_first) (but_limit alike alike.others.second_first)
+      (merges_only o one.absorption one.strategy) one.rounds cut cut.measures).merges
