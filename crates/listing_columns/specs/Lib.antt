@@ -1,5 +1,4 @@
 pub mod Columns
 pub mod Back
 pub mod Digits
-pub mod Texts
 pub mod Example

@@ -3,6 +3,7 @@ use Rattle.std.specs.Prelude.{◌≡◌, Bool, true, false, List, [], ◌∷◌,
 use Rattle.std.proofs.Math.Path.{refl, ap, ap₂}
 use Rattle.std.proofs.Common.{sym, ◌∙◌, subst, inl, arith}
 use Rattle.std.proofs.Math.Option.{Option, none, some}
+use Rattle.std.proofs.Math.ListN.{take}
 use Rattle.pauli.specs.Word.{width}
 use Rattle.model.specs.declared.Answer.{Answer}
 use Rattle.model.specs.declared.Answer.TheVariants.{Accepted}
@@ -18,13 +19,13 @@ use Rattle.result_effect.specs.Listing.{listed_first, listed_rest, listed_text}
 use Rattle.theory.specs.Called.{answer_is}
 use Rattle.listing_columns.specs.Back.{lines_back, first_back, rest_back}
 use Rattle.listing_columns.specs.Digits.{InColumn}
-use Rattle.listing_columns.specs.Texts.{lines_back_lem}
+use Rattle.listing_columns.proofs.Texts.{lines_back_lem}
 use Rattle.listing_call.specs.Call.{ListingCalled, most_bytes, printed_lines, printed_text}
 use Rattle.listing_call.specs.Reads.{read_small}
 use Rattle.listing_call.specs.Replies.{bad_text, refused_lines}
 use Rattle.listing_promises.specs.Fields.{listed_in, refusal_in}
 use Rattle.listing_promises.specs.Alike.{not_short}
-use Rattle.listing_promises.specs.Calls.{printed, unread_by, called_by, bytes_by, listing_printed, listing_answered}
+use Rattle.listing_promises.specs.Calls.{unread_by, called_by, bytes_by, listing_printed, listing_answered}
 
 -- ---- the records of a printed text
 
@@ -55,11 +56,11 @@ module _ {text out : List ℕ} {s : Lent} {size : ℕ} {out' : List ℕ} {s' : L
   inside : Every (Every InColumn) (listed_first t listed_accepted ∷ listed_rest t listed_accepted)
   inside = listed_in t (read_small text t reads) listed_accepted
 
-  bytes_are : printed size out' ≡ text_of (listed_first t listed_accepted ∷ listed_rest t listed_accepted)
+  bytes_are : take size out' ≡ text_of (listed_first t listed_accepted ∷ listed_rest t listed_accepted)
   bytes_are = listing_printed call (not_short (inl refl)) ∙ listed_text t listed_accepted text reads
 
   -- the lines read back are those of its run's end
-  pub lines_listed : lines_back (printed size out') ≡ listed_first t listed_accepted ∷ listed_rest t listed_accepted
+  pub lines_listed : lines_back (take size out') ≡ listed_first t listed_accepted ∷ listed_rest t listed_accepted
   lines_listed = ap lines_back bytes_are ∙ lines_back_lem _ inside
 
 -- ---- every call that prints
@@ -77,7 +78,7 @@ refusal_lines_lem a h e = record { lines = refusal_lines a; text = e; inside = r
 module _ {text out : List ℕ} {s : Lent} {a : Answer} {size : ℕ} {out' : List ℕ} {s' : Lent} (call : ListingCalled text out s a size out' s')
     (room : most_bytes ≤ length out) where
   -- 1 to 11: "its number and seven zeros", and one more for M-103's field
-  pub refusal_by : accepts a ≡ false → printed size out' ≡ text_of (refusal_lines a)
+  pub refusal_by : accepts a ≡ false → take size out' ≡ text_of (refusal_lines a)
   unfolding printed_text
   refusal_by n = bytes_by call room ∙ go (read text) refl
     where
@@ -90,10 +91,10 @@ module _ {text out : List ℕ} {s : Lent} {a : Answer} {size : ℕ} {out' : List
           ap (λ (x : Option Read). text_of (printed_lines x a)) e
           ∙ ap text_of (ap (printed_lines (some t)) (sym same) ∙ refused_lines t s (ap accepts same ∙ n) ∙ ap refusal_lines same)
 
-  accepted_by : a ≡ Accepted → Lines a (printed size out')
+  accepted_by : a ≡ Accepted → Lines a (take size out')
   accepted_by y = go (read text) refl
     where
-      go : (x : Option Read) → read text ≡ x → Lines a (printed size out')
+      go : (x : Option Read) → read text ≡ x → Lines a (take size out')
       go none e = absurd (let f = (unread_by call room e).0 in let z : ◌≡◌ {A = ℕ} 0 1 = cc in omega arith)
       go (some t) e =
           let c = subst (λ (b : Answer). ListingCalled text out s b size out' s') y call in
@@ -104,9 +105,9 @@ module _ {text out : List ℕ} {s : Lent} {a : Answer} {size : ℕ} {out' : List
             begins = unfold first_line in (ap number_of (sym y));
           }
 
-  pub lines_by : number_of a ≤ 11 → Lines a (printed size out')
+  pub lines_by : number_of a ≤ 11 → Lines a (take size out')
   lines_by low = go (accepts a) refl
     where
-      go : (b : Bool) → accepts a ≡ b → Lines a (printed size out')
+      go : (b : Bool) → accepts a ≡ b → Lines a (take size out')
       go true e = accepted_by (accepts_only a e)
       go false e = refusal_lines_lem a low (refusal_by e)

@@ -70,7 +70,7 @@ module _ {text out : List ℕ} {s : Lent} {a : Answer} {size : ℕ} {out' : List
     output_by = ap (λ (c : ListingReply). c.output) with_room ∙ ap (put out 0) text_by
 
     -- the bytes printed
-    pub bytes_by : printed size out' ≡ printed_text (read text) a
+    pub bytes_by : take size out' ≡ printed_text (read text) a
     unfolding put
     bytes_by =
         let t = printed_text (read text) a in
@@ -104,7 +104,7 @@ module _ {text out : List ℕ} {s : Lent} {a : Answer} {size : ℕ} {out' : List
 
   module _ (taken : a ≡ SliceShort → ⊥) where
     -- it prints what the model's listing prints
-    pub listing_printed : printed size out' ≡ listing text
+    pub listing_printed : take size out' ≡ listing text
     unfolding listing printed_text
     listing_printed = bytes_by (room_of taken) ∙ ap text_of (other_lines (read text) a taken)
 

@@ -2,7 +2,7 @@
 -- text, the output slice out and the slices s lent the code answered a, printed the first `size` bytes of the output, and left the output
 -- out' and the slices s'; this equation is in the contract of `listing::listing`, for all arguments. What is said of a result is read back
 -- from the bytes printed (listing_columns, Back; Back here). Under each promise stand two wrong programs that it rules out. Assumes nothing.
-use Rattle.std.specs.Prelude.{◌≡◌, refl, ◌⊎◌, ◌↔◌, Bool, true, false, ℕ, ◌-◌, ◌≤◌, ◌<◌, length, drop}
+use Rattle.std.specs.Prelude.{◌≡◌, refl, ◌⊎◌, ◌↔◌, Bool, true, false, ℕ, ◌-◌, ◌≤◌, ◌<◌, length, take, drop}
 use Rattle.std.proofs.Math.Path.{sym, ap}
 use Rattle.std.proofs.Common.{◌∙◌, subst, inl, inr, arith}
 use Rattle.std.proofs.Math.Option.{Option, none, some}
@@ -33,7 +33,7 @@ use Rattle.promises.specs.Calls.{of_low}
 use Rattle.promises.specs.Promises as rewriting_promises
 use Rattle.promises.specs.Promises.{Cleared, AcceptanceLeaves, t_count_handed}
 use Rattle.listing_columns.specs.Back.{text_back, lines_back, first_back}
-use Rattle.listing_columns.specs.Texts.{text_back_lem, lines_back_lem}
+use Rattle.listing_columns.proofs.Texts.{text_back_lem, lines_back_lem}
 use Rattle.listing_call.specs.Call.{ListingCalled, most_bytes, printed_text, no_room_reply, ListingReply}
 use Rattle.listing_call.specs.Reads.{read_small}
 use Rattle.listing_call.specs.Replies.{printed_size}
@@ -157,6 +157,10 @@ module _ {text out : List ℕ} {s : Lent} {a : Answer} {size : ℕ} {out' : List
       (λ r e. absurd (omega (arith, ap number_of (unread_by call r e).0)))
       (λ t r e. (rewriting_promises.refusals_9_and_10 (called_by call r t e) h k).0)
 
+  not_accepted : (a ≡ Accepted → ⊥) → (b : Bool) → accepts a ≡ b → accepts a ≡ false
+  not_accepted n true e = absurd (n (accepts_only a e))
+  not_accepted n false e = e
+
   -- nothing is written outside the text and the four slices.
   -- Rules out: a last line that runs over the output's end; the rest of the output filled with blanks
   pub written_inside : WrittenInside out s size out' s'
@@ -185,17 +189,14 @@ module _ {text out : List ℕ} {s : Lent} {a : Answer} {size : ℕ} {out' : List
   -- "A refusal prints its number and seven zeros", M-103's one more, where there is room for a listing: by 3 too.
   -- Rules out: nothing printed after 10; the counters of a run that was stopped
   pub refusal_printed : most_bytes ≤ length out → (a ≡ Accepted → ⊥) → printed size out' ≡ text_of (refusal_lines a)
-  refusal_printed h n = refusal_by call h (not_accepted (accepts a) refl)
-    where
-      not_accepted : (b : Bool) → accepts a ≡ b → accepts a ≡ false
-      not_accepted true e = absurd (n (accepts_only a e))
-      not_accepted false e = e
+  refusal_printed h n = refusal_by call h (not_accepted n (accepts a) refl)
 
   -- M-103: the ninth field is "0 .. on refusal".
   -- Rules out: the sum that was refused told by 10; the sums of packing told by 9
   pub no_words_told : most_bytes ≤ length out → (a ≡ Accepted → ⊥) → head_field (printed size out') 8 ≡ 0
   no_words_told h n =
-      rw (refusal_printed h n, lines_back_lem (refusal_lines a) (refusal_in a answers_0_to_11)) (unfold refusal_lines in refl)
+      rw (refusal_by call h (not_accepted n (accepts a) refl), lines_back_lem (refusal_lines a) (refusal_in a answers_0_to_11))
+      (unfold refusal_lines in refl)
 
 -- "acceptance leaves results, axis words and zeros": the program is the text's, the options Rust's defaults.
 -- Rules out: the text's own records left in the result slices; slots of packing left behind the axis words
@@ -235,6 +236,16 @@ module _ {text out : List ℕ} {s : Lent} {size : ℕ} {out' : List ℕ} {s' : L
   yes' : listing_answer (some t) ≡ Accepted
   yes' = listed_accepted call t reads
 
+  -- the first line is that of its run's end
+  first_listed : first_back (take size out')
+      ≡ first_line (counters_of (rules_of (options_of t)) (program_of t.job) (finish_of (rules_of (options_of t)) 8 (program_of t.job)))
+      (end_work (options_of t) t.job)
+  first_listed = rw (lines_listed call t reads) refl
+
+  -- and so are the operations' lines
+  operations_listed : operations_printed (take size out') ≡ map result_line (operation_results (program_of t.job) (end_work (options_of t) t.job))
+  operations_listed = rw (lines_listed call t reads) (operations_are t yes')
+
   -- "Each pass gives exactly what 01's rules give": the first line, operations, rows and axes read back from the bytes are those of 01's run,
   -- with Rust's defaults, at its end.
   -- Rules out: the program printed as it was read; merge counters made up
@@ -242,8 +253,8 @@ module _ {text out : List ℕ} {s : Lent} {size : ℕ} {out' : List ℕ} {s' : L
   results_printed =
       let e = lines_listed call t reads in
       record {
-        first = rw e refl;
-        operations = rw e (operations_are t yes');
+        first = first_listed;
+        operations = operations_listed;
         rows = rw e (rows_are t yes');
         axes = rw e (listed_axes_lem t yes');
       }
@@ -268,18 +279,31 @@ module _ {text out : List ℕ} {s : Lent} {size : ℕ} {out' : List ℕ} {s' : L
   pub t_counts_told : (head_field (printed size out') 1 ≡ t_count_handed t.job)
       × (head_field (printed size out') 2 ≡ result_t_count (operations_printed (printed size out')))
   t_counts_told =
-      let shows = results_printed call t reads in
+      let first = first_listed call t reads in
       let yes' = listed_accepted call t reads in
+      let operations = operations_listed call t reads in
       unfold first_line counters_of in (
-        ap (λ (f : List ℕ). field_of f 1) shows.first,
-        ap (λ (f : List ℕ). field_of f 2) shows.first ∙ sym (ap result_t_count shows.operations ∙ listed_t t (read_small text t reads) yes'),
+        ap (λ (f : List ℕ). field_of f 1) first,
+        ap (λ (f : List ℕ). field_of f 2) first ∙ sym (ap result_t_count operations ∙ listed_t t (read_small text t reads) yes'),
       )
 
   -- "neither exceeds the source's": T after is no more than T before, both as they are printed.
   -- Rules out: an even rotation printed as two odd ones; both T-counts printed in the other's column
   pub never_above_source : head_field (printed size out') 2 ≤ head_field (printed size out') 1
   never_above_source =
-      rw (results_printed call t reads).first (unfold first_line in (no_more_listed t (listed_accepted call t reads)).no_more)
+      rw (first_listed call t reads) (unfold first_line in (no_more_listed t (listed_accepted call t reads)).no_more)
+
+  -- the ninth field is the run's largest sum
+  peak_listed : head_field (take size out') 8 ≡ (listed_run t).peak
+  unfolding first_line counters_of
+  peak_listed =
+      ap (λ (f : List ℕ). field_of f 8) (first_listed call t reads)
+      ∙ sym (hermitian_peak (rules_of (options_of t)) 8 (program_of t.job) (listed_hermitian t (listed_accepted call t reads)))
+
+  -- which is within the text's limit
+  peak_within : head_field (take size out') 8 ≤ t.limit
+  unfolding first_line counters_of
+  peak_within = rw (first_listed call t reads) (within_limit t (read_small text t reads) (listed_accepted call t reads))
 
   -- M-103: "the listing's first line gets it as a ninth field": the run's `packed_words`, the largest sum that 01's run tests without a limit.
   -- Rules out: the words of the axes that came out; the text's limit
@@ -288,16 +312,15 @@ module _ {text out : List ℕ} {s : Lent} {size : ℕ} {out' : List ℕ} {s' : L
   unfolding first_line counters_of
   words_told =
       let called = called_by call (room_of call (not_short (inl refl))) t reads in
-      let first = ap (λ (f : List ℕ). field_of f 8) (results_printed call t reads).first in (
+      let first = ap (λ (f : List ℕ). field_of f 8) (first_listed call t reads) in (
         first ∙ sym (ap (λ (c : Counters). c.packed_words) (rewriting_promises.counters_of_run called)),
-        first ∙ sym (hermitian_peak (rules_of (options_of t)) 8 (program_of t.job) (listed_hermitian t (listed_accepted call t reads))),
+        peak_listed,
       )
 
   -- and it is within the text's limit.
   -- Rules out: the work stores' length; the sums of several passes added up
   pub words_within : head_field (printed size out') 8 ≤ t.limit
-  unfolding first_line counters_of
-  words_within = rw (results_printed call t reads).first (within_limit t (read_small text t reads) (listed_accepted call t reads))
+  words_within = peak_within
 
 -- "an accepted or non-Hermitian run gets the same answer at every larger limit", and prints the same: a text that is read has a limit of at
 -- most 256, and 3 does not refuse the stores.
@@ -311,11 +334,30 @@ larger_limit_same_answer {text} {text'} {t = t} {t' = t'} x y alike e h n = (
   (rewriting_promises.larger_limit_same_answer (called_by x (room_of x (not_short e)) t alike.reads)
       (called_by y (room_of y n) t' alike.reads') (alike_options alike) e h
       (omega (arith, read_limit text' t' alike.reads')) n).0,
-  prints_the_listing y n
+  listing_printed y n
       ∙ same_text_at_larger_limit text text' t t' alike.reads alike.reads' alike.job h
       (subst ZeroOrNine (answers_the_listing x (not_short e) ∙ ap listing_answer alike.reads) e)
-      ∙ sym (prints_the_listing x (not_short e)),
+      ∙ sym (listing_printed x (not_short e)),
 )
+
+-- of two accepted texts alike but for the limit 01's listings are the same
+same_listing : {text text' : List ℕ} {t t' : Read} → AlikeTexts text text' t t' → listing_answer (some t) ≡ Accepted
+    → listing_answer (some t') ≡ Accepted → listing text' ≡ listing text
+same_listing {text} {text'} {t} {t'} alike e e' = go (dec_lt t'.limit t.limit)
+  where
+    go : Dec (t'.limit < t.limit) → listing text' ≡ listing text
+    go (yes h) = let b = alike_back alike in sym (same_text_at_larger_limit text' text t' t b.reads b.reads' b.job (omega arith) (inl e'))
+    go (no h) = same_text_at_larger_limit text text' t t' alike.reads alike.reads' alike.job (omega arith) (inl e)
+
+-- and so are the first `size` bytes of the outputs
+same_bytes : {text text' out₁ out₂ : List ℕ} {s₁ s₂ : Lent} {size₁ size₂ : ℕ} {left₁ left₂ : List ℕ}
+    {s₁' s₂' : Lent} {t t' : Read} → ListingCalled text out₁ s₁ Accepted size₁ left₁ s₁'
+    → ListingCalled text' out₂ s₂ Accepted size₂ left₂ s₂' → AlikeTexts text text' t t'
+    → take size₂ left₂ ≡ take size₁ left₁
+same_bytes {t = t} {t' = t'} x y alike =
+    listing_printed y (not_short (inl refl))
+    ∙ same_listing alike (listed_accepted x t alike.reads) (listed_accepted y t' alike.reads')
+    ∙ sym (listing_printed x (not_short (inl refl)))
 
 -- "equal rounds give equal results and counters": two accepted listings alike but for the limit print the same bytes, whatever was lent.
 -- Rules out: axes' ids that depend on the limit; a listing that shows what the output held before
@@ -323,12 +365,7 @@ pub equal_bytes : {text text' out₁ out₂ : List ℕ} {s₁ s₂ : Lent} {size
     {s₁' s₂' : Lent} {t t' : Read} → ListingCalled text out₁ s₁ Accepted size₁ left₁ s₁'
     → ListingCalled text' out₂ s₂ Accepted size₂ left₂ s₂' → AlikeTexts text text' t t'
     → printed size₂ left₂ ≡ printed size₁ left₁
-equal_bytes {size₁ = size₁} {size₂ = size₂} {left₁ = left₁} {left₂ = left₂} {t = t} {t' = t'} x y alike =
-    go (dec_lt t'.limit t.limit)
-  where
-    go : Dec (t'.limit < t.limit) → printed size₂ left₂ ≡ printed size₁ left₁
-    go (yes h) = sym (larger_limit_same_answer y x (alike_back alike) (inl refl) (omega arith) (not_short (inl refl))).1
-    go (no h) = (larger_limit_same_answer x y alike (inl refl) (omega arith) (not_short (inl refl))).1
+equal_bytes x y alike = same_bytes x y alike
 
 -- M-103: "accepted exactly if the limit is no smaller than that sum": an accepted listing tells at which limits a text alike but for the limit
 -- is accepted.
@@ -343,10 +380,10 @@ accepted_from_words_on {text} {text'} {out₂ = out₂} {s₂ = s₂} {a' = a'} 
     there : a' ≡ Accepted → head_field (printed size₁ left₁) 8 ≤ t'.limit
     there e =
         let y' = subst (λ (b : Answer). ListingCalled text' out₂ s₂ b size₂ left₂ s₂') e y in
-        omega (arith, words_within y' t' alike.reads', ap (λ (b : List ℕ). head_field b 8) (equal_bytes x y' alike))
+        omega (arith, peak_within y' t' alike.reads', ap (λ (b : List ℕ). head_field b 8) (same_bytes x y' alike))
 
     back : head_field (printed size₁ left₁) 8 ≤ t'.limit → a' ≡ Accepted
     back h =
         answers_the_listing y n ∙ ap listing_answer alike.reads'
         ∙ accepted_from_peak_on text text' t t' alike.reads alike.reads' alike.job (listed_accepted x t alike.reads)
-        (omega (arith, (words_told x t alike.reads).1))
+        (omega (arith, peak_listed x t alike.reads))
