@@ -25,7 +25,7 @@ use Rattle.listing_call.specs.Reads.{read_small}
 use Rattle.listing_call.specs.Replies.{bad_text, refused_lines}
 use Rattle.listing_promises.specs.Fields.{listed_in, refusal_in}
 use Rattle.listing_promises.specs.Alike.{not_short}
-use Rattle.listing_promises.specs.Calls.{unread_by, called_by, bytes_by, listing_printed, listing_answered}
+use Rattle.listing_promises.specs.Calls.{printed, unread_by, called_by, bytes_taken, listing_taken, listing_answered}
 
 -- ---- the records of a printed text
 
@@ -56,12 +56,18 @@ module _ {text out : List ℕ} {s : Lent} {size : ℕ} {out' : List ℕ} {s' : L
   inside : Every (Every InColumn) (listed_first t listed_accepted ∷ listed_rest t listed_accepted)
   inside = listed_in t (read_small text t reads) listed_accepted
 
-  bytes_are : take size out' ≡ text_of (listed_first t listed_accepted ∷ listed_rest t listed_accepted)
-  bytes_are = listing_printed call (not_short (inl refl)) ∙ listed_text t listed_accepted text reads
+  bytes_written : take size out' ≡ text_of (listed_first t listed_accepted ∷ listed_rest t listed_accepted)
+  bytes_written = listing_taken call (not_short (inl refl)) ∙ listed_text t listed_accepted text reads
+
+  bytes_are : printed size out' ≡ text_of (listed_first t listed_accepted ∷ listed_rest t listed_accepted)
+  bytes_are = bytes_written
 
   -- the lines read back are those of its run's end
-  pub lines_listed : lines_back (take size out') ≡ listed_first t listed_accepted ∷ listed_rest t listed_accepted
-  lines_listed = ap lines_back bytes_are ∙ lines_back_lem _ inside
+  pub lines_taken : lines_back (take size out') ≡ listed_first t listed_accepted ∷ listed_rest t listed_accepted
+  lines_taken = ap lines_back bytes_written ∙ lines_back_lem _ inside
+
+  pub lines_listed : lines_back (printed size out') ≡ listed_first t listed_accepted ∷ listed_rest t listed_accepted
+  lines_listed = lines_taken
 
 -- ---- every call that prints
 
@@ -78,9 +84,9 @@ refusal_lines_lem a h e = record { lines = refusal_lines a; text = e; inside = r
 module _ {text out : List ℕ} {s : Lent} {a : Answer} {size : ℕ} {out' : List ℕ} {s' : Lent} (call : ListingCalled text out s a size out' s')
     (room : most_bytes ≤ length out) where
   -- 1 to 11: "its number and seven zeros", and one more for M-103's field
-  pub refusal_by : accepts a ≡ false → take size out' ≡ text_of (refusal_lines a)
+  pub refusal_taken : accepts a ≡ false → take size out' ≡ text_of (refusal_lines a)
   unfolding printed_text
-  refusal_by n = bytes_by call room ∙ go (read text) refl
+  refusal_taken n = bytes_taken call room ∙ go (read text) refl
     where
       go : (x : Option Read) → read text ≡ x → text_of (printed_lines (read text) a) ≡ text_of (refusal_lines a)
       go none e =
@@ -91,8 +97,11 @@ module _ {text out : List ℕ} {s : Lent} {a : Answer} {size : ℕ} {out' : List
           ap (λ (x : Option Read). text_of (printed_lines x a)) e
           ∙ ap text_of (ap (printed_lines (some t)) (sym same) ∙ refused_lines t s (ap accepts same ∙ n) ∙ ap refusal_lines same)
 
-  accepted_by : a ≡ Accepted → Lines a (take size out')
-  accepted_by y = go (read text) refl
+  pub refusal_by : accepts a ≡ false → printed size out' ≡ text_of (refusal_lines a)
+  refusal_by = refusal_taken
+
+  accepted_taken : a ≡ Accepted → Lines a (take size out')
+  accepted_taken y = go (read text) refl
     where
       go : (x : Option Read) → read text ≡ x → Lines a (take size out')
       go none e = absurd (let f = (unread_by call room e).0 in let z : ◌≡◌ {A = ℕ} 0 1 = cc in omega arith)
@@ -100,14 +109,20 @@ module _ {text out : List ℕ} {s : Lent} {a : Answer} {size : ℕ} {out' : List
           let c = subst (λ (b : Answer). ListingCalled text out s b size out' s') y call in
           record {
             lines = _;
-            text = bytes_are c t e;
+            text = bytes_written c t e;
             inside = inside c t e;
             begins = unfold first_line in (ap number_of (sym y));
           }
 
-  pub lines_by : number_of a ≤ 11 → Lines a (take size out')
-  lines_by low = go (accepts a) refl
+  accepted_by : a ≡ Accepted → Lines a (printed size out')
+  accepted_by = accepted_taken
+
+  pub lines_by_taken : number_of a ≤ 11 → Lines a (take size out')
+  lines_by_taken low = go (accepts a) refl
     where
       go : (b : Bool) → accepts a ≡ b → Lines a (take size out')
-      go true e = accepted_by (accepts_only a e)
-      go false e = refusal_lines_lem a low (refusal_by e)
+      go true e = accepted_taken (accepts_only a e)
+      go false e = refusal_lines_lem a low (refusal_taken e)
+
+  pub lines_by : number_of a ≤ 11 → Lines a (printed size out')
+  lines_by = lines_by_taken

@@ -70,11 +70,14 @@ module _ {text out : List ℕ} {s : Lent} {a : Answer} {size : ℕ} {out' : List
     output_by = ap (λ (c : ListingReply). c.output) with_room ∙ ap (put out 0) text_by
 
     -- the bytes printed
-    pub bytes_by : take size out' ≡ printed_text (read text) a
+    pub bytes_taken : take size out' ≡ printed_text (read text) a
     unfolding put
-    bytes_by =
+    bytes_taken =
         let t = printed_text (read text) a in
         ap₂ (λ (n : ℕ) (x : List ℕ). take n x) size_by output_by ∙ take-append_seam t (drop (0 + length t) out)
+
+    pub bytes_by : printed size out' ≡ printed_text (read text) a
+    bytes_by = bytes_taken
 
     -- the bytes behind them
     pub behind_by : drop size out' ≡ drop size out
@@ -104,9 +107,12 @@ module _ {text out : List ℕ} {s : Lent} {a : Answer} {size : ℕ} {out' : List
 
   module _ (taken : a ≡ SliceShort → ⊥) where
     -- it prints what the model's listing prints
-    pub listing_printed : take size out' ≡ listing text
+    pub listing_taken : take size out' ≡ listing text
     unfolding listing printed_text
-    listing_printed = bytes_by (room_of taken) ∙ ap text_of (other_lines (read text) a taken)
+    listing_taken = bytes_taken (room_of taken) ∙ ap text_of (other_lines (read text) a taken)
+
+    pub listing_printed : printed size out' ≡ listing text
+    listing_printed = listing_taken
 
     -- and answers what it answers
     pub listing_answered : a ≡ listing_answer (read text)

@@ -41,10 +41,10 @@ use Rattle.listing_call.specs.Rooms.{call_fits}
 use Rattle.listing_call.specs.Size.{within_limit}
 use Rattle.listing_promises.specs.Fields.{listed_t, refusal_in}
 use Rattle.listing_promises.specs.Calls.{printed, CalledOn, without_room, room_of, unread_by, called_by, behind_by}
-use Rattle.listing_promises.specs.Calls.{output_by, listing_printed, listing_answered}
+use Rattle.listing_promises.specs.Calls.{output_by, listing_taken, listing_answered}
 use Rattle.listing_promises.specs.Alike.{AlikeTexts, alike_options, alike_back, ZeroOrNine, not_short}
-use Rattle.listing_promises.specs.Back.{head_field, operations_printed, rows_printed, axes_printed, listed_accepted, lines_listed}
-use Rattle.listing_promises.specs.Back.{refusal_by, lines_by}
+use Rattle.listing_promises.specs.Back.{head_field, operations_printed, rows_printed, axes_printed, listed_accepted, lines_taken}
+use Rattle.listing_promises.specs.Back.{refusal_taken, lines_by_taken}
 
 -- ==== what the sentences speak of
 
@@ -189,13 +189,13 @@ module _ {text out : List ℕ} {s : Lent} {a : Answer} {size : ℕ} {out' : List
   -- "A refusal prints its number and seven zeros", M-103's one more, where there is room for a listing: by 3 too.
   -- Rules out: nothing printed after 10; the counters of a run that was stopped
   pub refusal_printed : most_bytes ≤ length out → (a ≡ Accepted → ⊥) → printed size out' ≡ text_of (refusal_lines a)
-  refusal_printed h n = refusal_by call h (not_accepted n (accepts a) refl)
+  refusal_printed h n = refusal_taken call h (not_accepted n (accepts a) refl)
 
   -- M-103: the ninth field is "0 .. on refusal".
   -- Rules out: the sum that was refused told by 10; the sums of packing told by 9
   pub no_words_told : most_bytes ≤ length out → (a ≡ Accepted → ⊥) → head_field (printed size out') 8 ≡ 0
   no_words_told h n =
-      rw (refusal_by call h (not_accepted n (accepts a) refl), lines_back_lem (refusal_lines a) (refusal_in a answers_0_to_11))
+      rw (refusal_taken call h (not_accepted n (accepts a) refl), lines_back_lem (refusal_lines a) (refusal_in a answers_0_to_11))
       (unfold refusal_lines in refl)
 
 -- "acceptance leaves results, axis words and zeros": the program is the text's, the options Rust's defaults.
@@ -210,7 +210,7 @@ module _ {text out : List ℕ} {s : Lent} {a : Answer} {size : ℕ} {out' : List
   -- where 3 does not refuse, the bytes printed are 01's listing of the text, byte by byte.
   -- Rules out: one constant listing; a field that is left-justified
   pub prints_the_listing : (a ≡ SliceShort → ⊥) → printed size out' ≡ listing text
-  prints_the_listing n = listing_printed call n
+  prints_the_listing n = listing_taken call n
 
   -- and the answer is 01's.
   -- Rules out: 11 for all texts; 0 with a refusal's line
@@ -221,14 +221,14 @@ module _ {text out : List ℕ} {s : Lent} {a : Answer} {size : ℕ} {out' : List
   -- Rules out: a number whose ninth digit is dropped; a last line without its newline
   pub readable : most_bytes ≤ length out → text_back (printed size out') ≡ some (lines_back (printed size out'))
   readable h =
-      let l = lines_by call h (answers_0_to_11 call) in
+      let l = lines_by_taken call h (answers_0_to_11 call) in
       rw l.text (text_back_lem l.lines l.inside ∙ ap some (sym (lines_back_lem l.lines l.inside)))
 
   -- its first field is the answer's number.
   -- Rules out: 0 printed before the run is stopped; 10 printed for answer 9
   pub answer_printed : most_bytes ≤ length out → head_field (printed size out') 0 ≡ number_of a
   answer_printed h =
-      let l = lines_by call h (answers_0_to_11 call) in
+      let l = lines_by_taken call h (answers_0_to_11 call) in
       rw (l.text, lines_back_lem l.lines l.inside) l.begins
 
 module _ {text out : List ℕ} {s : Lent} {size : ℕ} {out' : List ℕ} {s' : Lent} (call : ListingCalled text out s Accepted size out' s')
@@ -240,18 +240,18 @@ module _ {text out : List ℕ} {s : Lent} {size : ℕ} {out' : List ℕ} {s' : L
   first_listed : first_back (take size out')
       ≡ first_line (counters_of (rules_of (options_of t)) (program_of t.job) (finish_of (rules_of (options_of t)) 8 (program_of t.job)))
       (end_work (options_of t) t.job)
-  first_listed = rw (lines_listed call t reads) refl
+  first_listed = rw (lines_taken call t reads) refl
 
   -- and so are the operations' lines
   operations_listed : operations_printed (take size out') ≡ map result_line (operation_results (program_of t.job) (end_work (options_of t) t.job))
-  operations_listed = rw (lines_listed call t reads) (operations_are t yes')
+  operations_listed = rw (lines_taken call t reads) (operations_are t yes')
 
   -- "Each pass gives exactly what 01's rules give": the first line, operations, rows and axes read back from the bytes are those of 01's run,
   -- with Rust's defaults, at its end.
   -- Rules out: the program printed as it was read; merge counters made up
   pub results_printed : Shows t (printed size out')
   results_printed =
-      let e = lines_listed call t reads in
+      let e = lines_taken call t reads in
       record {
         first = first_listed;
         operations = operations_listed;
@@ -268,7 +268,7 @@ module _ {text out : List ℕ} {s : Lent} {size : ℕ} {out' : List ℕ} {s' : L
       (result_effect (program_of t.job) (axes_printed (program_of t.job).qubits (printed size out')) (operations_printed (printed size out'))
       (rows_printed (program_of t.job).qubits (printed size out')) outcomes ns)
       ≡ source_effect (program_of t.job) outcomes ns
-  effect_kept outcomes ns = rw (lines_listed call t reads) (listing_keeps_effect t yes' outcomes ns)
+  effect_kept outcomes ns = rw (lines_taken call t reads) (listing_keeps_effect t yes' outcomes ns)
 
 -- ==== Demand 3. Never worse: "A Listing's results and counters are what it prints"
 
@@ -334,10 +334,10 @@ larger_limit_same_answer {text} {text'} {t = t} {t' = t'} x y alike e h n = (
   (rewriting_promises.larger_limit_same_answer (called_by x (room_of x (not_short e)) t alike.reads)
       (called_by y (room_of y n) t' alike.reads') (alike_options alike) e h
       (omega (arith, read_limit text' t' alike.reads')) n).0,
-  listing_printed y n
+  listing_taken y n
       ∙ same_text_at_larger_limit text text' t t' alike.reads alike.reads' alike.job h
       (subst ZeroOrNine (answers_the_listing x (not_short e) ∙ ap listing_answer alike.reads) e)
-      ∙ sym (listing_printed x (not_short e)),
+      ∙ sym (listing_taken x (not_short e)),
 )
 
 -- of two accepted texts alike but for the limit 01's listings are the same
@@ -355,9 +355,9 @@ same_bytes : {text text' out₁ out₂ : List ℕ} {s₁ s₂ : Lent} {size₁ s
     → ListingCalled text' out₂ s₂ Accepted size₂ left₂ s₂' → AlikeTexts text text' t t'
     → take size₂ left₂ ≡ take size₁ left₁
 same_bytes {t = t} {t' = t'} x y alike =
-    listing_printed y (not_short (inl refl))
+    listing_taken y (not_short (inl refl))
     ∙ same_listing alike (listed_accepted x t alike.reads) (listed_accepted y t' alike.reads')
-    ∙ sym (listing_printed x (not_short (inl refl)))
+    ∙ sym (listing_taken x (not_short (inl refl)))
 
 -- "equal rounds give equal results and counters": two accepted listings alike but for the limit print the same bytes, whatever was lent.
 -- Rules out: axes' ids that depend on the limit; a listing that shows what the output held before

@@ -149,10 +149,10 @@ pub record ShortRefused (o : Options) (j : Job) (s : Lent) : Type 0 where
   pub short : program_short j || lent_short j.counts s o.max_packed_words ≡ true
 
 -- its three fields, of which an edit refutes one
-pub three_where : (o : Options) (j : Job) (s : Lent) → number_of (checking o j s) ≡ 3
+pub three_parts : (o : Options) (j : Job) (s : Lent) → number_of (checking o j s) ≡ 3
     → (bad_count j.counts ≡ false) × (bad_option o ≡ false) × (program_short j || lent_short j.counts s o.max_packed_words ≡ true)
 unfolding checking bad_option
-three_where o j s =
+three_parts o j s =
     on_if P (bad_count j.counts) CountOutside _ (λ e h. absurd (omega (arith, h)))
     (λ a. on_if P (bad_option o) OptionOutside _ (λ e h. absurd (omega (arith, h)))
     (λ b. on_if P (program_short j || lent_short j.counts s o.max_packed_words) SliceShort _
@@ -163,10 +163,16 @@ three_where o j s =
     P a = number_of a ≡ 3
         → (bad_count j.counts ≡ false) × (bad_option o ≡ false) × (program_short j || lent_short j.counts s o.max_packed_words ≡ true)
 
-pub short_where : (o : Options) (j : Job) (s : Lent) → bad_count j.counts ≡ false → bad_option o ≡ false
+pub short_from : (o : Options) (j : Job) (s : Lent) → bad_count j.counts ≡ false → bad_option o ≡ false
     → program_short j || lent_short j.counts s o.max_packed_words ≡ true → checking o j s ≡ SliceShort
 unfolding checking
-short_where o j s counts options short = if_false _ _ counts ∙ if_false _ _ options ∙ if_true _ _ short
+short_from o j s counts options short = if_false _ _ counts ∙ if_false _ _ options ∙ if_true _ _ short
+
+pub three_where : (o : Options) (j : Job) (s : Lent) → number_of (checking o j s) ≡ 3 → ShortRefused o j s
+three_where o j s h = let p = three_parts o j s h in record { counts = p.0; options = p.1; short = p.2 }
+
+pub short_where : (o : Options) (j : Job) (s : Lent) → ShortRefused o j s → checking o j s ≡ SliceShort
+short_where o j s h = short_from o j s h.counts h.options h.short
 
 -- ---- 02, M-112: 16 comes from a named place alone, exactly where it is bad and all other checks pass
 

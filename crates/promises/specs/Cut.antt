@@ -27,7 +27,7 @@ use Rattle.cutting.proofs.CutRun.{run_cut}
 use Rattle.promises.specs.Calls.{passed_checking}
 use Rattle.promises.specs.Strategies.{end_work}
 use Rattle.promises.specs.Left.{operations_in, words_in, IdIn, operations_left, words_left, records_in}
-use Rattle.promises.specs.Alike.{SameOptionsButLimit, but_limit}
+use Rattle.promises.specs.Alike.{SameOptionsButLimit, but_limit_by}
 
 -- ---- what the sentences speak of
 
@@ -98,9 +98,12 @@ module _ {j earlier later : Job} (cut : CutAtMeasurement j earlier later) where
   abbrev rest : List Operation
   rest = map operation_of (operation_records later)
 
-  measured : field_of cut.measurement 0 ≡ 2 → last.kind ≡ measure
+  measured_by : field_of cut.measurement 0 ≡ 2 → last.kind ≡ measure
   unfolding operation_of
-  measured h = ap kind_of h
+  measured_by h = ap kind_of h
+
+  measured : last.kind ≡ measure
+  measured = measured_by cut.measures
 
   earlier_operations : map operation_of (operation_records earlier) ≡ first ++ (last ∷ [])
   earlier_operations = ap (map operation_of) cut.ends ∙ map-append operation_of cut.before (cut.measurement ∷ [])
@@ -123,9 +126,12 @@ module _ {j earlier later : Job} (cut : CutAtMeasurement j earlier later) where
 
 -- ---- the rules
 
-pub merges_only : (o : Options) → o.clifford_to_frame ≡ false → o.strategy ≡ Merge → MergesOnly (rules_of o)
+pub merges_only_by : (o : Options) → o.clifford_to_frame ≡ false → o.strategy ≡ Merge → MergesOnly (rules_of o)
 unfolding rules_of absorption_of when◌then◌else◌
-merges_only o h strategy = record { absorption = rw h refl; strategy = strategy }
+merges_only_by o h strategy = record { absorption = rw h refl; strategy = strategy }
+
+merges_only : (o : Options) → OneRound o → MergesOnly (rules_of o)
+merges_only o h = merges_only_by o h.absorption h.strategy
 
 -- ---- the three calls
 
@@ -145,7 +151,7 @@ module _ {o oₑ oₗ : Options} {j earlier later : Job} {s sₑ sₗ t tₑ t�
   ends : AddsUp r (program_of j) (program_of earlier) (program_of later)
   ends =
       rw (earlier_program cut, later_program cut, whole_program cut)
-      (run_cut r merges (program_of j) (first cut) (last cut) (measured cut measures) (rest cut)
+      (run_cut r merges (program_of j) (first cut) (last cut) (measured_by cut measures) (rest cut)
       (runs_as x (whole_program cut)) (runs_as y (earlier_program cut)) (runs_as z (later_program cut)))
 
   -- what the promises' conditions give, which edits refute, stands apart: no promise rests on another
@@ -168,8 +174,8 @@ module _ {o oₑ oₗ : Options} {j earlier later : Job} {s sₑ sₗ t tₑ t�
     (same : SameOptionsButLimit o oₑ) (alike : SameOptionsButLimit o oₗ) (one : OneRound o) (cut : CutAtMeasurement j earlier later) where
   pub calls_add_up : CallsAddUp j earlier later t tₑ tₗ c cₑ cₗ
   calls_add_up =
-      parts_add_up x y z (but_limit same same.others.second_first) (but_limit alike alike.others.second_first)
-      (merges_only o one.absorption one.strategy) one.rounds cut cut.measures
+      parts_add_up x y z (but_limit_by same same.others.second_first) (but_limit_by alike alike.others.second_first)
+      (merges_only_by o one.absorption one.strategy) one.rounds cut cut.measures
 
 -- ---- outcomes
 

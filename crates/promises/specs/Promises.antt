@@ -45,12 +45,12 @@ use Rattle.cutting.proofs.Outcomes.{names_none}
 use Rattle.promises.specs.Slices.{Agree, agree_then, agree_zeros}
 use Rattle.promises.specs.Calls.{Replied, by_checking, by_limit, by_root, done, called_of, passed_checking, nine_exactly}
 use Rattle.promises.specs.Calls.{number_low, number_checking, number_stopped, PlaceRefused, sixteen_where}
-use Rattle.promises.specs.Calls.{refused_where, ShortRefused, three_where, short_where}
+use Rattle.promises.specs.Calls.{refused_where, ShortRefused, three_parts, short_from}
 use Rattle.promises.specs.Named.{ChangesAt, stream_changes}
 use Rattle.promises.specs.Strategies.{end_work, merge_end, litinski_end, no_rounds_end}
 use Rattle.promises.specs.Left.{operations_in, rows_in, words_in, operations_left, ids_scanned, effect_left}
-use Rattle.promises.specs.Alike.{SameOptionsButLimit, AlikeButRoundsAndLimit, AlikeButLimit, alike_rules, but_limit, not_two}
-use Rattle.promises.specs.Cut.{OneRound, CutAtMeasurement, worded_in, merges_only, parts_add_up, operations_passed}
+use Rattle.promises.specs.Alike.{SameOptionsButLimit, AlikeButRoundsAndLimit, AlikeButLimit, rules_alike_by, but_limit_by, not_two}
+use Rattle.promises.specs.Cut.{OneRound, CutAtMeasurement, worded_in, merges_only_by, parts_add_up, operations_passed}
 
 -- ==== what the sentences speak of
 
@@ -252,7 +252,7 @@ module _ {o o' : Options} {j j' : Job} {s s' : Lent} {c c' : Counters} {m n m' n
       let e = t_counts_told x in
       let e' = t_counts_told y in
       let k : c'.t_after ≤ c.t_after = rw (← counters_are x, ← counters_are y)
-      (no_more_with_more_rounds o o' j j' s s' alike.job (alike_rules alike.options alike.options.second_first) h (answer_is x) (answer_is y)) in
+      (no_more_with_more_rounds o o' j j' s s' alike.job (rules_alike_by alike.options alike.options.second_first) h (answer_is x) (answer_is y)) in
       omega arith
 
   -- by one set of rules and as many rounds
@@ -276,7 +276,7 @@ module _ {o o' : Options} {j j' : Job} {s s' : Lent} {c c' : Counters} {m n m' n
   -- Rules out: an answer that depends on what the work stores held; ids that depend on the limit
   pub equal_rounds_equal_results : Called o j s Accepted c m n t → Called o' j' s' Accepted c' m' n' t' → AlikeButLimit o o' j j'
       → SameLeft t t' × (c' ≡ c)
-  equal_rounds_equal_results x y alike = equal_results x y alike.job (but_limit alike.options alike.options.others.second_first)
+  equal_rounds_equal_results x y alike = equal_results x y alike.job (but_limit_by alike.options alike.options.others.second_first)
 
   -- and as many operations and axes.
   -- Rules out: axes that a refused trial stored; operations counted up to the longest result slice
@@ -284,7 +284,7 @@ module _ {o o' : Options} {j j' : Job} {s s' : Lent} {c c' : Counters} {m n m' n
       → (m' ≡ m) × (n' ≡ n)
   equal_rounds_equal_numbers x y alike =
       let end : end_work o' j' ≡ end_work o j
-      = rw (alike_rules alike.options.others alike.options.others.second_first, alike.options.rounds, alike_program j j' alike.job) refl in (
+      = rw (rules_alike_by alike.options.others alike.options.others.second_first, alike.options.rounds, alike_program j j' alike.job) refl in (
         sym (operations_are y) ∙ accepted_operations o' j' s' (answer_is y) ∙ ap (λ (w : Work). length w.items) end
             ∙ sym (sym (operations_are x) ∙ accepted_operations o j s (answer_is x)),
         sym (axes_are y) ∙ accepted_axes o' j' s' (answer_is y) ∙ ap (λ (w : Work). length w.store.axes) end
@@ -302,7 +302,7 @@ module _ {o o' : Options} {j j' : Job} {s s' : Lent} {a a' : Answer} {c c' : Cou
       let passed = passed_checking x e in
       let not_2 : (rewriting o' j' s').answer ≡ OptionOutside → ⊥ = λ f. let m = ap number_of (sym (answer_is y) ∙ f) in
       not_two s s' alike passed k (sym (only_checking y (ap of_checking m)) ∙ sym (answer_is y) ∙ f) in
-      let same = same_at_larger_limit o o' j j' s s' alike.job (but_limit alike.options alike.options.others.second_first) h
+      let same = same_at_larger_limit o o' j j' s s' alike.job (but_limit_by alike.options alike.options.others.second_first) h
       (⊎_elim (λ f. inl (answer_is x ∙ f)) (λ f. inr (answer_is x ∙ f)) e) not_2 (λ f. n (sym (answer_is y) ∙ f)) in
       (rw (← answer_is x, ← answer_is y) (results_answer same), rw (← counters_are x, ← counters_are y) (results_counters same))
 
@@ -374,13 +374,13 @@ module _ {o o' : Options} {j j' : Job} {s s' : Lent} {a' : Answer} {c c' : Count
   -- it is accepted exactly if its limit is no smaller than the number that the first call returned.
   -- Rules out: the limit itself returned; a number that counts what the stores held
   pub accepted_by_the_number : limit_of o' ≤ 1048576 → (a' ≡ Accepted) ↔ (c.packed_words ≤ limit_of o')
-  accepted_by_the_number k = by_the_number (but_limit alike.options alike.options.others.second_first) k
+  accepted_by_the_number k = by_the_number (but_limit_by alike.options alike.options.others.second_first) k
 
   -- the number as the limit: accepted, with the same results and the same counters.
   -- Rules out: a number that leaves out the images of F; a test that refuses a sum equal to the limit
   pub number_is_enough : limit_of o' ≡ c.packed_words → (a' ≡ Accepted) × (SameLeft t t' × (c' ≡ c))
   number_is_enough e =
-      let same = but_limit alike.options alike.options.others.second_first in
+      let same = but_limit_by alike.options alike.options.others.second_first in
       let yes' = (by_the_number same (omega (arith, within_domain))).1 (omega (arith, e)) in
       (yes', equal_results x (subst (λ (b : Answer). Called o' j' s' b c' m' n' t') yes' y) alike.job same)
 
@@ -388,7 +388,7 @@ module _ {o o' : Options} {j j' : Job} {s s' : Lent} {a' : Answer} {c c' : Count
   -- Rules out: the limit of the first call handed back as the number; a sum that counts slots which are free again
   pub one_less_is_refused : limit_of o' + 1 ≡ c.packed_words → a' ≡ ExpansionLimit
   one_less_is_refused e =
-      let same = but_limit alike.options alike.options.others.second_first in
+      let same = but_limit_by alike.options alike.options.others.second_first in
       (limit_where y (passed_again same (omega (arith, within_domain)))).1 (omega (arith, e, words_again same))
 
 -- ==== Request M-107. "Second exchange first". Every promise above is of any options, so of either order
@@ -408,9 +408,9 @@ module _ {o : Options} {j : Job} {s : Lent} {a : Answer} {c : Counters} {m n : �
 pub refused_short : {o : Options} {j : Job} {s : Lent} {a : Answer} {c : Counters} {m n : ℕ} {t : Lent} → Called o j s a c m n t
     → (number_of a ≡ 3) ↔ ShortRefused o j s
 refused_short {o} {j} {s} call = (
-  λ e. let h = three_where o j s (ap number_of (sym (only_checking call (ap of_checking e))) ∙ e) in
+  λ e. let h = three_parts o j s (ap number_of (sym (only_checking call (ap of_checking e))) ∙ e) in
       record { counts = h.0; options = h.1; short = h.2 },
-  λ h. let e = short_where o j s h.counts h.options h.short in ap number_of (checks_itself call (ap accepts e) ∙ e),
+  λ h. let e = short_from o j s h.counts h.options h.short in ap number_of (checks_itself call (ap accepts e) ∙ e),
 )
 
 -- "Ids and results stay equal to the scan's": a scan of the words that an accepted call leaves finds the word of each of its n axes at its id.
@@ -467,19 +467,19 @@ module _ {o oₑ oₗ : Options} {j earlier later : Job} {s sₑ sₗ t tₑ t�
   -- Rules out: a rotation merged into one before the measurement; an exchange of groups from both sides of it
   pub cut_results : worded_in j t ≡ worded_in earlier tₑ ++ worded_in later tₗ
   cut_results =
-      (parts_add_up x y z (but_limit same same.others.second_first) (but_limit alike alike.others.second_first)
-      (merges_only o one.absorption one.strategy) one.rounds cut cut.measures).operations
+      (parts_add_up x y z (but_limit_by same same.others.second_first) (but_limit_by alike alike.others.second_first)
+      (merges_only_by o one.absorption one.strategy) one.rounds cut cut.measures).operations
 
   -- "the parts' swaps add up to the whole's": always.
   -- Rules out: the swaps of the last segment only; 1 for however many swaps
   pub cut_swaps : c.swaps ≡ cₑ.swaps + cₗ.swaps
   cut_swaps =
-      (parts_add_up x y z (but_limit same same.others.second_first) (but_limit alike alike.others.second_first)
-      (merges_only o one.absorption one.strategy) one.rounds cut cut.measures).swaps
+      (parts_add_up x y z (but_limit_by same same.others.second_first) (but_limit_by alike alike.others.second_first)
+      (merges_only_by o one.absorption one.strategy) one.rounds cut cut.measures).swaps
 
   -- and so do their merges.
   -- Rules out: a merge counted for an equal axis before the measurement; the merges of the first segment only
   pub cut_merges : c.merges ≡ cₑ.merges + cₗ.merges
   cut_merges =
-      (parts_add_up x y z (but_limit same same.others.second_first) (but_limit alike alike.others.second_first)
-      (merges_only o one.absorption one.strategy) one.rounds cut cut.measures).merges
+      (parts_add_up x y z (but_limit_by same same.others.second_first) (but_limit_by alike alike.others.second_first)
+      (merges_only_by o one.absorption one.strategy) one.rounds cut cut.measures).merges
