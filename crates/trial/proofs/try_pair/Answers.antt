@@ -1,6 +1,7 @@
 -- The exchange that is tried first, or the other. Assumes nothing.
 use mathlib.Core.Path.{◌∙◌}
-use Rattle.trial.specs.Laying.{runs_pre, exchange_pre, pair_kept, pair_none, pair_one, pair_other}
+use Rattle.trial.specs.Laying.{runs_pre, exchange_pre}
+use Rattle.trial.proofs.Pairs.{pair_kept, pair_none, pair_one, pair_other}
 use Rattle.trial.proofs.try_pair.Goals as goal
 
 pub shares_axis-requires : goal.shares_axis-requires
