@@ -1,6 +1,6 @@
 -- Absorbing: the axis's qubits are touched, then images change, as the model's `absorbWord` has it. With B = F(A) an image F(P) anticommutes
 -- with B exactly where P does with A, so only images of the letters on A's qubits can change. Assumes nothing.
-use Rattle.std.specs.Prelude.{◌≡◌, Bool, true, false, ℕ, zero, suc, ◌+◌, ◌*◌, ◌/◌, ◌%◌, ◌≤◌, ◌<◌, ◌-◌, ◌^◌}
+use Rattle.std.specs.Prelude.{◌≡◌, Bool, true, false, ℕ, zero, suc, ◌+◌, ◌*◌, ◌/◌, ◌%◌, ◌≤◌, ◌<◌, ◌-◌, ◌^◌, Option, Some, Result, Ok, Err}
 use Rattle.std.proofs.Common.{subst, ◌∙◌, true≢false, arith}
 use Rattle.std.proofs.Math.Path.{refl, sym, ap}
 use mathlib.Core.List.{List, map}
@@ -26,13 +26,11 @@ use Rattle.words_wellformed.specs.Commuting.{single_commutes}
 use Rattle.words_wellformed.specs.Inside.{Inside, inside_support}
 use Rattle.words_wellformed.specs.SupportQubits.{support_each}
 use Rattle.steps.specs.declared.State.{State}
-use Rattle.steps.specs.declared.Step.{Step}
-use Rattle.steps.specs.declared.Step.TheVariants.{Next, ExpansionLimit}
+use Rattle.model.specs.declared.ExpansionLimit.{ExpansionLimit}
+use Rattle.model.specs.Interface.{expansion_limit}
 use Rattle.clifford_states.specs.Slots.{slot_of, qubit_at, slot_qubit, slot_absorbed, image_absorbed, qubit_absorbed, letter_held}
 use Rattle.clifford_states.specs.SetBits.{touch_all_axes}
 use Rattle.clifford.specs.Holds.{image_in, Holds, SomeTouched, f_rows, LeftF, TouchedAs, as_next, as_limit, left_then, granted_left, AxisAt, axis_in}
-use Rattle.absorbing.specs.declared.Source.{Source}
-use Rattle.absorbing.specs.declared.Source.TheVariants.{Axis}
 use Rattle.absorbing.specs.Turning.{TurnsPre, ImagesTurned}
 use Rattle.absorbing.specs.Qubits.{slot_in, changed, TurnedFor, ActedPre, member_all}
 
@@ -45,14 +43,14 @@ pub record CarriesTo (z : Shape) (n a id : ℕ) (t : Touched) : Type 0 where
       ≡ symplectic z.l (word_of t.store.axes a) (single z.l q c)
 
 -- angle k, which is 2, 4 or 6, about axis id, and where it is known the axis that F carries to it
-pub record AbsorbAt (z : Shape) (n m p id k : ℕ) (source : Source) (ws xs : List ℕ) (t : Touched) : Type 0 where
+pub record AbsorbAt (z : Shape) (n m p id k : ℕ) (source : Option ℕ) (ws xs : List ℕ) (t : Touched) : Type 0 where
   pub axis : AxisAt z n m p id ws xs t
   pub quarters : IsQuarters k
-  pub known : (a : ℕ) → source ≡ Axis a → CarriesTo z n a id t
+  pub known : (a : ℕ) → source ≡ Some a → CarriesTo z n a id t
 
 -- ---- the images of an axis's qubits are all that can change
 
-module _ {z : Shape} {n m p id k : ℕ} {source : Source} {ws xs : List ℕ} {t : Touched} (h : AbsorbAt z n m p id k source ws xs t) where
+module _ {z : Shape} {n m p id k : ℕ} {source : Option ℕ} {ws xs : List ℕ} {t : Touched} (h : AbsorbAt z n m p id k source ws xs t) where
   holds : Holds z n m p ws xs t
   holds = h.axis.at.holds
 
@@ -84,7 +82,7 @@ module _ {z : Shape} {n m p id k : ℕ} {source : Source} {ws xs : List ℕ} {t 
       quarters = h.quarters;
     }
 
-    module _ {a : ℕ} (of : source ≡ Axis a) where
+    module _ {a : ℕ} (of : source ≡ Some a) where
       from : CarriesTo z n a id t
       from = h.known a of
 
@@ -172,7 +170,7 @@ module _ {z : Shape} {n m p id k : ℕ} {source : Source} {ws xs : List ℕ} {t 
                   (ap (λ (w : List ℕ). member q (support z.l w)) (sym word_a) ∙ m))
 
 -- what the call that touches leaves
-abbrev pub AxisLeft : Shape → State → ℕ → List ℕ → List ℕ → Step → List ℕ → List ℕ → Type 0
+abbrev pub AxisLeft : Shape → State → ℕ → List ℕ → List ℕ → Result State ExpansionLimit → List ℕ → List ℕ → Type 0
 AxisLeft z st id ws xs r ws' xs' =
     LeftF z ws xs ws' xs'
     × ((t : Touched) → AxisAt z st.axes st.slots st.peak id ws xs t
@@ -219,13 +217,13 @@ module _ {z : Shape} {n m p b k : ℕ} {ws xs ws' xs' : List ℕ} {t : Touched} 
 
 -- ---- both steps
 
-module _ {z : Shape} {st : State} {id k : ℕ} {source : Source} {ws xs ws₁ xs₁ : List ℕ} {r : Step} (touched : AxisLeft z st id ws xs r ws₁ xs₁) where
-  pub absorb_limit : r ≡ ExpansionLimit → (t : Touched) → AbsorbAt z st.axes st.slots st.peak id k source ws xs t
-      → TouchedAs z st ExpansionLimit ws₁ xs₁ (absorb_word z.l t (word_of t.store.axes id) k)
+module _ {z : Shape} {st : State} {id k : ℕ} {source : Option ℕ} {ws xs ws₁ xs₁ : List ℕ} {r : Result State ExpansionLimit} (touched : AxisLeft z st id ws xs r ws₁ xs₁) where
+  pub absorb_limit : r ≡ Err expansion_limit → (t : Touched) → AbsorbAt z st.axes st.slots st.peak id k source ws xs t
+      → TouchedAs z st (Err expansion_limit) ws₁ xs₁ (absorb_word z.l t (word_of t.store.axes id) k)
   unfolding absorb_word
   absorb_limit e t h = as_limit ((touched.1 t h.axis).refused e)
 
-  module _ {s : State} (e : r ≡ Next s) where
+  module _ {s : State} (e : r ≡ Ok s) where
     module _ {t : Touched} (h : AbsorbAt z st.axes st.slots st.peak id k source ws xs t) where
       abbrev now : Touched
       now = touch_all z.l t (support z.l (word_of t.store.axes id))
@@ -240,7 +238,7 @@ module _ {z : Shape} {st : State} {id k : ℕ} {source : Source} {ws xs ws₁ xs
       as_many = ap (λ (x : State). x.axes) ((touched.1 t h.axis).kept s e)
 
       -- touching changes no letter's image, and no axis
-      still_known : (a : ℕ) → source ≡ Axis a
+      still_known : (a : ℕ) → source ≡ Some a
           → CarriesTo z s.axes a id (touch_all z.l t (support z.l (word_of t.store.axes id)))
       still_known a f =
           let c = h.known a f in
@@ -273,7 +271,7 @@ module _ {z : Shape} {st : State} {id k : ℕ} {source : Source} {ws xs ws₁ xs
       absorb_left some = left_then touched.0 (turned_left (now_holds some.it) turned)
 
       pub absorb_holds : (t : Touched) → AbsorbAt z st.axes st.slots st.peak id k source ws xs t
-          → TouchedAs z st (Next s) ws₂ xs₂ (absorb_word z.l t (word_of t.store.axes id) k)
+          → TouchedAs z st (Ok s) ws₂ xs₂ (absorb_word z.l t (word_of t.store.axes id) k)
       unfolding absorb_word
       absorb_holds t h =
           let word : word_at z.l ws₁ (axis_place z.l id) ≡ word_of t.store.axes id

@@ -1,5 +1,5 @@
 -- The qubits of an axis are touched, number after number, as the model's `touchAll` has it. Assumes nothing.
-use Rattle.std.specs.Prelude.{◌≡◌, refl, ℕ, ◌+◌, ◌*◌, ◌≤◌, ◌<◌, suc, ◌-◌, ◌^◌, length, get_or}
+use Rattle.std.specs.Prelude.{◌≡◌, refl, ℕ, ◌+◌, ◌*◌, ◌≤◌, ◌<◌, suc, ◌-◌, ◌^◌, length, get_or, Result, Ok, Err}
 use Rattle.std.proofs.Common.{subst, sym, ◌∙◌, arith}
 use Rattle.std.proofs.Math.Path.{ap}
 use mathlib.Core.List.{List, ◌∷◌, ◌++◌}
@@ -15,8 +15,8 @@ use Rattle.theory.specs.Ids.{id_in}
 use Rattle.layout.specs.declared.Shape.{Shape}
 use Rattle.layout.specs.Words.{axis_place}
 use Rattle.steps.specs.declared.State.{State}
-use Rattle.steps.specs.declared.Step.{Step}
-use Rattle.steps.specs.declared.Step.TheVariants.{Next, ExpansionLimit}
+use Rattle.model.specs.declared.ExpansionLimit.{ExpansionLimit}
+use Rattle.model.specs.Interface.{expansion_limit}
 use Rattle.steps.specs.State.{with_slots}
 use Rattle.words_wellformed.specs.Inside.{inside_support}
 use Rattle.clifford_states.specs.SetBits.{set_bits_none, set_bits_lowest, qubits_at, qubits_from, support_from, qubits_end, qubits_next}
@@ -58,7 +58,7 @@ bits_first b = record {
 }
 
 -- what a turn's call leaves, where it touches qubit q
-abbrev pub TouchLeft : Shape → State → ℕ → List ℕ → List ℕ → Step → List ℕ → List ℕ → Type 0
+abbrev pub TouchLeft : Shape → State → ℕ → List ℕ → List ℕ → Result State ExpansionLimit → List ℕ → List ℕ → Type 0
 TouchLeft z st q ws xs r ws' xs' =
     LeftF z ws xs ws' xs'
     × ((t : Touched) → TouchAt z st.axes st.slots st.peak q ws xs t → TouchedAs z st r ws' xs' (touch z.l t q))
@@ -85,14 +85,14 @@ module _ {z : Shape} {first st : State} {j w : ℕ} {ws₀ xs₀ ws xs : List �
   unfolding touch_all
   after k = k.whole ∙ ap (touch_all z.l k.now) lowest
 
-  module _ {r : Step} {ws' xs' : List ℕ} (call : TouchLeft z st q ws xs r ws' xs') where
+  module _ {r : Result State ExpansionLimit} {ws' xs' : List ℕ} (call : TouchLeft z st q ws xs r ws' xs') where
     pub bits_left : LeftF z ws₀ xs₀ ws' xs'
     bits_left = left_then b.left call.0
 
     said : {t : Touched} (k : BitsNow z j w ws xs st rest t) → TouchedAs z st r ws' xs' (touch z.l k.now q)
     said k = call.1 k.now (record { at = k.at; qubit = (split k).0 })
 
-    pub bits_next : SomeTouched (λ (t : Touched). BitsAt z first.axes first.slots first.peak j w ws₀ xs₀ t) → (s : State) → r ≡ Next s
+    pub bits_next : SomeTouched (λ (t : Touched). BitsAt z first.axes first.slots first.peak j w ws₀ xs₀ t) → (s : State) → r ≡ Ok s
         → BitsLoop z first j w ws₀ xs₀ ws' xs' s (bit_and rest (rest - 1))
     bits_next some_state s e = record {
       small = omega (arith, clear_lt rest (let p : 0 < rest = omega arith in p), b.small);
@@ -108,8 +108,8 @@ module _ {z : Shape} {first st : State} {j w : ℕ} {ws₀ xs₀ ws xs : List �
           };
     }
 
-    pub bits_limit : r ≡ ExpansionLimit → (t : Touched) → BitsAt z first.axes first.slots first.peak j w ws₀ xs₀ t
-        → TouchedAs z first ExpansionLimit ws' xs' (touch_all z.l t (set_bits 64 (64 * j) w))
+    pub bits_limit : r ≡ Err expansion_limit → (t : Touched) → BitsAt z first.axes first.slots first.peak j w ws₀ xs₀ t
+        → TouchedAs z first (Err expansion_limit) ws' xs' (touch_all z.l t (set_bits 64 (64 * j) w))
     bits_limit e t h =
         let k = b.at t h in
         let p = (said k).refused e in
@@ -122,7 +122,7 @@ module _ {z : Shape} {first st : State} {j w : ℕ} {ws₀ xs₀ ws xs : List �
 -- all are touched
 pub bits_end : {z : Shape} {first st : State} {j w : ℕ} {ws₀ xs₀ ws xs : List ℕ} {rest : ℕ}
     → BitsLoop z first j w ws₀ xs₀ ws xs st rest → rest ≡ 0 → (t : Touched)
-    → BitsAt z first.axes first.slots first.peak j w ws₀ xs₀ t → TouchedAs z first (Next st) ws xs (touch_all z.l t (set_bits 64 (64 * j) w))
+    → BitsAt z first.axes first.slots first.peak j w ws₀ xs₀ t → TouchedAs z first (Ok st) ws xs (touch_all z.l t (set_bits 64 (64 * j) w))
 unfolding touch_all
 bits_end {z} {st = st} {j} {ws = ws} {xs} b e t h =
     let k = b.at t h in
@@ -176,7 +176,7 @@ numbers_first {z} {id = id} = record {
   };
 }
 
-abbrev pub BitsLeft : Shape → State → ℕ → ℕ → List ℕ → List ℕ → Step → List ℕ → List ℕ → Type 0
+abbrev pub BitsLeft : Shape → State → ℕ → ℕ → List ℕ → List ℕ → Result State ExpansionLimit → List ℕ → List ℕ → Type 0
 BitsLeft z st j w ws xs r ws' xs' =
     LeftF z ws xs ws' xs'
     × ((t : Touched) → BitsAt z st.axes st.slots st.peak j w ws xs t → TouchedAs z st r ws' xs' (touch_all z.l t (set_bits 64 (64 * j) w)))
@@ -217,11 +217,11 @@ module _ {z : Shape} {first st : State} {id : ℕ} {ws₀ xs₀ ws xs : List ℕ
       → SomeTouched (λ (t : Touched). BitsAt z st.axes st.slots st.peak j w ws xs t)
   numbers_turn s = record { state = (b.at s.state s.it).now; it = bits_there s.it }
 
-  module _ {r : Step} {ws' xs' : List ℕ} (call : BitsLeft z st j w ws xs r ws' xs') where
+  module _ {r : Result State ExpansionLimit} {ws' xs' : List ℕ} (call : BitsLeft z st j w ws xs r ws' xs') where
     pub numbers_left : LeftF z ws₀ xs₀ ws' xs'
     numbers_left = left_then b.left call.0
 
-    pub numbers_next : SomeTouched (λ (t : Touched). AxisAt z first.axes first.slots first.peak id ws₀ xs₀ t) → (s : State) → r ≡ Next s
+    pub numbers_next : SomeTouched (λ (t : Touched). AxisAt z first.axes first.slots first.peak id ws₀ xs₀ t) → (s : State) → r ≡ Ok s
         → NumbersLoop z first id ws₀ xs₀ ws' xs' s (j + 1)
     numbers_next some s e = record {
       index = omega arith;
@@ -241,8 +241,8 @@ module _ {z : Shape} {first st : State} {id : ℕ} {ws₀ xs₀ ws xs : List ℕ
           };
     }
 
-    pub numbers_limit : r ≡ ExpansionLimit → (t : Touched) → AxisAt z first.axes first.slots first.peak id ws₀ xs₀ t
-        → TouchedAs z first ExpansionLimit ws' xs' (touch_all z.l t (support z.l (word_of t.store.axes id)))
+    pub numbers_limit : r ≡ Err expansion_limit → (t : Touched) → AxisAt z first.axes first.slots first.peak id ws₀ xs₀ t
+        → TouchedAs z first (Err expansion_limit) ws' xs' (touch_all z.l t (support z.l (word_of t.store.axes id)))
     numbers_limit e t h =
         let k = b.at t h in
         let p = (call.1 k.now (bits_there h)).refused e in
@@ -256,7 +256,7 @@ module _ {z : Shape} {first st : State} {id : ℕ} {ws₀ xs₀ ws xs : List ℕ
 pub numbers_end : {z : Shape} {first st : State} {id : ℕ} {ws₀ xs₀ ws xs : List ℕ} {j : ℕ} → NumbersLoop z first id ws₀ xs₀ ws xs st j
     → z.l ≤ j
     → (t : Touched) → AxisAt z first.axes first.slots first.peak id ws₀ xs₀ t
-    → TouchedAs z first (Next st) ws xs (touch_all z.l t (support z.l (word_of t.store.axes id)))
+    → TouchedAs z first (Ok st) ws xs (touch_all z.l t (support z.l (word_of t.store.axes id)))
 unfolding touch_all
 numbers_end {z} {st = st} {id} {ws = ws} {xs} {j} b e t h =
     let k = b.at t h in

@@ -1,5 +1,5 @@
 -- Images change as angle k about a word is absorbed: as the model's `absorbImage` has it. Assumes nothing.
-use Rattle.std.specs.Prelude.{◌≡◌, refl, List, ◌⊎◌, ◌≢◌, false, ℕ, ◌+◌, ◌*◌, ◌/◌, ◌%◌, ◌≤◌, ◌<◌, ◌-◌, length, get_or}
+use Rattle.std.specs.Prelude.{◌≡◌, refl, List, ◌⊎◌, ◌≢◌, false, ℕ, ◌+◌, ◌*◌, ◌/◌, ◌%◌, ◌≤◌, ◌<◌, ◌-◌, length, get_or, Option, Some, None}
 use Rattle.std.proofs.Common.{subst, sym, ap, ap₂, ◌∙◌, inl, inr, arith, eq-eqb, ne_eqb}
 use Rattle.std.proofs.Math.Bool.{not}
 use Rattle.std.proofs.Math.Decide.{ℕ_discrete, dec_lt}
@@ -8,8 +8,6 @@ use Rattle.store.specs.Row.{row, Written}
 use Rattle.pauli.specs.Word.{anticommutes, xor_words, phase}
 use Rattle.pauli.specs.ProductLaws.{xor_words_length}
 use Rattle.angle.specs.declared.Phase.{Phase}
-use Rattle.product.specs.declared.Commutation.{Commutation}
-use Rattle.product.specs.declared.Commutation.TheVariants.{Commute, Anticommute}
 use Rattle.product.specs.Product.{odd_phase, told_commute, told_anticommute, told_phase, StoredPre, StoredWord}
 use Rattle.model.specs.Words.{Value, as_value, scaled, multiply}
 use Rattle.model.specs.Clifford.{absorb_image}
@@ -72,18 +70,18 @@ module _ {z : Shape} {i b k : ℕ} {ws xs : List ℕ} (pre : TurnPre z i b k ws 
   stays e = rw (if_true {A = Value} _ _ (ap not e)) (image_stays z i ws xs)
 
   -- whether it changes is told by the phase of its product with the word at b
-  module _ {r : Commutation} {at : ℕ} (place : at ≡ slot_place z.limit z.l i)
+  module _ {r : Option Phase} {at : ℕ} (place : at ≡ slot_place z.limit z.l i)
       (told : r ≡ odd_phase z.l (word_at z.l ws b) (word_at z.l ws at)) where
     of_image : r ≡ odd_phase z.l (word_at z.l ws b) (image_in z ws xs i).word
     unfolding image_in
     of_image = rw place at told
 
     -- it commutes
-    pub turned_not : r ≡ Commute → ImageTurned z i b k ws xs ws xs
+    pub turned_not : r ≡ None → ImageTurned z i b k ws xs ws xs
     turned_not h = stays (told_commute _ _ _ of_image h)
 
     -- "k = 4 gives -P"
-    pub turned_half : {e : Phase} {xs' : List ℕ} → r ≡ Anticommute e → k ≡ 4
+    pub turned_half : {e : Phase} {xs' : List ℕ} → r ≡ Some e → k ≡ 4
         → Written xs z.u f_phase i ((get_or (row xs z.u f_phase) i 0 + 2) % 4) xs' → ImageTurned z i b k ws xs ws xs'
     unfolding absorb_image
     turned_half o f w =
@@ -91,7 +89,7 @@ module _ {z : Shape} {i b k : ℕ} {ws xs : List ℕ} (pre : TurnPre z i b k ws 
         (unfold scaled image_in in (image_phase pre.there _ w))
 
     -- "k = 2 gives iBP, k = -2 gives -iBP"
-    pub turned_quarter : {e : Phase} {ws' xs' : List ℕ} → r ≡ Anticommute e → (k ≡ 4 → ⊥) → StoredWord z.l ws b at at ws'
+    pub turned_quarter : {e : Phase} {ws' xs' : List ℕ} → r ≡ Some e → (k ≡ 4 → ⊥) → StoredWord z.l ws b at at ws'
         → Written xs z.u f_phase i ((get_or (row xs z.u f_phase) i 0 + (e.0 + k / 2)) % 4) xs' → ImageTurned z i b k ws xs ws' xs'
     unfolding absorb_image
     turned_quarter {e} {ws'} {xs'} o f stored w =

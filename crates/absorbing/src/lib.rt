@@ -15,9 +15,10 @@ ghost use Rattle.absorbing.specs.Qubits.{SomeSlots, QubitsPre, TurnedFor, Number
 ghost use Rattle.absorbing.specs.AxisQubits.{BitsAt};
 ghost use Rattle.absorbing.specs.Absorbing.{AbsorbAt};
 
+use angle::Phase;
 use layout::{F_PHASE, F_SLOT, Shape};
-use product::Commutation;
-use steps::{State, Step};
+use model::ExpansionLimit;
+use steps::State;
 
 // Touches the qubits of the set bits of number j of a plane.
 fn touch_bits(
@@ -27,7 +28,7 @@ fn touch_bits(
     first: State,
     j: usize,
     acted: u64,
-) -> Step
+) -> Result<State, ExpansionLimit>
     requires { SomeTouched (λ (t : Touched). BitsAt shape first.axes first.slots first.peak j acted words.old numbers.old t) }
     ensures { LeftF shape words.old numbers.old words.new numbers.new
         × ((t : Touched) → BitsAt shape first.axes first.slots first.peak j acted words.old numbers.old t
@@ -37,18 +38,14 @@ fn touch_bits(
     let mut rest = acted;
     while rest != 0 {
         let q = 64 * j + u64::trailing_zeros(rest) as usize;
-        let t = clifford::touch(words, numbers, shape, st, q);
-        match t {
-            Step::Next(s) => st = s,
-            Step::ExpansionLimit => return Step::ExpansionLimit,
-        }
+        st = clifford::touch(words, numbers, shape, st, q)?;
         rest &= rest - 1;
     }
-    Step::Next(st)
+    Ok(st)
 }
 
 // Touches the qubits of axis id.
-fn touch_all(words: &mut [u64], numbers: &mut [u32], shape: Shape, first: State, id: usize) -> Step
+fn touch_all(words: &mut [u64], numbers: &mut [u32], shape: Shape, first: State, id: usize) -> Result<State, ExpansionLimit>
     requires { SomeTouched (λ (t : Touched). AxisAt shape first.axes first.slots first.peak id words.old numbers.old t) }
     ensures { LeftF shape words.old numbers.old words.new numbers.new
         × ((t : Touched) → AxisAt shape first.axes first.slots first.peak id words.old numbers.old t
@@ -59,13 +56,9 @@ fn touch_all(words: &mut [u64], numbers: &mut [u32], shape: Shape, first: State,
     let mut st = first;
     for j in 0..shape.l {
         let acted = clifford::acted_at(&words[..], at, shape.l, j);
-        let t = touch_bits(words, numbers, shape, st, j, acted);
-        match t {
-            Step::Next(s) => st = s,
-            Step::ExpansionLimit => return Step::ExpansionLimit,
-        }
+        st = touch_bits(words, numbers, shape, st, j, acted)?;
     }
-    Step::Next(st)
+    Ok(st)
 }
 
 // Adds e to the phase of image i.
@@ -79,7 +72,7 @@ fn add_phase(numbers: &mut [u32], u: usize, i: usize, e: u32)
 }
 
 // The phase of the product of the words at a and at b where it is odd.
-fn odd_phase_at(words: &[u64], a: usize, b: usize, l: usize) -> Commutation
+fn odd_phase_at(words: &[u64], a: usize, b: usize, l: usize) -> Option<Phase>
     requires { (a + 2 * l ≤ length words.now) × (b + 2 * l ≤ length words.now) }
     ensures { result ≡ odd_phase l (word_at l words.now a) (word_at l words.now b) }
 {
@@ -94,7 +87,7 @@ fn turn_image(words: &mut [u64], numbers: &mut [u32], shape: Shape, i: usize, b:
 {
     let at = layout::slot_at(shape.limit, shape.l, i);
     let told = odd_phase_at(&words[..], b, at, shape.l);
-    let Commutation::Anticommute(e) = told else {
+    let Some(e) = told else {
         return;
     };
     if k == 4 {
@@ -172,13 +165,6 @@ fn turn_acted(words: &mut [u64], numbers: &mut [u32], shape: Shape, at: usize, b
     }
 }
 
-// The axis that F carries to the one that is absorbed, where it is known.
-#[derive(Clone, Copy)]
-pub enum Source {
-    Axis(usize),
-    Unknown,
-}
-
 // All images, by axis id. Where the axis that F carries to it is known, no image of another qubit than that axis's can change.
 fn turn(
     words: &mut [u64],
@@ -187,14 +173,14 @@ fn turn(
     st: State,
     id: usize,
     k: u32,
-    source: Source,
+    source: Option<usize>,
 )
     requires { SomeTouched (λ (t : Touched). AbsorbAt shape st.axes st.slots st.peak id k source words.old numbers.old t) }
     ensures { ImagesTurned shape (3 * st.slots) (axis_place shape.l id) k
         words.old numbers.old words.new numbers.new }
 {
     let b = layout::axis_at(shape.l, id);
-    let Source::Axis(a) = source else {
+    let Some(a) = source else {
         turn_images(words, numbers, shape, 0, 3 * st.slots, b, k);
         return;
     };
@@ -202,7 +188,7 @@ fn turn(
     turn_acted(words, numbers, shape, at, b, k);
 }
 
-// F takes in angle k, which is 2, 4 or 6, about axis id.
+// F takes in angle k, which is 2, 4 or 6, about axis id; where it is known, the source is the axis that F carries to it.
 pub fn absorb(
     words: &mut [u64],
     numbers: &mut [u32],
@@ -210,17 +196,14 @@ pub fn absorb(
     st: State,
     id: usize,
     k: u32,
-    source: Source,
-) -> Step
+    source: Option<usize>,
+) -> Result<State, ExpansionLimit>
     requires { SomeTouched (λ (t : Touched). AbsorbAt shape st.axes st.slots st.peak id k source words.old numbers.old t) }
     ensures { LeftF shape words.old numbers.old words.new numbers.new
         × ((t : Touched) → AbsorbAt shape st.axes st.slots st.peak id k source words.old numbers.old t
         → TouchedAs shape st result words.new numbers.new (absorb_word shape.l t (word_of t.store.axes id) k)) }
 {
-    let t = touch_all(words, numbers, shape, st, id);
-    let Step::Next(s) = t else {
-        return Step::ExpansionLimit;
-    };
+    let s = touch_all(words, numbers, shape, st, id)?;
     turn(words, numbers, shape, s, id, k, source);
-    Step::Next(s)
+    Ok(s)
 }

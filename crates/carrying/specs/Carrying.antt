@@ -1,5 +1,5 @@
 -- Carrying an axis through F: its image is stored, and has its id. Assumes nothing.
-use Rattle.std.specs.Prelude.{◌≡◌, refl, ℕ, ◌+◌, ◌*◌, ◌%◌, ◌≤◌, ◌<◌, ◌-◌, length}
+use Rattle.std.specs.Prelude.{◌≡◌, refl, ℕ, ◌+◌, ◌*◌, ◌%◌, ◌≤◌, ◌<◌, ◌-◌, length, Result, Ok, Err}
 use Rattle.std.proofs.Math.Path.{subst, sym, ap, ap₂}
 use Rattle.std.proofs.Common.{◌∙◌, arith}
 use mathlib.Core.List.{List, [], ◌∷◌}
@@ -16,15 +16,13 @@ use Rattle.layout.specs.Words.{axis_place, slot_place, scratch_place, KeptFrom, 
 use Rattle.layout.specs.Words.{kept_part, slot_counted}
 use Rattle.axes.specs.View.{word_at}
 use Rattle.axes.specs.Held.{sizes_of, held_count, held_stored}
-use Rattle.interning.specs.declared.Interned.{Interned}
-use Rattle.interning.specs.declared.Interned.TheVariants.{Axis, Full}
+use Rattle.model.specs.declared.ExpansionLimit.{ExpansionLimit}
+use Rattle.model.specs.Interface.{expansion_limit}
 use Rattle.interning.specs.declared.StoredAxis.{StoredAxis}
 use Rattle.axes.specs.declared.Sizes.{Sizes}
 use Rattle.interning.specs.Intern.{InternPre, Stores}
 use Rattle.interning.specs.Stored.{HasAxis, NoRoom, InternedAs, interned_is}
 use Rattle.steps.specs.declared.State.{State}
-use Rattle.steps.specs.declared.Step.{Step}
-use Rattle.steps.specs.declared.Step.TheVariants.{Next, ExpansionLimit}
 use Rattle.steps.specs.State.{with_image}
 use Rattle.words_wellformed.specs.Carrying.{word_image_none}
 use Rattle.words_wellformed.specs.Conjugation.{value_eq}
@@ -68,19 +66,19 @@ pub record CarriedTo (z : Shape) (st : State) (id : ℕ) (t : Touched) (ws xs : 
   pub same : s ≡ with_image s.axes s.peak s.id s.turns st
 
 -- what an answer means: the image is stored, or the model's peak is above the limit
-pub record CarriedAs (z : Shape) (st : State) (id : ℕ) (t : Touched) (r : Step) (ws xs : List ℕ) : Type 0 where
-  pub to : (s : State) → r ≡ Next s → CarriedTo z st id t ws xs s
-  pub refused : r ≡ ExpansionLimit → z.limit < (carried_store z.l t id).peak
+pub record CarriedAs (z : Shape) (st : State) (id : ℕ) (t : Touched) (r : Result State ExpansionLimit) (ws xs : List ℕ) : Type 0 where
+  pub to : (s : State) → r ≡ Ok s → CarriedTo z st id t ws xs s
+  pub refused : r ≡ Err expansion_limit → z.limit < (carried_store z.l t id).peak
 
 pub as_to : {z : Shape} {st s : State} {n p a e id : ℕ} {t : Touched} {ws xs : List ℕ} → s ≡ with_image n p a e st
-    → CarriedTo z st id t ws xs (with_image n p a e st) → CarriedAs z st id t (Next s) ws xs
+    → CarriedTo z st id t ws xs (with_image n p a e st) → CarriedAs z st id t (Ok s) ws xs
 as_to {z} {st} {s} {id = id} {t} {ws} {xs} f h = record {
   to = λ k e. let g : s ≡ k = cc in subst (CarriedTo z st id t ws xs) (sym f ∙ g) h;
   refused = λ e. let g : ◌≡◌ {A = ℕ} 0 1 = cc in absurd (omega arith);
 }
 
 pub as_refused : {z : Shape} {st : State} {id : ℕ} {t : Touched} {ws xs : List ℕ} → z.limit < (carried_store z.l t id).peak
-    → CarriedAs z st id t ExpansionLimit ws xs
+    → CarriedAs z st id t (Err expansion_limit) ws xs
 as_refused h = record {
   to = λ k e. let f : ◌≡◌ {A = ℕ} 0 1 = cc in absurd (omega arith);
   refused = λ e. h;
@@ -110,7 +108,7 @@ module _ {z : Shape} {st : State} {id : ℕ} {ws xs : List ℕ} {t : Touched} (h
 
   -- F leaves it: it has its id, and nothing is stored
   unmoved_to : {s : State} → word_image z.l t.held (axis_word id t) ≡ as_value (axis_word id t)
-      → s ≡ with_image st.axes st.peak id 0 st → CarriedAs z st id t (Next s) ws xs
+      → s ≡ with_image st.axes st.peak id 0 st → CarriedAs z st id t (Ok s) ws xs
   unfolding image_of_axis carried_store
   unmoved_to image with_image_lem =
       as_to with_image_lem (record {
@@ -132,12 +130,12 @@ module _ {z : Shape} {st : State} {id : ℕ} {ws xs : List ℕ} {t : Touched} (h
 
   -- no qubit that it acts on is held
   pub fixed_to : {a b : ℕ} {s : State} → a ≡ axis_place z.l id → b ≡ mask_place z → NoneMarked z.l ws a b z.l
-      → s ≡ with_image st.axes st.peak id 0 st → CarriedAs z st id t (Next s) ws xs
+      → s ≡ with_image st.axes st.peak id 0 st → CarriedAs z st id t (Ok s) ws xs
   fixed_to {a} place mask marked =
       unmoved_to (fixed_image carry_at (h.stored.words id id_count) place (subst (λ (x : ℕ). NoneMarked z.l ws a x z.l) mask marked))
 
   -- none is held at all
-  pub identity_to : {s : State} → st.slots ≡ 0 → s ≡ with_image st.axes st.peak id 0 st → CarriedAs z st id t (Next s) ws xs
+  pub identity_to : {s : State} → st.slots ≡ 0 → s ≡ with_image st.axes st.peak id 0 st → CarriedAs z st id t (Ok s) ws xs
   identity_to none =
       let empty : t.held ≡ [] = length_zero t.held (h.axis.at.holds.count ∙ none) in
       unmoved_to (ap (λ (held : List Images). word_image z.l held (axis_word id t)) empty ∙ word_image_none z.l (axis_word id t) (h.stored.words id id_count))
@@ -176,7 +174,7 @@ module _ {z : Shape} {st : State} {id : ℕ} {ws xs : List ℕ} {t : Touched} (h
     images_in : st.slots * (6 * z.l) ≤ z.limit
     images_in = omega (arith, h.axis.at.holds.room)
 
-    module _ {r : Interned} {ws₂ xs₂ : List ℕ} {o : ℕ} {y : Sizes} (scratch : o ≡ scratch_place z.limit) (sizes : y ≡ sizes_of z st.axes)
+    module _ {r : Result StoredAxis ExpansionLimit} {ws₂ xs₂ : List ℕ} {o : ℕ} {y : Sizes} (scratch : o ≡ scratch_place z.limit) (sizes : y ≡ sizes_of z st.axes)
         (said : Stores y (st.slots * (6 * z.l)) st.peak ws₁ xs o r ws₂ xs₂) where
       -- of the model's store
       said_of : Stores (sizes_of z st.axes) (st.slots * (6 * z.l)) t.store.peak ws₁ xs z.limit r ws₂ xs₂
@@ -188,22 +186,22 @@ module _ {z : Shape} {st : State} {id : ℕ} {ws xs : List ℕ} {t : Touched} (h
           interned_is (sizes_of z st.axes) (st.slots * (6 * z.l)) ws₁ xs z.limit t.store
           (rw now_holds.peak_is (intern_there refl refl images_in)) now_holds.axes said_of
 
-      module _ (f : r ≡ Full) where
+      module _ (f : r ≡ Err expansion_limit) where
         no_room : NoRoom (sizes_of z st.axes) (st.slots * (6 * z.l)) ws₁ xs t.store (word_at z.l ws₁ z.limit) ws₂ xs₂
         no_room =
-            subst (λ (x : Interned). InternedAs (sizes_of z st.axes) (st.slots * (6 * z.l)) ws₁ xs t.store
+            subst (λ (x : Result StoredAxis ExpansionLimit). InternedAs (sizes_of z st.axes) (st.slots * (6 * z.l)) ws₁ xs t.store
             (word_at z.l ws₁ z.limit) x ws₂ xs₂) f meant
 
         pub limit_left : LeftCarried z ws xs ws₂ xs₂
         limit_left = record { words = rw no_room.kept (words_kept word.words); numbers = no_room.numbers }
 
-        pub carry_limit : CarriedAs z st id t ExpansionLimit ws₂ xs₂
+        pub carry_limit : CarriedAs z st id t (Err expansion_limit) ws₂ xs₂
         carry_limit = as_refused (rw store_is no_room.exceeds)
 
-      module _ {a : StoredAxis} (f : r ≡ Axis a) where
+      module _ {a : StoredAxis} (f : r ≡ Ok a) where
         has : HasAxis (sizes_of z st.axes) (st.slots * (6 * z.l)) ws₁ xs t.store (word_at z.l ws₁ z.limit) a ws₂ xs₂
         has =
-            subst (λ (x : Interned). InternedAs (sizes_of z st.axes) (st.slots * (6 * z.l)) ws₁ xs t.store
+            subst (λ (x : Result StoredAxis ExpansionLimit). InternedAs (sizes_of z st.axes) (st.slots * (6 * z.l)) ws₁ xs t.store
             (word_at z.l ws₁ z.limit) x ws₂ xs₂) f meant
 
         kept₂ : KeptFrom (z.limit - st.slots * (6 * z.l)) ws₁ ws₂
@@ -244,7 +242,7 @@ module _ {z : Shape} {st : State} {id : ℕ} {ws xs : List ℕ} {t : Touched} (h
             let old = id_stored z.l (st.slots * (6 * z.l)) t.store (word_at z.l ws₁ z.limit) in
             omega (arith, k, old, has.id_is, held_count has.held)
 
-        pub carry_to : {s : State} → s ≡ with_image a.axes a.peak a.id e st → CarriedAs z st id t (Next s) ws₂ xs₂
+        pub carry_to : {s : State} → s ≡ with_image a.axes a.peak a.id e st → CarriedAs z st id t (Ok s) ws₂ xs₂
         unfolding image_of_axis
         carry_to with_image_lem =
             as_to with_image_lem (record {

@@ -15,9 +15,9 @@ ghost use Rattle.carrying.specs.Carries.{CarriesAt};
 ghost use Rattle.carrying.specs.Fixed.{NoneMarked};
 ghost use Rattle.carrying.specs.Carrying.{CarryPre, LeftCarried, CarriedAs};
 
-use interning::Interned;
 use layout::{F_PHASE, F_SLOT, Shape};
-use steps::{Image, ImageStep, State};
+use model::ExpansionLimit;
+use steps::{Image, State};
 
 // Whether the word at a place has no letter where the mask has a bit. Only the time of `carry` depends on it.
 fn fixes(words: &[u64], at: usize, mask: usize, l: usize) -> bool
@@ -149,7 +149,7 @@ pub fn carry_held(
     shape: Shape,
     st: State,
     id: usize,
-) -> ImageStep
+) -> Result<Image, ExpansionLimit>
     requires { SomeTouched (λ (t : Touched). CarryPre shape st id words.old numbers.old t) }
     ensures { LeftCarried shape words.old numbers.old words.new numbers.new
         × ((t : Touched) → CarryPre shape st id words.old numbers.old t
@@ -158,7 +158,7 @@ pub fn carry_held(
     let at = layout::axis_at(shape.l, id);
     let mask = clifford::mask_at(shape.limit, shape.l);
     if fixes(&words[..], at, mask, shape.l) {
-        return ImageStep::Next(Image {
+        return Ok(Image {
             axes: st.axes,
             peak: st.peak,
             id,
@@ -169,11 +169,8 @@ pub fn carry_held(
     let counted = st.slots * (6 * shape.l);
     let scratch = layout::scratch_at(shape.limit);
     let z = axes::sizes_of(shape, st.axes);
-    let i = interning::intern(words, numbers, z, counted, st.peak, scratch);
-    let Interned::Axis(a) = i else {
-        return ImageStep::ExpansionLimit;
-    };
-    ImageStep::Next(Image {
+    let a = interning::intern(words, numbers, z, counted, st.peak, scratch)?;
+    Ok(Image {
         axes: a.axes,
         peak: a.peak,
         id: a.id,
@@ -189,14 +186,14 @@ pub fn carry(
     shape: Shape,
     st: State,
     id: usize,
-) -> ImageStep
+) -> Result<Image, ExpansionLimit>
     requires { SomeTouched (λ (t : Touched). CarryPre shape st id words.old numbers.old t) }
     ensures { LeftCarried shape words.old numbers.old words.new numbers.new
         × ((t : Touched) → CarryPre shape st id words.old numbers.old t
         → CarriedAs shape st id t (step_with st result) words.new numbers.new) }
 {
     if st.slots == 0 {
-        return ImageStep::Next(Image {
+        return Ok(Image {
             axes: st.axes,
             peak: st.peak,
             id,

@@ -1,5 +1,5 @@
 -- How a run ends: its last refusal, or its end. Assumes nothing.
-use Rattle.std.specs.Prelude.{◌≡◌, refl, List, ℕ, ◌<◌}
+use Rattle.std.specs.Prelude.{◌≡◌, refl, List, ℕ, ◌<◌, Result, Ok, Err}
 use Rattle.std.proofs.Common.{sym, ap, ◌∙◌, subst, arith}
 use Rattle.pauli.specs.Word.{width}
 use Rattle.model.specs.declared.Options.{Options}
@@ -24,8 +24,8 @@ use Rattle.packing_answer.specs.Run.{run_refused}
 use Rattle.packing.specs.Packed.{PackedAs}
 use Rattle.steps.specs.declared.State.{State}
 use Rattle.steps.specs.State.{first_state}
-use Rattle.steps.specs.declared.Step.{Step}
-use Rattle.steps.specs.declared.Step.TheVariants as steps
+use Rattle.model.specs.declared.ExpansionLimit.{ExpansionLimit}
+use Rattle.model.specs.Interface.{expansion_limit}
 use Rattle.points.specs.Points.{RunAt, SameLong, EndedAs, long_then}
 use Rattle.decision.specs.declared.Started.{Started}
 use Rattle.decision.specs.declared.Decided.{Decided}
@@ -87,7 +87,7 @@ end_is o l p e = ap (λ (m : ℕ). passes o.strategy m (rules_of o) o.rounds (st
 module _ (o : Options) {z : Shape} {ns os rs : List ℕ} {n : ℕ} {ws xs : List ℕ} {s : Started} {t : List ℕ}
     (h : PackedIn z ns os rs n ws xs) (a : StartedAs z o ns os rs n ws xs s t) {first : State} {q : ℕ}
     (tested : q ≡ (packed (program_in z ns os rs)).store.peak) (begins : first ≡ first_state n q s.items)
-    {e : Step} {vs ys : List ℕ} (ran : SameLong ws t vs ys × ((p : Program) (w : Work) → RunAt z 0 first ws t p w
+    {e : Result State ExpansionLimit} {vs ys : List ℕ} (ran : SameLong ws t vs ys × ((p : Program) (w : Work) → RunAt z 0 first ws t p w
     → EndedAs z 511 e vs ys p (passes o.strategy z.l (rules_of o) o.rounds w))) where
   ended_as : EndedAs z 511 e vs ys (program_in z ns os rs) (end_in z o ns os rs)
   ended_as =
@@ -98,7 +98,7 @@ module _ (o : Options) {z : Shape} {ns os rs : List ℕ} {n : ℕ} {ws xs : List
   long_here = record { words = ran.0.words; numbers = ran.0.numbers ∙ a.long }
 
   -- where packing refuses nothing, the run's peak is its end's
-  pub passes_limit : e ≡ steps.ExpansionLimit → DecisionAs z o ns os rs ws xs (Refused answers.ExpansionLimit) vs ys
+  pub passes_limit : e ≡ Err expansion_limit → DecisionAs z o ns os rs ws xs (Refused answers.ExpansionLimit) vs ys
   passes_limit f =
       decides_refused long_here (record {
         answer =
@@ -108,7 +108,7 @@ module _ (o : Options) {z : Shape} {ns os rs : List ℕ} {n : ℕ} {ws xs : List
         other = limit_other;
       })
 
-  pub passes_end : (st : State) → e ≡ steps.Next st → EndPre z o ns os rs s st vs ys
+  pub passes_end : (st : State) → e ≡ Ok st → EndPre z o ns os rs s st vs ys
   passes_end st f = record {
     given = h.pre.given;
     hermitian = packed_hermitian h;

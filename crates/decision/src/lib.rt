@@ -158,7 +158,7 @@ fn passes(
     );
     let first = steps::first_state(axes, peak, s.items);
     let e = rounds::passes(words, numbers, shape, options, first);
-    let Step::Next(run) = e else {
+    let Ok(run) = e else {
         return Decision::Refused(Answer::ExpansionLimit);
     };
     Decision::Done(end_run(

@@ -9,11 +9,12 @@ ghost use Rattle.stream_states.specs.States.{SomePass};
 ghost use Rattle.frame_rows.specs.FrameRows.{LeftR, RowAt, RowAs, RowsAt, RowsAs, rows_end, rows_carried};
 
 use layout::{NO_AXIS, Shape};
-use steps::{ImageStep, State, Step};
+use model::ExpansionLimit;
+use steps::State;
 use work::Root;
 
 // Carries the axis of reference j, if it has one.
-fn carry_row(words: &mut [u64], numbers: &mut [u32], shape: Shape, st: State, j: usize) -> Step
+fn carry_row(words: &mut [u64], numbers: &mut [u32], shape: Shape, st: State, j: usize) -> Result<State, ExpansionLimit>
     requires { SomePass (λ m n p. RowAt shape st j words.old numbers.old m n p) }
     ensures { LeftR shape words.old numbers.old words.new numbers.new
         × ((m : Absorption) (n : ℕ) (p : Pass) → RowAt shape st j words.old numbers.old m n p
@@ -21,24 +22,21 @@ fn carry_row(words: &mut [u64], numbers: &mut [u32], shape: Shape, st: State, j:
 {
     let x = work::root_at(&numbers[..], shape.u, j);
     if x.axis == NO_AXIS {
-        return Step::Next(st);
+        return Ok(st);
     }
     let a = x.axis as usize;
-    let c = carrying::carry_held(words, numbers, shape, st, a);
-    let ImageStep::Next(image) = c else {
-        return Step::ExpansionLimit;
-    };
+    let image = carrying::carry_held(words, numbers, shape, st, a)?;
     let to = steps::with_image(st, image);
     let moved = Root {
         axis: to.id as u32,
         sign: (to.turns + x.sign) % 4,
     };
     work::put_root(numbers, shape.u, j, moved);
-    Step::Next(to)
+    Ok(to)
 }
 
 // Carries all frame rows that are roots.
-fn carry_rows(words: &mut [u64], numbers: &mut [u32], shape: Shape, first: State) -> Step
+fn carry_rows(words: &mut [u64], numbers: &mut [u32], shape: Shape, first: State) -> Result<State, ExpansionLimit>
     requires { SomePass (λ m n p. RowsAt shape first words.old numbers.old m n p) }
     ensures { LeftR shape words.old numbers.old words.new numbers.new
         × ((m : Absorption) (n : ℕ) (p : Pass) → RowsAt shape first words.old numbers.old m n p
@@ -49,17 +47,13 @@ fn carry_rows(words: &mut [u64], numbers: &mut [u32], shape: Shape, first: State
     let mut st = first;
     let end = shape.operations + 2 * shape.qubits;
     for j in shape.operations..end {
-        let t = carry_row(words, numbers, shape, st, j);
-        match t {
-            Step::Next(s) => st = s,
-            Step::ExpansionLimit => return Step::ExpansionLimit,
-        }
+        st = carry_row(words, numbers, shape, st, j)?;
     }
-    Step::Next(st)
+    Ok(st)
 }
 
 // Carries the frame rows if anything was absorbed.
-pub fn carry_frame(words: &mut [u64], numbers: &mut [u32], shape: Shape, st: State) -> Step
+pub fn carry_frame(words: &mut [u64], numbers: &mut [u32], shape: Shape, st: State) -> Result<State, ExpansionLimit>
     requires { SomePass (λ m n p. RowsAt shape st words.old numbers.old m n p) }
     ensures { LeftR shape words.old numbers.old words.new numbers.new
         × ((m : Absorption) (n : ℕ) (p : Pass) → RowsAt shape st words.old numbers.old m n p
@@ -67,7 +61,7 @@ pub fn carry_frame(words: &mut [u64], numbers: &mut [u32], shape: Shape, st: Sta
         (rows_carried shape numbers.old p)) }
 {
     if st.absorbed == 0 {
-        return Step::Next(st);
+        return Ok(st);
     }
     carry_rows(words, numbers, shape, st)
 }

@@ -1,5 +1,5 @@
 -- Stores that hold the axes so far, and have room for a word of one number in each plane behind the limit. Assumes nothing.
-use Rattle.std.specs.Prelude.{◌≡◌, refl, false, List, ℕ, ◌+◌, ◌*◌, ◌≤◌, length}
+use Rattle.std.specs.Prelude.{◌≡◌, refl, false, List, ℕ, ◌+◌, ◌*◌, ◌≤◌, length, Result, Ok}
 use Rattle.std.proofs.Common.{sym, ◌∙◌, subst, arith}
 use Rattle.pauli.specs.Word.{width}
 use Rattle.model.specs.Words.{Store}
@@ -13,8 +13,7 @@ use Rattle.axes.specs.View.{word_at}
 use Rattle.axes.specs.declared.Sizes.{Sizes}
 use Rattle.axes.specs.Held.{with_axes, sizes_of, stored_axes, Stored, held_words, held_stored, held_none}
 use Rattle.interning.specs.declared.StoredAxis.{StoredAxis}
-use Rattle.interning.specs.declared.Interned.{Interned}
-use Rattle.interning.specs.declared.Interned.TheVariants.{Axis}
+use Rattle.model.specs.declared.ExpansionLimit.{ExpansionLimit}
 use Rattle.interning.specs.Intern.{store_with, InternPre, Stores}
 use Rattle.interning.specs.Stored.{InternedAs, interned_is}
 use Rattle.interning.specs.Link.{ChainsCleared}
@@ -31,8 +30,8 @@ pub record Ready (z : Sizes) (peak : ℕ) (ws xs : List ℕ) : Type 0 where
   pub narrow : z.l ≡ 1
 
 -- so can the next, once one is
-pub record ReadyAfter (z : Sizes) (r : Interned) (ws xs : List ℕ) : Type 0 where
-  pub next : (a : StoredAxis) → r ≡ Axis a → Ready (with_axes a.axes z) a.peak ws xs
+pub record ReadyAfter (z : Sizes) (r : Result StoredAxis ExpansionLimit) (ws xs : List ℕ) : Type 0 where
+  pub next : (a : StoredAxis) → r ≡ Ok a → Ready (with_axes a.axes z) a.peak ws xs
 
 -- a word is laid
 pub ready_laid : {z : Sizes} {peak a : ℕ} {ws vs xs : List ℕ} → Ready z peak ws xs → OnlyWords z.limit a ws vs → Ready z peak vs xs
@@ -56,7 +55,7 @@ ready_intern h = record {
 }
 
 -- it is
-pub ready_after : {z : Sizes} {peak : ℕ} {ws xs ws' xs' : List ℕ} {r : Interned} → Ready z peak ws xs
+pub ready_after : {z : Sizes} {peak : ℕ} {ws xs ws' xs' : List ℕ} {r : Result StoredAxis ExpansionLimit} → Ready z peak ws xs
     → Stores z 0 peak ws xs z.limit r ws' xs' → ReadyAfter z r ws' xs'
 ready_after {z} {peak} {ws} {xs} {ws'} {xs'} {r} h s = record {
   next = λ a e.
@@ -71,12 +70,12 @@ ready_after {z} {peak} {ws} {xs} {ws'} {xs'} {r} h s = record {
     st : Store
     st = store_with peak (stored_axes z ws)
 
-    As : Interned → Type 0
+    As : Result StoredAxis ExpansionLimit → Type 0
     As q = InternedAs z 0 ws xs st (word_at z.l ws z.limit) q ws' xs'
 
 -- the same answer, taken apart
-pub ready_as : {z : Sizes} {r q : Interned} {ws xs : List ℕ} → r ≡ q → ReadyAfter z r ws xs → ReadyAfter z q ws xs
-ready_as {z} {ws = ws} {xs} e h = subst (λ (x : Interned). ReadyAfter z x ws xs) e h
+pub ready_as : {z : Sizes} {r q : Result StoredAxis ExpansionLimit} {ws xs : List ℕ} → r ≡ q → ReadyAfter z r ws xs → ReadyAfter z q ws xs
+ready_as {z} {ws = ws} {xs} e h = subst (λ (x : Result StoredAxis ExpansionLimit). ReadyAfter z x ws xs) e h
 
 -- ---- before the first word: what refusal 3 asks for one node on 64 qubits and a limit of 64 words
 

@@ -6,8 +6,8 @@ ghost use Rattle.layout.specs.Words.{OnlyWords};
 ghost use Rattle.index_main.specs.Ready.{WordBehind, Ready, ReadyAfter};
 
 use axes::Sizes;
-use interning::Interned;
-use model::Counts;
+use interning::StoredAxis;
+use model::{Counts, ExpansionLimit};
 use std::io;
 
 // A word of one number in each plane: x, then z.
@@ -103,7 +103,7 @@ fn store(
     show_ids(rt, &words[..], &numbers[..], sizes)?;
     let before = agree(&words[..], &numbers[..], sizes);
     let stored = interning::intern(words, numbers, sizes, 0, peak, sizes.limit);
-    let Interned::Axis(a) = stored else {
+    let Ok(a) = stored else {
         return Ok(stored);
     };
     let after = agree(
@@ -145,7 +145,7 @@ fn run(rt: &impl Print, words: &mut [u64], numbers: &mut [u32], none: Sizes) -> 
     let mut peak = 0;
     for k in 0..COUNT {
         let stored = step(rt, words, numbers, sizes, peak, k)?;
-        let Interned::Axis(a) = stored else {
+        let Ok(a) = stored else {
             return Ok(());
         };
         sizes.axes = a.axes;

@@ -1,5 +1,5 @@
 -- What storing a word answers and leaves, by the model's `intern`. Assumes nothing.
-use Rattle.std.specs.Prelude.{◌≡◌, ℕ, ◌+◌, ◌*◌, ◌<◌, ◌≤◌, max, List, [], ◌∷◌, ◌++◌, length, nat_lt, slice_index, slice_index_or, refl}
+use Rattle.std.specs.Prelude.{◌≡◌, ℕ, ◌+◌, ◌*◌, ◌<◌, ◌≤◌, max, List, [], ◌∷◌, ◌++◌, length, nat_lt, slice_index, slice_index_or, refl, Result, Ok, Err}
 use Rattle.std.proofs.Math.Path.{sym, ap}
 use Rattle.std.proofs.Common.{◌∙◌, subst, suc-mul, add-one, arith, length-append, lt-ltb, le-ltb}
 use Rattle.store.specs.Part.{put, part_length}
@@ -24,8 +24,8 @@ use Rattle.interning.specs.Beside.{BesidePre, BesidePut}
 use Rattle.interning.specs.Find.{EndsAt, walked_in}
 use Rattle.interning.specs.Link.{LinkPre, LinkPut, Entered}
 use Rattle.interning.specs.declared.StoredAxis.{StoredAxis}
-use Rattle.interning.specs.declared.Interned.{Interned}
-use Rattle.interning.specs.declared.Interned.TheVariants.{Axis, Full}
+use Rattle.model.specs.declared.ExpansionLimit.{ExpansionLimit}
+use Rattle.model.specs.Interface.{expansion_limit}
 
 -- the words that are counted when one is stored behind n axes
 abbrev pub sum_with : ℕ → ℕ → ℕ → ℕ
@@ -52,26 +52,26 @@ abbrev axis_of : Store → Store → List ℕ → StoredAxis
 axis_of st st' w = record { id = id_of st.axes w; axes = length st'.axes; peak = st'.peak }
 
 -- refused where the sum that `intern` tests exceeds the limit
-unfoldable pub intern_answer : ℕ → ℕ → ℕ → Store → List ℕ → Interned
-intern_answer l others limit st w = when nat_lt limit (intern l others st w).peak then Full else Axis (axis_of st (intern l others st w) w)
+unfoldable pub intern_answer : ℕ → ℕ → ℕ → Store → List ℕ → Result StoredAxis ExpansionLimit
+intern_answer l others limit st w = when nat_lt limit (intern l others st w).peak then (Err expansion_limit) else Ok (axis_of st (intern l others st w) w)
 
 -- the word store by the answer: a new word is laid behind the n axes
-unfoldable pub laid_by : Interned → ℕ → ℕ → List ℕ → List ℕ → List ℕ
-laid_by (Axis a) l n s w = when nat_lt a.id n then s else put s (axis_place l n) w
-laid_by Full l n s w = s
+unfoldable pub laid_by : Result StoredAxis ExpansionLimit → ℕ → ℕ → List ℕ → List ℕ → List ℕ
+laid_by (Ok a) l n s w = when nat_lt a.id n then s else put s (axis_place l n) w
+laid_by (Err expansion_limit) l n s w = s
 
 -- answer and word store are the model's
-pub record Answered (z : Sizes) (others peak : ℕ) (ws : List ℕ) (at : ℕ) (r : Interned) (ws' : List ℕ) : Type 0 where
+pub record Answered (z : Sizes) (others peak : ℕ) (ws : List ℕ) (at : ℕ) (r : Result StoredAxis ExpansionLimit) (ws' : List ℕ) : Type 0 where
   pub answer : r ≡ intern_answer z.l others z.limit (store_with peak (stored_axes z ws)) (word_at z.l ws at)
   pub words : ws' ≡ laid_by r z.l z.axes ws (word_at z.l ws at)
 
 -- of the number store only what stands beside a new axis changes, and where its chain ends
-pub record Stores (z : Sizes) (others peak : ℕ) (ws xs : List ℕ) (at : ℕ) (r : Interned) (ws' xs' : List ℕ) : Type 0 where
+pub record Stores (z : Sizes) (others peak : ℕ) (ws xs : List ℕ) (at : ℕ) (r : Result StoredAxis ExpansionLimit) (ws' xs' : List ℕ) : Type 0 where
   pub answered : Answered z others peak ws at r ws'
   pub numbers : Only axes_rows z.u xs xs'
   pub kept : (a : ℕ) → a < z.axes → SameBeside z.u xs xs' a
-  pub new : (a : StoredAxis) → r ≡ Axis a → z.axes ≤ a.id → Beside z.l z.u xs' z.axes (word_at z.l ws at)
-  pub index : (a : StoredAxis) → r ≡ Axis a
+  pub new : (a : StoredAxis) → r ≡ Ok a → z.axes ≤ a.id → Beside z.l z.u xs' z.axes (word_at z.l ws at)
+  pub index : (a : StoredAxis) → r ≡ Ok a
       → Index pick_of digits_of z.u a.axes xs' (intern z.l others (store_with peak (stored_axes z ws)) (word_at z.l ws at)).axes
 
 -- ---- the model's `intern` of a new word
@@ -84,22 +84,22 @@ intern_new l others st w h = if_false _ _ (le-ltb _ _ h)
 -- ---- the answer and the word store, case by case
 
 module _ (l others limit : ℕ) (st : Store) (w : List ℕ) where
-  answer_axis : (st' : Store) → intern l others st w ≡ st' → st'.peak ≤ limit → Axis (axis_of st st' w) ≡ intern_answer l others limit st w
+  answer_axis : (st' : Store) → intern l others st w ≡ st' → st'.peak ≤ limit → Ok (axis_of st st' w) ≡ intern_answer l others limit st w
   unfolding intern_answer
   answer_axis st' e h =
-      ap (λ (x : Store). Axis (axis_of st x w)) (sym e)
+      ap (λ (x : Store). Ok (axis_of st x w)) (sym e)
       ∙ sym (if_false _ _ (le-ltb limit (intern l others st w).peak (omega (arith, ap (λ (x : Store). x.peak) e))))
 
-  answer_limit : limit < (intern l others st w).peak → Full ≡ intern_answer l others limit st w
+  answer_limit : limit < (intern l others st w).peak → (Err expansion_limit) ≡ intern_answer l others limit st w
   unfolding intern_answer
   answer_limit h = sym (if_true _ _ (lt-ltb limit (intern l others st w).peak h))
 
 module _ (a : StoredAxis) (l n : ℕ) (s w : List ℕ) where
-  laid_old : a.id < n → laid_by (Axis a) l n s w ≡ s
+  laid_old : a.id < n → laid_by (Ok a) l n s w ≡ s
   unfolding laid_by
   laid_old h = if_true _ _ (lt-ltb _ _ h)
 
-  laid_new : n ≤ a.id → laid_by (Axis a) l n s w ≡ put s (axis_place l n) w
+  laid_new : n ≤ a.id → laid_by (Ok a) l n s w ≡ put s (axis_place l n) w
   unfolding laid_by
   laid_new h = if_false _ _ (le-ltb _ _ h)
 
@@ -124,10 +124,10 @@ module _ (z : Sizes) (others peak : ℕ) (ws : List ℕ) (at id : ℕ) {p : List
       → ◌≡◌ {A = StoredAxis} (record { id = id; axes = n; peak = q }) (axis_of st st' w)
   same_axis st' e f = rw (id_of_lem, e, f) refl
 
-  pub answered_old : peak ≤ z.limit → id < z.axes → Answered z others peak ws at (Axis (record { id = id; axes = z.axes; peak = peak })) ws
+  pub answered_old : peak ≤ z.limit → id < z.axes → Answered z others peak ws at (Ok (record { id = id; axes = z.axes; peak = peak })) ws
   answered_old k h = record {
     answer =
-        ap Axis (same_axis st (sym count) refl)
+        ap Ok (same_axis st (sym count) refl)
         ∙ answer_axis z.l others z.limit st w st (intern_old z.l others st w (omega (arith, id_of_lem, count))) k;
     words = sym (laid_old _ z.l z.axes ws w h);
   }
@@ -143,7 +143,7 @@ module _ (z : Sizes) (others peak : ℕ) (ws : List ℕ) (at id : ℕ) {p : List
         ∙ ap (λ (m : ℕ). store_with (max peak (m + 2 * z.l + others)) (stored_axes z ws ++ (w ∷ [])))
         (ap (axis_place z.l) count ∙ sym end)
 
-    pub answered_limit : z.limit < b + 2 * z.l + others → Answered z others peak ws at Full ws
+    pub answered_limit : z.limit < b + 2 * z.l + others → Answered z others peak ws at (Err expansion_limit) ws
     unfolding laid_by
     answered_limit k = record {
       answer = answer_limit z.l others z.limit st w (omega (arith, ap (λ (x : Store). x.peak) stored_next));
@@ -151,18 +151,18 @@ module _ (z : Sizes) (others peak : ℕ) (ws : List ℕ) (at id : ℕ) {p : List
     }
 
     pub answered_new : {q : ℕ} → peak ≤ z.limit → b + 2 * z.l + others ≤ z.limit → q ≡ max peak (b + 2 * z.l + others)
-        → (t : List ℕ) → t ≡ put ws b w → Answered z others peak ws at (Axis (record { id = id; axes = z.axes + 1; peak = q })) t
+        → (t : List ℕ) → t ≡ put ws b w → Answered z others peak ws at (Ok (record { id = id; axes = z.axes + 1; peak = q })) t
     answered_new k m f t e = record {
       answer =
-          ap Axis (same_axis next (sym (length-append (stored_axes z ws) (w ∷ []) ∙ ap (λ (n : ℕ). n + 1) count)) f)
+          ap Ok (same_axis next (sym (length-append (stored_axes z ws) (w ∷ []) ∙ ap (λ (n : ℕ). n + 1) count)) f)
           ∙ answer_axis z.l others z.limit st w next stored_next (omega arith);
       words = e ∙ ap (λ (i : ℕ). put ws i w) end ∙ sym (laid_new _ z.l z.axes ws w new);
     }
 
 -- the word is stored
 pub stores_old : {z : Sizes} {others peak : ℕ} {ws xs : List ℕ} {at : ℕ} {a : StoredAxis} {ws' : List ℕ} → Stored z ws xs
-    → Answered z others peak ws at (Axis a) ws' → a.id ≡ id_of (stored_axes z ws) (word_at z.l ws at) → a.id < z.axes
-    → a.axes ≡ z.axes → Stores z others peak ws xs at (Axis a) ws' xs
+    → Answered z others peak ws at (Ok a) ws' → a.id ≡ id_of (stored_axes z ws) (word_at z.l ws at) → a.id < z.axes
+    → a.axes ≡ z.axes → Stores z others peak ws xs at (Ok a) ws' xs
 stores_old {z} {others} {peak} {ws} {xs} {at} {a} s k e h n =
     let st = store_with peak (stored_axes z ws) in
     let same = intern_old z.l others st (word_at z.l ws at) (omega (arith, axes_length z.l z.axes ws)) in
@@ -178,8 +178,8 @@ stores_old {z} {others} {peak} {ws} {xs} {at} {a} s k e h n =
     }
 
 -- it is refused
-pub stores_limit : {z : Sizes} {others peak : ℕ} {ws xs : List ℕ} {at : ℕ} {ws' : List ℕ} → Answered z others peak ws at Full ws'
-    → Stores z others peak ws xs at Full ws' xs
+pub stores_limit : {z : Sizes} {others peak : ℕ} {ws xs : List ℕ} {at : ℕ} {ws' : List ℕ} → Answered z others peak ws at (Err expansion_limit) ws'
+    → Stores z others peak ws xs at (Err expansion_limit) ws' xs
 stores_limit {z} {xs = xs} k = record {
   answered = k;
   numbers = only_none axes_rows z.u xs;
@@ -188,14 +188,14 @@ stores_limit {z} {xs = xs} k = record {
   index = λ a e. never e;
 }
   where
-    never : {a : StoredAxis} {A : Type 0} → Full ≡ Axis a → A
+    never : {a : StoredAxis} {A : Type 0} → (Err expansion_limit) ≡ Ok a → A
     never e = let f : ◌≡◌ {A = ℕ} 0 1 = cc in absurd (omega arith)
 
 -- a new axis: its own beside it, and its chain goes on to it
 pub stores_new : {z : Sizes} {others peak : ℕ} {ws xs : List ℕ} {at : ℕ} {a : StoredAxis} {ws' xs' p : List ℕ} {q : ℕ} → Stored z ws xs
-    → Answered z others peak ws at (Axis a) ws' → a.id ≡ id_of (stored_axes z ws) p → z.axes ≤ a.id → a.axes ≡ z.axes + 1
+    → Answered z others peak ws at (Ok a) ws' → a.id ≡ id_of (stored_axes z ws) p → z.axes ≤ a.id → a.axes ≡ z.axes + 1
     → p ≡ word_at z.l ws at → EndsAt z xs p q → Entered z q xs p xs'
-    → Stores z others peak ws xs at (Axis a) ws' xs'
+    → Stores z others peak ws xs at (Ok a) ws' xs'
 unfolding member any_of all_of
 stores_new {z} {others} {peak} {ws} {xs} {at} {a} {xs' = xs'} {p} {q} s k e h n read ends entered =
     record {
@@ -244,11 +244,11 @@ stores_new {z} {others} {peak} {ws} {xs} {at} {a} {xs' = xs'} {p} {q} s k e h n 
     walk = walked_kept same (omega arith) ends.walk
 
 -- there is one answer, and one word store
-pub answered_one : {z : Sizes} {others peak : ℕ} {ws : List ℕ} {at : ℕ} {r q : Interned} {ws₁ ws₂ : List ℕ}
+pub answered_one : {z : Sizes} {others peak : ℕ} {ws : List ℕ} {at : ℕ} {r q : Result StoredAxis ExpansionLimit} {ws₁ ws₂ : List ℕ}
     → Answered z others peak ws at r ws₁ → Answered z others peak ws at q ws₂ → (r ≡ q) × (ws₁ ≡ ws₂)
 answered_one {z} {ws = ws} {at = at} a b =
     let e = a.answer ∙ sym b.answer in
-    (e, a.words ∙ ap (λ (x : Interned). laid_by x z.l z.axes ws (word_at z.l ws at)) e ∙ sym b.words)
+    (e, a.words ∙ ap (λ (x : Result StoredAxis ExpansionLimit). laid_by x z.l z.axes ws (word_at z.l ws at)) e ∙ sym b.words)
 
 -- the next axis has its entry, and the word that was read is a word
 pub beside_there : {z : Sizes} {others peak : ℕ} {ws xs : List ℕ} {at b : ℕ} {p : List ℕ} → InternPre z others peak ws xs at

@@ -1,5 +1,5 @@
 -- What an answer of `intern` means for the model's store `st`, whose axes the stores hold. Assumes nothing.
-use Rattle.std.specs.Prelude.{◌≡◌, ℕ, ◌+◌, ◌-◌, ◌*◌, ◌<◌, ◌≤◌, max, List, [], ◌∷◌, ◌++◌, length, refl}
+use Rattle.std.specs.Prelude.{◌≡◌, ℕ, ◌+◌, ◌-◌, ◌*◌, ◌<◌, ◌≤◌, max, List, [], ◌∷◌, ◌++◌, length, refl, Result, Ok, Err}
 use Rattle.std.proofs.Common.{sym, ap, ◌∙◌, subst, arith}
 use Rattle.std.proofs.Math.Decide.{dec_lt}
 use Rattle.std.proofs.Math.ListN.{get_or-append}
@@ -19,8 +19,8 @@ use Rattle.axes.specs.Held.{with_axes, stored_axes, HoldsAxes, held_count}
 use Rattle.interning.specs.Intern.{sum_with, one_more, store_with, InternPre, Stores, Answered, answered_old, answered_limit}
 use Rattle.interning.specs.Intern.{intern_new, answered_new, answered_one}
 use Rattle.interning.specs.declared.StoredAxis.{StoredAxis}
-use Rattle.interning.specs.declared.Interned.{Interned}
-use Rattle.interning.specs.declared.Interned.TheVariants.{Axis, Full}
+use Rattle.model.specs.declared.ExpansionLimit.{ExpansionLimit}
+use Rattle.model.specs.Interface.{expansion_limit}
 
 -- what a word's axis means to the caller: the stores hold the model's axes, so many, the largest tested sum is the model's and within
 -- the limit, axes and the other words still fit in it, and the other words that are counted, those behind the limit, and the rows that
@@ -41,9 +41,9 @@ pub record NoRoom (z : Sizes) (others : ℕ) (ws xs : List ℕ) (st : Store) (w 
   pub numbers : Only axes_rows z.u xs xs'
 
 -- what an answer of `intern` means
-abbrev pub InternedAs : Sizes → ℕ → List ℕ → List ℕ → Store → List ℕ → Interned → List ℕ → List ℕ → Type 0
-InternedAs z others ws xs st w (Axis a) ws' xs' = HasAxis z others ws xs st w a ws' xs'
-InternedAs z others ws xs st w Full ws' xs' = NoRoom z others ws xs st w ws' xs'
+abbrev pub InternedAs : Sizes → ℕ → List ℕ → List ℕ → Store → List ℕ → Result StoredAxis ExpansionLimit → List ℕ → List ℕ → Type 0
+InternedAs z others ws xs st w (Ok a) ws' xs' = HasAxis z others ws xs st w a ws' xs'
+InternedAs z others ws xs st w (Err expansion_limit) ws' xs' = NoRoom z others ws xs st w ws' xs'
 
 module _ (z : Sizes) (others : ℕ) (ws xs : List ℕ) (at : ℕ) (st : Store) (pre : InternPre z others st.peak ws xs at)
     (h : HoldsAxes z ws xs st.axes) where
@@ -142,13 +142,13 @@ module _ (z : Sizes) (others : ℕ) (ws xs : List ℕ) (at : ℕ) (st : Store) (
         let sum : sum_with z.l others (length st.axes) ≡ sum_with z.l others z.axes = ap (sum_with z.l others) (held_count h) in
         record { exceeds = omega (arith, ap (λ (x : Store). x.peak) k, sum); kept = refl; numbers = o }
 
-  pub interned_is : {r : Interned} {ws' xs' : List ℕ} → Stores z others st.peak ws xs at r ws' xs'
+  pub interned_is : {r : Result StoredAxis ExpansionLimit} {ws' xs' : List ℕ} → Stores z others st.peak ws xs at r ws' xs'
       → InternedAs z others ws xs st (word_at z.l ws at) r ws' xs'
   interned_is {r} {ws'} {xs'} s =
       go (dec_lt (id_of (stored_axes z ws) (word_at z.l ws at)) z.axes) (dec_lt z.limit (sum_with z.l others z.axes))
     where
       -- there is one answer
-      so : {q : Interned} {vs : List ℕ} → Answered z others st.peak ws at q vs
+      so : {q : Result StoredAxis ExpansionLimit} {vs : List ℕ} → Answered z others st.peak ws at q vs
           → (r ≡ q → InternedAs z others ws xs st (word_at z.l ws at) q vs xs')
           → InternedAs z others ws xs st (word_at z.l ws at) r ws' xs'
       so k m = let e = answered_one s.answered k in rw (e.0, e.1) (m e.0)

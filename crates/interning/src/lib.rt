@@ -16,6 +16,7 @@ ghost use Rattle.interning.specs.Intern.{InternPre, Stores};
 
 use axes::Sizes;
 use layout::{FORK, HEADS, SIGNATURE};
+use model::ExpansionLimit;
 use pauli::same;
 
 // A hash's halves of 32 bits, and the odd numbers that they are multiplied by.
@@ -31,13 +32,6 @@ pub struct StoredAxis {
     pub id: usize,
     pub axes: usize,
     pub peak: usize,
-}
-
-// A word is an axis, or the word store is full: the limit leaves no room for a new word.
-#[derive(Clone, Copy)]
-pub enum Interned {
-    Axis(StoredAxis),
-    Full,
 }
 
 // What the index goes by: a word's numbers added modulo 2^64, and its hash.
@@ -199,7 +193,7 @@ fn enter(numbers: &mut [u32], z: Sizes, w: &[u64], place: usize)
     put_link(numbers, z, place);
 }
 
-// The word at a place among the axes, stored behind them if it is new. The sum that is tested counts the other words besides the axes.
+// The word at a place among the axes, stored behind them if it is new and the limit leaves room for it. The sum that is tested counts the other words besides the axes.
 pub fn intern(
     words: &mut [u64],
     numbers: &mut [u32],
@@ -207,7 +201,7 @@ pub fn intern(
     others: usize,
     peak: usize,
     at: usize,
-) -> Interned
+) -> Result<StoredAxis, ExpansionLimit>
     requires { InternPre z others peak words.old numbers.old at }
     ensures { Stores z others peak words.old numbers.old at result words.new numbers.new }
 {
@@ -219,7 +213,7 @@ pub fn intern(
     );
     let id = found.id;
     if id < z.axes {
-        return Interned::Axis(StoredAxis {
+        return Ok(StoredAxis {
             id,
             axes: z.axes,
             peak,
@@ -229,12 +223,12 @@ pub fn intern(
     let end = layout::axis_at(z.l, z.axes);
     let sum = end + n + others;
     if z.limit < sum {
-        return Interned::Full;
+        return Err(ExpansionLimit);
     }
     let w = axes::word_at(&words[..], at, z.l);
     enter(numbers, z, w, found.place);
     store::copy_within(words, at, end, n);
-    Interned::Axis(StoredAxis {
+    Ok(StoredAxis {
         id,
         axes: z.axes + 1,
         peak: layout::peak_with(peak, sum),

@@ -10,13 +10,13 @@ use axes::Sizes;
 use exchange::Progress;
 use layering::Layering;
 use layout::Shape;
-use model::{Counters, ExchangeRules};
-use steps::Step;
+use model::{Counters, ExchangeRules, ExpansionLimit};
+use steps::State;
 use stream_states::StreamRules;
 
 #[derive(Clone, Copy)]
 pub struct Streamed {
-    pub outcome: Step,
+    pub outcome: Result<State, ExpansionLimit>,
     pub stats: Counters,
 }
 

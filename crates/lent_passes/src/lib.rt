@@ -14,35 +14,35 @@ use axes::Sizes;
 use exchange::Progress;
 use layering::Layering;
 use layout::Shape;
-use model::{Counters, ExchangeRules};
-use steps::Step;
+use model::{Counters, ExchangeRules, ExpansionLimit};
+use steps::State;
 use stream_states::StreamRules;
 
 // How a stream ends, and what it counted: 0 where it is refused.
 #[derive(Clone, Copy)]
 pub struct Counted {
-    pub outcome: Step,
+    pub outcome: Result<State, ExpansionLimit>,
     pub merges: usize,
     pub absorbed: usize,
 }
 
 // 01's `merges` of one stream.
-fn merges_of(t: Step) -> usize
+fn merges_of(t: Result<State, ExpansionLimit>) -> usize
     ensures { result ≡ merges_of t }
 {
     match t {
-        Step::Next(s) => s.merges,
-        Step::ExpansionLimit => 0,
+        Ok(s) => s.merges,
+        Err(ExpansionLimit) => 0,
     }
 }
 
 // 01's `cliffords_to_frame` of one stream.
-fn absorbed_of(t: Step) -> usize
+fn absorbed_of(t: Result<State, ExpansionLimit>) -> usize
     ensures { result ≡ absorbed_of t }
 {
     match t {
-        Step::Next(s) => s.absorbed,
-        Step::ExpansionLimit => 0,
+        Ok(s) => s.absorbed,
+        Err(ExpansionLimit) => 0,
     }
 }
 
@@ -71,7 +71,7 @@ fn stream_counted(
 }
 
 // What the stream counted is added, and how it ended is given.
-fn add_counted(stats: &mut Counters, r: Counted) -> Step
+fn add_counted(stats: &mut Counters, r: Counted) -> Result<State, ExpansionLimit>
     requires { (stats.old.merges + r.merges < 2 ^ 64) × (stats.old.cliffords_to_frame + r.absorbed < 2 ^ 64) }
     ensures { (stats.new ≡ raised stats.old r.merges r.absorbed) × (result ≡ r.outcome) }
 {
@@ -90,7 +90,7 @@ pub fn stream_pass(
     axes: usize,
     peak: usize,
     stats: &mut Counters,
-) -> Step
+) -> Result<State, ExpansionLimit>
     requires { SomeWork (λ prog w g. PassAtWork shape rules prog w axes items peak words.old numbers.old g) × Room stats.old }
     ensures { StreamedAs shape rules items axes peak words.old numbers.old stats.old result
         words.new numbers.new stats.new }

@@ -1,5 +1,5 @@
 -- All rounds of Litinski's strategy: what is left of them, from the work that memory holds, comes to the same. Assumes nothing.
-use Rattle.std.specs.Prelude.{◌≡◌, refl, Bool, true, false, List, ℕ, suc, ◌+◌, ◌-◌, ◌*◌, ◌≤◌, ◌<◌, eqb}
+use Rattle.std.specs.Prelude.{◌≡◌, refl, Bool, true, false, List, ℕ, suc, ◌+◌, ◌-◌, ◌*◌, ◌≤◌, ◌<◌, eqb, Result, Ok, Err}
 use Rattle.std.proofs.Common.{sym, ap, ◌∙◌, subst, lt_of_lt_of_le, arith, eq-eqb, ne_eqb}
 use Rattle.model.specs.declared.Options.{Options}
 use Rattle.model.specs.Lists.{when◌then◌else◌}
@@ -10,8 +10,8 @@ use Rattle.theory.specs.Cases.{if_true, if_false}
 use Rattle.theory.specs.Peak.{litinski_from_rises}
 use Rattle.layout.specs.declared.Shape.{Shape}
 use Rattle.steps.specs.declared.State.{State}
-use Rattle.steps.specs.declared.Step.{Step}
-use Rattle.steps.specs.declared.Step.TheVariants.{Next, ExpansionLimit}
+use Rattle.model.specs.declared.ExpansionLimit.{ExpansionLimit}
+use Rattle.model.specs.Interface.{expansion_limit}
 use Rattle.points.specs.Points.{RunAt, SomeRun, OptionsIn, SameLong, long_same, long_then, EndedAs, later, ended_at, ended_limit}
 
 -- "each round layers every segment .."
@@ -58,7 +58,7 @@ LayersCall z st ws xs s ws₁ xs₁ =
     SameLong ws xs ws₁ xs₁
     × ((i : ℕ) (p : Program) (w : Work) → RunAt z i st ws xs p w → RunAt z (i + 1) s ws₁ xs₁ p (layers_of z w))
 
-abbrev pub StreamCall : Shape → Options → State → List ℕ → List ℕ → Step → List ℕ → List ℕ → Type 0
+abbrev pub StreamCall : Shape → Options → State → List ℕ → List ℕ → Result State ExpansionLimit → List ℕ → List ℕ → Type 0
 StreamCall z o st ws xs r ws₁ xs₁ =
     SameLong ws xs ws₁ xs₁
     × ((i : ℕ) (p : Program) (w : Work) → RunAt z i st ws xs p w → EndedAs z (i + 1) r ws₁ xs₁ p (stream_of z o w))
@@ -97,12 +97,12 @@ module _ {z : Shape} {o : Options} {st₀ : State} {ws₀ xs₀ ws xs : List ℕ
           ∙ ap (λ (k : ℕ). rounds_of z o k here.now) (let f : o.rounds - j ≡ (o.rounds - (j + 1)) + 1 = omega arith in f)
           ∙ one_more z o (o.rounds - (j + 1)) here.now x (cc (layered.merges, here.at.merges, e))
 
-      pub rounds_stop : s.merges ≡ st.merges → OptionsIn o → EndedAs z 511 (Next s) ws₁ xs₁ p (rounds_of z o o.rounds w)
+      pub rounds_stop : s.merges ≡ st.merges → OptionsIn o → EndedAs z 511 (Ok s) ws₁ xs₁ p (rounds_of z o o.rounds w)
       rounds_stop e k =
           let last = rest true (eq-eqb s.merges st.merges e) ∙ if_true _ _ refl in
           ended_at (omega (arith, k.rounds)) (subst (RunAt z (1 + 2 * j + 1) s ws₁ xs₁ p) (sym last) layered)
 
-    module _ (n : s.merges ≡ st.merges → ⊥) {r : Step} {ws₂ xs₂ : List ℕ} (stream : StreamCall z o s ws₁ xs₁ r ws₂ xs₂) where
+    module _ (n : s.merges ≡ st.merges → ⊥) {r : Result State ExpansionLimit} {ws₂ xs₂ : List ℕ} (stream : StreamCall z o s ws₁ xs₁ r ws₂ xs₂) where
       module _ {p : Program} {w : Work} (h : RunAt z 1 st₀ ws₀ xs₀ p w) where
         abbrev next : Work
         next = stream_of z o (layers_of z (here h).now)
@@ -113,15 +113,15 @@ module _ {z : Shape} {o : Options} {st₀ : State} {ws₀ xs₀ ws xs : List ℕ
         rest_on : rounds_of z o o.rounds w ≡ rounds_of z o (o.rounds - (j + 1)) (stream_of z o (layers_of z (here h).now))
         rest_on = rest h false (ne_eqb s.merges st.merges n) ∙ if_false _ _ refl
 
-        pub rounds_limit : r ≡ ExpansionLimit → EndedAs z 511 ExpansionLimit ws₂ xs₂ p (rounds_of z o o.rounds w)
+        pub rounds_limit : r ≡ Err expansion_limit → EndedAs z 511 (Err expansion_limit) ws₂ xs₂ p (rounds_of z o o.rounds w)
         rounds_limit e =
             ended_limit (subst (λ (v : Work). z.limit < v.store.peak) (sym rest_on)
             (lt_of_lt_of_le (streamed.refused e) (litinski_from_rises z.l (rules_of o) (o.rounds - (j + 1)) _)))
 
-        rounds_now : (q : State) → r ≡ Next q → RoundsNow z o ws₂ xs₂ q (j + 1) p w
+        rounds_now : (q : State) → r ≡ Ok q → RoundsNow z o ws₂ xs₂ q (j + 1) p w
         rounds_now q e = record { now = next; same = rest_on; at = later (omega arith) (streamed.done q e) }
 
-      pub rounds_next : (q : State) → r ≡ Next q → RoundsDone z o st₀ ws₀ xs₀ ws₂ xs₂ q (j + 1)
+      pub rounds_next : (q : State) → r ≡ Ok q → RoundsDone z o st₀ ws₀ xs₀ ws₂ xs₂ q (j + 1)
       rounds_next q e = record {
         index = omega arith;
         long = long_then (long_then b.long layers.0) stream.0;
@@ -130,7 +130,7 @@ module _ {z : Shape} {o : Options} {st₀ : State} {ws₀ xs₀ ws xs : List ℕ
 
 pub rounds_end : {z : Shape} {o : Options} {st₀ : State} {ws₀ xs₀ ws xs : List ℕ} {st : State} {j : ℕ}
     → RoundsDone z o st₀ ws₀ xs₀ ws xs st j → o.rounds ≤ j → OptionsIn o
-    → (p : Program) (w : Work) → RunAt z 1 st₀ ws₀ xs₀ p w → EndedAs z 511 (Next st) ws xs p (rounds_of z o o.rounds w)
+    → (p : Program) (w : Work) → RunAt z 1 st₀ ws₀ xs₀ p w → EndedAs z 511 (Ok st) ws xs p (rounds_of z o o.rounds w)
 unfolding litinski_from
 rounds_end {z} {o} {ws = ws} {xs = xs} {st = st} {j = j} b e k p w h =
     let n = b.at p w h in
@@ -142,7 +142,7 @@ rounds_end {z} {o} {ws = ws} {xs = xs} {st = st} {j = j} b e k p w h =
 
 -- "Rounds 0 does nothing."
 pub litinski_zero : (o : Options) {z : Shape} {st : State} {ws xs : List ℕ} {p : Program} {w : Work} → RunAt z 0 st ws xs p w
-    → o.rounds ≡ 0 → EndedAs z 511 (Next st) ws xs p (litinski_rounds z.l (rules_of o) o.rounds w)
+    → o.rounds ≡ 0 → EndedAs z 511 (Ok st) ws xs p (litinski_rounds z.l (rules_of o) o.rounds w)
 unfolding litinski_rounds
 litinski_zero o {z} {st} {ws} {xs} {p} {w} r e =
     ended_at (omega arith) (subst (RunAt z 0 st ws xs p) (sym (ap (λ (k : ℕ). litinski_rounds z.l (rules_of o) k w) e)) r)
@@ -155,16 +155,16 @@ after_stream z o w n =
     let f : o.rounds ≡ suc (o.rounds - 1) = omega (arith, n) in
     ap (λ (k : ℕ). litinski_rounds z.l (rules_of o) k w) f ∙ ap (λ (k : ℕ). rounds_of z o k (stream_of z o w)) (sym f)
 
-module _ (o : Options) (w : Work) (n : o.rounds ≡ 0 → ⊥) {z : Shape} {r : Step} {ws xs : List ℕ} {p : Program}
+module _ (o : Options) (w : Work) (n : o.rounds ≡ 0 → ⊥) {z : Shape} {r : Result State ExpansionLimit} {ws xs : List ℕ} {p : Program}
     (h : EndedAs z (0 + 1) r ws xs p (stream_of z o w)) where
-  pub litinski_limit : r ≡ ExpansionLimit → EndedAs z 511 ExpansionLimit ws xs p (litinski_rounds z.l (rules_of o) o.rounds w)
+  pub litinski_limit : r ≡ Err expansion_limit → EndedAs z 511 (Err expansion_limit) ws xs p (litinski_rounds z.l (rules_of o) o.rounds w)
   litinski_limit e =
       ended_limit (subst (λ (v : Work). z.limit < v.store.peak) (sym (after_stream z o w n))
       (lt_of_lt_of_le (h.refused e) (litinski_from_rises z.l (rules_of o) o.rounds _)))
 
-  pub litinski_some : (s : State) → r ≡ Next s → SomeRun z 1 s ws xs
+  pub litinski_some : (s : State) → r ≡ Ok s → SomeRun z 1 s ws xs
   litinski_some s e = record { program = p; work = _; at = h.done s e }
 
-  pub litinski_end : {q : Step} {ws' xs' : List ℕ} → EndedAs z 511 q ws' xs' p (rounds_of z o o.rounds (stream_of z o w))
+  pub litinski_end : {q : Result State ExpansionLimit} {ws' xs' : List ℕ} → EndedAs z 511 q ws' xs' p (rounds_of z o o.rounds (stream_of z o w))
       → EndedAs z 511 q ws' xs' p (litinski_rounds z.l (rules_of o) o.rounds w)
   litinski_end {q} {ws'} {xs'} k = subst (EndedAs z 511 q ws' xs' p) (sym (after_stream z o w n)) k

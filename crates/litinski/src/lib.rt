@@ -7,8 +7,8 @@ ghost use Rattle.model.specs.Rounds.{Work, litinski_from, litinski_rounds};
 ghost use Rattle.points.specs.Points.{SomeRun, OptionsIn, SameLong, RunAt, EndedAs};
 
 use layout::Shape;
-use model::Options;
-use steps::{State, Step};
+use model::{ExpansionLimit, Options};
+use steps::State;
 
 // Rounds of layers, each with a stream behind it, until one merges nothing.
 fn litinski_from(
@@ -17,7 +17,7 @@ fn litinski_from(
     shape: Shape,
     options: Options,
     first: State,
-) -> Step
+) -> Result<State, ExpansionLimit>
     requires { SomeRun shape 1 first words.old numbers.old × OptionsIn options }
     ensures { SameLong words.old numbers.old words.new numbers.new
         × ((p : Program) (w : Work) → RunAt shape 1 first words.old numbers.old p w
@@ -28,15 +28,12 @@ fn litinski_from(
     for j in 0..options.rounds {
         let s = points::layering_pass(&words[..], numbers, shape, run);
         if s.merges == run.merges {
-            return Step::Next(s);
+            return Ok(s);
         }
-        let e = points::stream_pass(words, numbers, shape, options, false, s);
-        let Step::Next(next) = e else {
-            return Step::ExpansionLimit;
-        };
+        let next = points::stream_pass(words, numbers, shape, options, false, s)?;
         run = next;
     }
-    Step::Next(run)
+    Ok(run)
 }
 
 // Litinski's strategy.
@@ -46,7 +43,7 @@ pub fn litinski_rounds(
     shape: Shape,
     options: Options,
     first: State,
-) -> Step
+) -> Result<State, ExpansionLimit>
     requires { SomeRun shape 0 first words.old numbers.old × OptionsIn options }
     ensures { SameLong words.old numbers.old words.new numbers.new
         × ((p : Program) (w : Work) → RunAt shape 0 first words.old numbers.old p w
@@ -54,11 +51,8 @@ pub fn litinski_rounds(
         (litinski_rounds shape.l (rules_of options) options.rounds w)) }
 {
     if options.rounds == 0 {
-        return Step::Next(first);
+        return Ok(first);
     }
-    let e = points::stream_pass(words, numbers, shape, options, false, first);
-    let Step::Next(run) = e else {
-        return Step::ExpansionLimit;
-    };
+    let run = points::stream_pass(words, numbers, shape, options, false, first)?;
     litinski_from(words, numbers, shape, options, run)
 }

@@ -1,5 +1,5 @@
 -- All rounds of the merge strategy: what is left of them, from the work that memory holds, comes to the same. Assumes nothing.
-use Rattle.std.specs.Prelude.{◌≡◌, refl, Bool, true, false, ◌&&◌, List, [], ◌∷◌, ℕ, zero, suc, ◌+◌, ◌-◌, ◌*◌, ◌≤◌, ◌<◌, eqb, leb, length}
+use Rattle.std.specs.Prelude.{◌≡◌, refl, Bool, true, false, ◌&&◌, List, [], ◌∷◌, ℕ, zero, suc, ◌+◌, ◌-◌, ◌*◌, ◌≤◌, ◌<◌, eqb, leb, length, Result, Ok, Err}
 use Rattle.std.proofs.Common.{sym, ◌∙◌, subst, lt_of_lt_of_le, arith}
 use Rattle.std.proofs.Math.Path.{ap}
 use Rattle.std.proofs.Math.Bool.{not}
@@ -16,8 +16,8 @@ use Rattle.layout.specs.Rows.{items_row}
 use Rattle.items.specs.View.{items_in}
 use Rattle.item_lists.specs.Count.{RunPre}
 use Rattle.steps.specs.declared.State.{State}
-use Rattle.steps.specs.declared.Step.{Step}
-use Rattle.steps.specs.declared.Step.TheVariants.{Next, ExpansionLimit}
+use Rattle.model.specs.declared.ExpansionLimit.{ExpansionLimit}
+use Rattle.model.specs.Interface.{expansion_limit}
 use Rattle.points.specs.Demands.{items_count}
 use Rattle.points.specs.Points.{RunAt, SomeRun, OptionsIn, SameLong, long_same, long_then, EndedAs, later, ended_at, ended_limit}
 use Rattle.merge_rounds.specs.OneRound.{round_of, RoundCall, count_pre, items_are}
@@ -94,7 +94,7 @@ module _ {z : Shape} {o : Options} {st₀ : State} {ws₀ xs₀ ws xs : List ℕ
       let n = b.at f.program f.work f.at in
       record { program = f.program; work = n.now; at = later (omega (arith, k.rounds)) n.at }
 
-  module _ {r : Step} {ws' xs' : List ℕ} (call : RoundCall z o st ws xs r ws' xs') where
+  module _ {r : Result State ExpansionLimit} {ws' xs' : List ℕ} (call : RoundCall z o st ws xs r ws' xs') where
     module _ {p : Program} {w : Work} (h : RunAt z 0 st₀ ws₀ xs₀ p w) where
       here : RoundsNow z o ws xs st t j p w
       here = b.at p w h
@@ -117,15 +117,15 @@ module _ {z : Shape} {o : Options} {st₀ : State} {ws₀ xs₀ ws xs : List ℕ
           (let e : o.rounds - j ≡ (o.rounds - (j + 1)) + 1 = omega arith in e)
           ∙ one_more z o (o.rounds - (j + 1)) here.before here.now
 
-      pub rounds_limit : r ≡ ExpansionLimit → EndedAs z 510 ExpansionLimit ws' xs' p (all_rounds z o w)
+      pub rounds_limit : r ≡ Err expansion_limit → EndedAs z 510 (Err expansion_limit) ws' xs' p (all_rounds z o w)
       rounds_limit e =
           ended_limit (subst (λ (v : Work). z.limit < v.store.peak) (sym rest)
           (lt_of_lt_of_le (step.refused e) (rounds_from_rises z.l (rules_of o) (o.rounds - (j + 1)) _ _ next)))
 
-      pub rounds_count : (s : State) → r ≡ Next s → RunPre xs' z.u items_row 0 s.out
+      pub rounds_count : (s : State) → r ≡ Ok s → RunPre xs' z.u items_row 0 s.out
       rounds_count s e = count_pre (step.done s e)
 
-      module _ (s : State) (e : r ≡ Next s) (left : ℕ) (count : left ≡ t_count (items_in xs' z.u items_row 0 (s.out - 0))) where
+      module _ (s : State) (e : r ≡ Ok s) (left : ℕ) (count : left ≡ t_count (items_in xs' z.u items_row 0 (s.out - 0))) where
         at_next : RunAt z (2 * j + 2) s ws' xs' p (round_of z o here.now)
         at_next = step.done s e
 
@@ -146,7 +146,7 @@ module _ {z : Shape} {o : Options} {st₀ : State} {ws₀ xs₀ ws xs : List ℕ
         rest_by x f = rest ∙ ap (λ (y : Bool). rounds_of z o (o.rounds - (j + 1)) y was next) (goes ∙ ap not f)
 
         pub rounds_stop : OptionsIn o → eqb s.swaps st.swaps && leb t left ≡ true
-            → EndedAs z 510 (Next s) ws' xs' p (all_rounds z o w)
+            → EndedAs z 510 (Ok s) ws' xs' p (all_rounds z o w)
         rounds_stop k f =
             let last : all_rounds z o w ≡ next = rest_by true f ∙ stopped z.l (rules_of o) (o.rounds - (j + 1)) was next in
             ended_at (omega (arith, k.rounds)) (subst (RunAt z (2 * j + 2) s ws' xs' p) (sym last) at_next)
@@ -160,7 +160,7 @@ module _ {z : Shape} {o : Options} {st₀ : State} {ws₀ xs₀ ws xs : List ℕ
           compares = λ n g. ap (λ (x : ℕ). leb x n) (sym left_is);
         }
 
-    pub rounds_next : (s : State) → r ≡ Next s → (left : ℕ) → left ≡ t_count (items_in xs' z.u items_row 0 (s.out - 0))
+    pub rounds_next : (s : State) → r ≡ Ok s → (left : ℕ) → left ≡ t_count (items_in xs' z.u items_row 0 (s.out - 0))
         → eqb s.swaps st.swaps && leb t left ≡ false → RoundsDone z o st₀ ws₀ xs₀ ws' xs' s left (j + 1)
     rounds_next s e left count f = record {
       index = omega arith;
@@ -170,7 +170,7 @@ module _ {z : Shape} {o : Options} {st₀ : State} {ws₀ xs₀ ws xs : List ℕ
 
 pub rounds_end : {z : Shape} {o : Options} {st₀ : State} {ws₀ xs₀ ws xs : List ℕ} {st : State} {t j : ℕ}
     → RoundsDone z o st₀ ws₀ xs₀ ws xs st t j → o.rounds ≤ j → OptionsIn o
-    → (p : Program) (w : Work) → RunAt z 0 st₀ ws₀ xs₀ p w → EndedAs z 510 (Next st) ws xs p (all_rounds z o w)
+    → (p : Program) (w : Work) → RunAt z 0 st₀ ws₀ xs₀ p w → EndedAs z 510 (Ok st) ws xs p (all_rounds z o w)
 unfolding rounds_from
 rounds_end {z} {o} {ws = ws} {xs = xs} {st = st} {j = j} b e k p w h =
     let n = b.at p w h in

@@ -8,8 +8,8 @@ ghost use Rattle.model.specs.Rounds.{Work, merge_round, rounds_from, no_round, c
 ghost use Rattle.points.specs.Points.{SomeRun, OptionsIn, SameLong, RunAt, EndedAs};
 
 use layout::{ITEMS, Shape};
-use model::Options;
-use steps::{State, Step};
+use model::{ExpansionLimit, Options};
+use steps::State;
 
 // A stream, and exchanges behind it.
 fn merge_round(
@@ -18,17 +18,14 @@ fn merge_round(
     shape: Shape,
     options: Options,
     run: State,
-) -> Step
+) -> Result<State, ExpansionLimit>
     requires { SomeRun shape 510 run words.old numbers.old × OptionsIn options }
     ensures { SameLong words.old numbers.old words.new numbers.new
         × ((i : ℕ) (p : Program) (w : Work) → RunAt shape i run words.old numbers.old p w
         → EndedAs shape (i + 2) result words.new numbers.new p (merge_round shape.l (rules_of options) w)) }
 {
-    let e = points::stream_pass(words, numbers, shape, options, true, run);
-    let Step::Next(s) = e else {
-        return Step::ExpansionLimit;
-    };
-    Step::Next(points::exchange_pass(&words[..], numbers, shape, options, s))
+    let s = points::stream_pass(words, numbers, shape, options, true, run)?;
+    Ok(points::exchange_pass(&words[..], numbers, shape, options, s))
 }
 
 // Rounds until one has no exchange and no lower T-count than the one before, which left t.
@@ -38,7 +35,7 @@ fn rounds_from(
     shape: Shape,
     options: Options,
     first: State,
-) -> Step
+) -> Result<State, ExpansionLimit>
     requires { SomeRun shape 0 first words.old numbers.old × OptionsIn options }
     ensures { SameLong words.old numbers.old words.new numbers.new
         × ((p : Program) (w : Work) → RunAt shape 0 first words.old numbers.old p w
@@ -49,18 +46,15 @@ fn rounds_from(
     // above every T-count, so that the first round is not the last
     let mut t = shape.operations + 1;
     for j in 0..options.rounds {
-        let e = merge_round(words, numbers, shape, options, run);
-        let Step::Next(s) = e else {
-            return Step::ExpansionLimit;
-        };
+        let s = merge_round(words, numbers, shape, options, run)?;
         let left = item_lists::t_count(&numbers[..], shape.u, ITEMS, 0, s.out);
         if (s.swaps == run.swaps) & (t <= left) {
-            return Step::Next(s);
+            return Ok(s);
         }
         run = s;
         t = left;
     }
-    Step::Next(run)
+    Ok(run)
 }
 
 // One more stream, if even rotations are to be absorbed and one is left.
@@ -70,7 +64,7 @@ fn closing_stream(
     shape: Shape,
     options: Options,
     run: State,
-) -> Step
+) -> Result<State, ExpansionLimit>
     requires { SomeRun shape 511 run words.old numbers.old × OptionsIn options }
     ensures { SameLong words.old numbers.old words.new numbers.new
         × ((i : ℕ) (p : Program) (w : Work) → RunAt shape i run words.old numbers.old p w
@@ -78,15 +72,15 @@ fn closing_stream(
         (closing_stream shape.l (rules_of options) options.rounds w)) }
 {
     if options.rounds == 0 {
-        return Step::Next(run);
+        return Ok(run);
     }
     if !options.clifford_to_frame {
-        return Step::Next(run);
+        return Ok(run);
     }
     if item_lists::any_even(&numbers[..], shape.u, ITEMS, 0, run.out) {
         return points::stream_pass(words, numbers, shape, options, true, run);
     }
-    Step::Next(run)
+    Ok(run)
 }
 
 // The merge strategy.
@@ -96,16 +90,13 @@ pub fn merge_rounds(
     shape: Shape,
     options: Options,
     first: State,
-) -> Step
+) -> Result<State, ExpansionLimit>
     requires { SomeRun shape 0 first words.old numbers.old × OptionsIn options }
     ensures { SameLong words.old numbers.old words.new numbers.new
         × ((p : Program) (w : Work) → RunAt shape 0 first words.old numbers.old p w
         → EndedAs shape 511 result words.new numbers.new p
         (merge_rounds shape.l (rules_of options) options.rounds w)) }
 {
-    let e = rounds_from(words, numbers, shape, options, first);
-    let Step::Next(run) = e else {
-        return Step::ExpansionLimit;
-    };
+    let run = rounds_from(words, numbers, shape, options, first)?;
     closing_stream(words, numbers, shape, options, run)
 }

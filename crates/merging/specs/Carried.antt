@@ -1,5 +1,5 @@
 -- A rotation is carried, then taken. Assumes nothing.
-use Rattle.std.specs.Prelude.{◌≡◌, Bool, List, ℕ, ◌≤◌, ◌<◌, length}
+use Rattle.std.specs.Prelude.{◌≡◌, Bool, List, ℕ, ◌≤◌, ◌<◌, length, Result, Ok, Err}
 use Rattle.std.proofs.Common.{sym, ap, ap₂, ◌∙◌, subst, arith}
 use Rattle.stream_states.specs.Known.{axes_count}
 use Rattle.model.specs.declared.Absorption.{Absorption}
@@ -15,8 +15,8 @@ use Rattle.run_wellformed.specs.CliffordAngles.{with_sign_turns}
 use Rattle.clifford.specs.Holds.{SomeTouched}
 use Rattle.carrying.specs.Carrying.{CarryPre}
 use Rattle.steps.specs.declared.State.{State}
-use Rattle.steps.specs.declared.Step.{Step}
-use Rattle.steps.specs.declared.Step.TheVariants.{Next, ExpansionLimit}
+use Rattle.model.specs.declared.ExpansionLimit.{ExpansionLimit}
+use Rattle.model.specs.Interface.{expansion_limit}
 use Rattle.stream_states.specs.declared.StreamRules.{StreamRules}
 use Rattle.stream_states.specs.States.{held_of, SomePass, SteppedAs, as_limit, stepped_from}
 use Rattle.stream_states.specs.Carrying.{CarryPass, CarryLeft, carry_pre, carry_refused, carried_at, carried_in, carried_id, carried_turns}
@@ -37,9 +37,9 @@ pub carrying_some : {z : Shape} {c : StreamRules} {st : State} {a k : ℕ} {ws x
     → SomePass (λ m n p. CarryingAt z c st a k ws xs m n p) → SomeTouched (λ (t : Touched). CarryPre z st a ws xs t)
 carrying_some s = record { state = held_of s.pass; it = carry_pre s.it.carry }
 
-module _ {z : Shape} {c : StreamRules} {st : State} {a k : ℕ} {ws xs : List ℕ} {r : Step} {ws' xs' : List ℕ}
+module _ {z : Shape} {c : StreamRules} {st : State} {a k : ℕ} {ws xs : List ℕ} {r : Result State ExpansionLimit} {ws' xs' : List ℕ}
     (call : CarryLeft z st a ws xs r ws' xs') {m : Absorption} {n : ℕ} {p : Pass} (h : CarryingAt z c st a k ws xs m n p) where
-  module _ {s : State} (e : r ≡ Next s) {k' : ℕ} (sign : k' ≡ with_sign s.turns k) where
+  module _ {s : State} (e : r ≡ Ok s) {k' : ℕ} (sign : k' ≡ with_sign s.turns k) where
     merges_same : s.merges ≡ st.merges
     merges_same = ap (λ (x : State). x.merges) (carried_same h.carry call e)
 
@@ -71,7 +71,7 @@ module _ {z : Shape} {c : StreamRules} {st : State} {a k : ℕ} {ws xs : List �
         }
 
     -- the model's arguments
-    pub taken_as : {q : Step} {ws'' xs'' : List ℕ} (g : Rules) (merging : Bool)
+    pub taken_as : {q : Result State ExpansionLimit} {ws'' xs'' : List ℕ} (g : Rules) (merging : Bool)
         → SteppedAs z m 1 1 s q ws'' xs'' (take_rotation z.l g merging (carry_axis z.l p a) s.id k')
         → SteppedAs z m 1 1 st q ws'' xs'' (take_rotation z.l g merging (carry_axis z.l p a) (image_id z.l (carry_axis z.l p a) a)
         (with_sign (axis_image z.l (carry_axis z.l p a) a).turns k))
@@ -82,7 +82,7 @@ module _ {z : Shape} {c : StreamRules} {st : State} {a k : ℕ} {ws xs : List �
         (stepped_from 1 1 t (omega (arith, merges_same)) (omega (arith, absorbed_same)))
 
   -- the limit refuses the image
-  pub carried_limit : r ≡ ExpansionLimit → (g : Rules) (merging : Bool) {ws'' xs'' : List ℕ} (b k' : ℕ)
-      → SteppedAs z m 1 1 st ExpansionLimit ws'' xs'' (take_rotation z.l g merging (carry_axis z.l p a) b k')
+  pub carried_limit : r ≡ Err expansion_limit → (g : Rules) (merging : Bool) {ws'' xs'' : List ℕ} (b k' : ℕ)
+      → SteppedAs z m 1 1 st (Err expansion_limit) ws'' xs'' (take_rotation z.l g merging (carry_axis z.l p a) b k')
   carried_limit e g merging b k' =
       as_limit (omega (arith, carry_refused h.carry call e, take_rotation_rises z.l g merging (carry_axis z.l p a) b k'))

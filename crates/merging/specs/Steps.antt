@@ -1,7 +1,7 @@
 -- The steps of a rotation that was carried: put out, left as a zero, absorbed, merged. Assumes nothing.
 use Rattle.std.proofs.Math.Path.{◌≡◌, refl, sym, ap, subst}
 use Rattle.std.proofs.Common.{◌∙◌}
-use Rattle.std.specs.Prelude.{Bool, true, false, not, ◌&&◌, List, [], ◌∷◌, eqb, length}
+use Rattle.std.specs.Prelude.{Bool, true, false, not, ◌&&◌, List, [], ◌∷◌, eqb, length, Option, Some, Result, Ok, Err}
 use Prim.Native.Nat.{ℕ, suc, ◌+◌, ◌*◌, ◌≤◌, ◌<◌}
 use Rattle.std.proofs.Math.Decide.{ℕ_discrete}
 use native.Mathlib.Omega.{arith}
@@ -27,12 +27,10 @@ use Rattle.waiting.specs.Places.{place_in, Named}
 use Rattle.waiting.specs.Inserting.{InsertPre, Inserted}
 use Rattle.words_wellformed.specs.HeldImages.{IsQuarters}
 use Rattle.clifford.specs.Holds.{Holds, SomeTouched, f_rows, LeftF, TouchedAs, mask_place}
-use Rattle.absorbing.specs.declared.Source.{Source}
-use Rattle.absorbing.specs.declared.Source.TheVariants.{Axis}
+use Rattle.model.specs.declared.ExpansionLimit.{ExpansionLimit}
+use Rattle.model.specs.Interface.{expansion_limit}
 use Rattle.absorbing.specs.Absorbing.{CarriesTo, AbsorbAt}
 use Rattle.steps.specs.declared.State.{State}
-use Rattle.steps.specs.declared.Step.{Step}
-use Rattle.steps.specs.declared.Step.TheVariants.{Next, ExpansionLimit}
 use Rattle.stream_states.specs.declared.StreamRules.{StreamRules}
 use Rattle.steps.specs.State.{with_slots, with_out, with_waiting, with_absorbed}
 use Rattle.stream_states.specs.States.{held_of, is_waiting, HoldsPass, PassAt, SomePass, lazy_only, stream_rows}
@@ -170,12 +168,12 @@ module _ {z : Shape} {c : StreamRules} {st : State} {id k a : ℕ} {xs xs₁ xs�
 abbrev pub absorb_rows : List ℕ
 absorb_rows = out_row ∷ (out_row + 1) ∷ (out_row + 2) ∷ last_row ∷ f_rows
 
-pub record LeftAbsorbed (z : Shape) (st : State) (ws xs : List ℕ) (r : Step) (ws' xs' : List ℕ) : Type 0 where
+pub record LeftAbsorbed (z : Shape) (st : State) (ws xs : List ℕ) (r : Result State ExpansionLimit) (ws' xs' : List ℕ) : Type 0 where
   pub words : KeptFrom (mask_place z + z.l) ws ws'
   pub numbers : Only absorb_rows z.u xs xs'
-  pub list : (s : State) → r ≡ Next s → s.waiting ≡ st.waiting
+  pub list : (s : State) → r ≡ Ok s → s.waiting ≡ st.waiting
 
-pub absorbed_left : {z : Shape} {st : State} {ws xs : List ℕ} {r : Step} {ws' xs' : List ℕ} → LeftAbsorbed z st ws xs r ws' xs'
+pub absorbed_left : {z : Shape} {st : State} {ws xs : List ℕ} {r : Result State ExpansionLimit} {ws' xs' : List ℕ} → LeftAbsorbed z st ws xs r ws' xs'
     → LeftS z ws xs ws' xs'
 unfolding all_of member any_of
 absorbed_left h = record { words = h.words; numbers = only_of stream_rows refl h.numbers }
@@ -206,14 +204,14 @@ zero_left {z} {j} {id} {xs} pre wrote put = record {
 
 -- ---- F changes, the output stays
 
-pub record AbsorbingAt (z : Shape) (st : State) (id k : ℕ) (source : Source) (ws xs : List ℕ) (m : Absorption) (n : ℕ) (p : Pass) : Type 0 where
+pub record AbsorbingAt (z : Shape) (st : State) (id k : ℕ) (source : Option ℕ) (ws xs : List ℕ) (m : Absorption) (n : ℕ) (p : Pass) : Type 0 where
   pub at : PassAt z m n st ws xs p
   pub id_in : id < st.axes
   pub quarters : IsQuarters k
   pub few : st.absorbed < 9223372036854775808
-  pub known : (a : ℕ) → source ≡ Axis a → CarriesTo z st.axes a id (held_of p)
+  pub known : (a : ℕ) → source ≡ Some a → CarriesTo z st.axes a id (held_of p)
 
-module _ {z : Shape} {st : State} {id k : ℕ} {source : Source} {ws xs : List ℕ} {m : Absorption} {n : ℕ} {p : Pass}
+module _ {z : Shape} {st : State} {id k : ℕ} {source : Option ℕ} {ws xs : List ℕ} {m : Absorption} {n : ℕ} {p : Pass}
     (h : AbsorbingAt z st id k source ws xs m n p) where
   pub absorb_there : AbsorbAt z st.axes st.slots st.peak id k source ws xs (held_of p)
   absorb_there = record {
@@ -226,39 +224,39 @@ module _ {z : Shape} {st : State} {id k : ℕ} {source : Source} {ws xs : List �
     known = h.known;
   }
 
-pub absorb_some : {z : Shape} {st : State} {id k : ℕ} {source : Source} {ws xs : List ℕ}
+pub absorb_some : {z : Shape} {st : State} {id k : ℕ} {source : Option ℕ} {ws xs : List ℕ}
     → SomePass (λ m n p. AbsorbingAt z st id k source ws xs m n p)
     → SomeTouched (λ (t : Touched). AbsorbAt z st.axes st.slots st.peak id k source ws xs t)
 absorb_some s = record { state = held_of s.pass; it = absorb_there s.it }
 
 -- what the call leaves
-abbrev pub AbsorbLeft : Shape → State → ℕ → ℕ → Source → List ℕ → List ℕ → Step → List ℕ → List ℕ → Type 0
+abbrev pub AbsorbLeft : Shape → State → ℕ → ℕ → Option ℕ → List ℕ → List ℕ → Result State ExpansionLimit → List ℕ → List ℕ → Type 0
 AbsorbLeft z st id k source ws xs r ws' xs' =
     LeftF z ws xs ws' xs'
     × ((t : Touched) → AbsorbAt z st.axes st.slots st.peak id k source ws xs t
     → TouchedAs z st r ws' xs' (absorb_word z.l t (word_of t.store.axes id) k))
 
-module _ {z : Shape} {st : State} {id k : ℕ} {source : Source} {ws xs ws' xs' : List ℕ} {r : Step}
+module _ {z : Shape} {st : State} {id k : ℕ} {source : Option ℕ} {ws xs ws' xs' : List ℕ} {r : Result State ExpansionLimit}
     (call : AbsorbLeft z st id k source ws xs r ws' xs') {m : Absorption} {n : ℕ} {p : Pass} (h : AbsorbingAt z st id k source ws xs m n p) where
-  pub absorbed_limit : r ≡ ExpansionLimit → SteppedAs z m 0 1 st ExpansionLimit ws' xs' (absorb z.l p id k)
+  pub absorbed_limit : r ≡ Err expansion_limit → SteppedAs z m 0 1 st (Err expansion_limit) ws' xs' (absorb z.l p id k)
   unfolding absorb
   absorbed_limit e = as_limit ((call.1 (held_of p) (absorb_there h)).refused e)
 
-  module _ {s : State} (e : r ≡ Next s) where
+  module _ {s : State} (e : r ≡ Ok s) where
     same : s ≡ with_slots s.peak s.slots st
     same = (call.1 (held_of p) (absorb_there h)).kept s e
 
-    pub absorbed_next : SteppedAs z m 0 1 st (Next (with_absorbed (st.absorbed + 1) s)) ws' xs' (absorb z.l p id k)
+    pub absorbed_next : SteppedAs z m 0 1 st (Ok (with_absorbed (st.absorbed + 1) s)) ws' xs' (absorb z.l p id k)
     unfolding absorb member any_of
     absorbed_next =
-        subst (λ (x : State). SteppedAs z m 0 1 st (Next (with_absorbed (st.absorbed + 1) x)) ws' xs' (absorb z.l p id k)) (sym same)
+        subst (λ (x : State). SteppedAs z m 0 1 st (Ok (with_absorbed (st.absorbed + 1) x)) ws' xs' (absorb z.l p id k)) (sym same)
         (as_next (pass_other call.0.numbers refl refl refl h.at.holds (absorb z.l p id k)
         (subst (λ (x : State). Holds z x.axes x.slots x.peak ws' xs' (held_of (absorb z.l p id k))) same
         ((call.1 (held_of p) (absorb_there h)).held s e)) refl refl h.at.holds.merges_are
         (ap suc h.at.holds.absorbed_are ∙ (let f : suc st.absorbed ≡ st.absorbed + 1 = omega arith in f)))
         (omega arith) (omega arith))
 
-    pub f_next : LeftAbsorbed z st ws xs (Next (with_absorbed (st.absorbed + 1) s)) ws' xs'
+    pub f_next : LeftAbsorbed z st ws xs (Ok (with_absorbed (st.absorbed + 1) s)) ws' xs'
     unfolding all_of member any_of
     f_next = record {
       words = call.0.words;
@@ -269,7 +267,7 @@ module _ {z : Shape} {st : State} {id k : ℕ} {source : Source} {ws xs ws' xs' 
     }
 
 module _ {z : Shape} {st : State} {ws xs ws' xs' : List ℕ} (h : LeftF z ws xs ws' xs') where
-  pub f_limit : LeftAbsorbed z st ws xs ExpansionLimit ws' xs'
+  pub f_limit : LeftAbsorbed z st ws xs (Err expansion_limit) ws' xs'
   unfolding all_of member any_of
   f_limit = record {
     words = h.words;

@@ -1,5 +1,5 @@
 -- A carried rotation: absorbed at once, merged where `last` names a place that it reaches, or put out. Assumes nothing.
-use Rattle.std.specs.Prelude.{◌≡◌, ◌⊎◌, Bool, true, false, not, ◌&&◌, ℕ, zero, suc, ◌+◌, ◌-◌, ◌*◌, ◌%◌, ◌≤◌, ◌<◌, ltb}
+use Rattle.std.specs.Prelude.{◌≡◌, ◌⊎◌, Bool, true, false, not, ◌&&◌, ℕ, zero, suc, ◌+◌, ◌-◌, ◌*◌, ◌%◌, ◌≤◌, ◌<◌, ltb, Option, Some, Result, Ok, Err}
 use Rattle.std.proofs.Math.Path.{refl, ap, ap₂}
 use Rattle.std.proofs.Common.{sym, ◌∙◌, subst, inl, inr, arith, lt-ltb, le-ltb, ltb-true, ltb-false, eq-eqb, ne_eqb}
 use Rattle.std.proofs.lemmas.Bool.{false≢true, eqb-false}
@@ -14,8 +14,8 @@ use Rattle.model.specs.Stream.{can_reach}
 use Rattle.model.specs.Stream.{merge_at, merge_or_put_out, take_rotation}
 use Rattle.theory.specs.Cases.{if_true, if_false, and_right}
 use Rattle.layout.specs.declared.Shape.{Shape}
-use Rattle.absorbing.specs.declared.Source.{Source}
-use Rattle.absorbing.specs.declared.Source.TheVariants.{Axis}
+use Rattle.model.specs.declared.ExpansionLimit.{ExpansionLimit}
+use Rattle.model.specs.Interface.{expansion_limit}
 use Rattle.absorbing.specs.Absorbing.{CarriesTo}
 use Rattle.model.specs.Clifford.{Touched}
 use Rattle.layout.specs.Rows.{row_count, out_row}
@@ -29,8 +29,6 @@ use Rattle.items.specs.Put.{EntryPre, ItemPut, tagged_rotation}
 use Rattle.words_wellformed.specs.HeldImages.{IsQuarters}
 use Rattle.steps.specs.declared.State.{State}
 use Rattle.steps.specs.State.{with_merges}
-use Rattle.steps.specs.declared.Step.{Step}
-use Rattle.steps.specs.declared.Step.TheVariants.{Next, ExpansionLimit}
 use Rattle.stream_states.specs.declared.StreamRules.{StreamRules}
 use Rattle.stream_states.specs.States.{held_of, last_in, HoldsPass, FinePass, PassAt, SomePass, RulesAs, stream_rows}
 use Rattle.stream_states.specs.States.{LeftS, SteppedAs, as_next, as_limit, stepped_from}
@@ -40,30 +38,30 @@ use Rattle.merging.specs.Steps.{NamePre, PlaceNamed, PutPre, OutPut, LeftAbsorbe
 use Rattle.merging.specs.Reach.{ReachPre, reaches}
 
 -- the source that was told is the one that is known
-same_axis : {z : Shape} {n a id : ℕ} {t : Touched} (b : ℕ) → Axis a ≡ Axis b → CarriesTo z n a id t → CarriesTo z n b id t
+same_axis : {z : Shape} {n a id : ℕ} {t : Touched} (b : ℕ) → Some a ≡ Some b → CarriesTo z n a id t → CarriesTo z n b id t
 same_axis {z} {n} {a} {id} {t} b e h = let f : a ≡ b = cc in subst (λ (x : ℕ). CarriesTo z n x id t) f h
 
 -- ---- a zero is left of what was absorbed
 
-pub record MergedAt (z : Shape) (st : State) (j id k : ℕ) (source : Source) (ws xs : List ℕ) (m : Absorption) (n : ℕ) (p : Pass) : Type 0 where
+pub record MergedAt (z : Shape) (st : State) (j id k : ℕ) (source : Option ℕ) (ws xs : List ℕ) (m : Absorption) (n : ℕ) (p : Pass) : Type 0 where
   pub at : AbsorbingAt z st id k source ws xs m n p
   pub place : j < st.out
 
 -- what the call that absorbs leaves
-abbrev pub AbsorbedLeft : Shape → State → ℕ → ℕ → Source → List ℕ → List ℕ → Step → List ℕ → List ℕ → Type 0
+abbrev pub AbsorbedLeft : Shape → State → ℕ → ℕ → Option ℕ → List ℕ → List ℕ → Result State ExpansionLimit → List ℕ → List ℕ → Type 0
 AbsorbedLeft z st id k source ws xs r ws' xs' =
     LeftAbsorbed z st ws xs r ws' xs'
     × ((m : Absorption) (n : ℕ) (p : Pass) → AbsorbingAt z st id k source ws xs m n p → SteppedAs z m 0 1 st r ws' xs' (absorb z.l p id k))
 
-pub merged_limit_left : {z : Shape} {st : State} {id k : ℕ} {source : Source} {ws xs ws₁ xs₁ : List ℕ} {r : Step}
+pub merged_limit_left : {z : Shape} {st : State} {id k : ℕ} {source : Option ℕ} {ws xs ws₁ xs₁ : List ℕ} {r : Result State ExpansionLimit}
     → AbsorbedLeft z st id k source ws xs r ws₁ xs₁
-    → r ≡ ExpansionLimit → LeftAbsorbed z st ws xs ExpansionLimit ws₁ xs₁
+    → r ≡ Err expansion_limit → LeftAbsorbed z st ws xs (Err expansion_limit) ws₁ xs₁
 merged_limit_left call e = record { words = call.0.words; numbers = call.0.numbers; list = λ s f. call.0.list s (e ∙ f) }
 
-module _ {z : Shape} {st : State} {j id k : ℕ} {source : Source} {ws xs ws₁ xs₁ : List ℕ} {r : Step}
+module _ {z : Shape} {st : State} {j id k : ℕ} {source : Option ℕ} {ws xs ws₁ xs₁ : List ℕ} {r : Result State ExpansionLimit}
     (call : AbsorbedLeft z st id k source ws xs r ws₁ xs₁) where
-  pub merged_limit : r ≡ ExpansionLimit → (m : Absorption) (n : ℕ) (p : Pass) → MergedAt z st j id k source ws xs m n p
-      → SteppedAs z m 0 1 st ExpansionLimit ws₁ xs₁ (leave_zero j id (absorb z.l p id k))
+  pub merged_limit : r ≡ Err expansion_limit → (m : Absorption) (n : ℕ) (p : Pass) → MergedAt z st j id k source ws xs m n p
+      → SteppedAs z m 0 1 st (Err expansion_limit) ws₁ xs₁ (leave_zero j id (absorb z.l p id k))
   unfolding leave_zero set_angle with_last
   merged_limit e m n p h = as_limit ((call.1 m n p h.at).refused e)
 
@@ -77,8 +75,8 @@ module _ {z : Shape} {st : State} {j id k : ℕ} {source : Source} {ws xs ws₁ 
         small = h.granted.sized.u_small;
       }
 
-  module _ {after : State} {xs₂ : List ℕ} (e : r ≡ Next after) (left : ZeroLeft z j id xs₁ xs₂) where
-    pub merged_left : LeftAbsorbed z st ws xs (Next after) ws₁ xs₂
+  module _ {after : State} {xs₂ : List ℕ} (e : r ≡ Ok after) (left : ZeroLeft z j id xs₁ xs₂) where
+    pub merged_left : LeftAbsorbed z st ws xs (Ok after) ws₁ xs₂
     merged_left = record {
       words = call.0.words;
       numbers = only_then call.0.numbers left.left;
@@ -86,7 +84,7 @@ module _ {z : Shape} {st : State} {j id k : ℕ} {source : Source} {ws xs ws₁ 
     }
 
     pub merged_next : (m : Absorption) (n : ℕ) (p : Pass) → MergedAt z st j id k source ws xs m n p
-        → SteppedAs z m 0 1 st (Next after) ws₁ xs₂ (leave_zero j id (absorb z.l p id k))
+        → SteppedAs z m 0 1 st (Ok after) ws₁ xs₂ (leave_zero j id (absorb z.l p id k))
     merged_next m n p h =
         let s = call.1 m n p h.at in
         let held = s.next after e in
@@ -207,21 +205,21 @@ module _ {z : Shape} {c : StreamRules} {st : State} {j id k a : ℕ} {ws xs : Li
     counted = counted_holds h.at.holds
 
     -- the result, by the sum that was worked out
-    result : {r : Step} {ws' xs' : List ℕ} → SteppedAs z m 1 1 st r ws' xs' (merge_at z.l m (count_merge p) j id ((old % 8 + k) % 8))
+    result : {r : Result State ExpansionLimit} {ws' xs' : List ℕ} → SteppedAs z m 1 1 st r ws' xs' (merge_at z.l m (count_merge p) j id ((old % 8 + k) % 8))
         → SteppedAs z m 1 1 st r ws' xs' (merge_at z.l m (count_merge p) j id ((angle_at p.out j + k) % 8))
     result {r} {ws'} {xs'} s = subst (λ (x : ℕ). SteppedAs z m 1 1 st r ws' xs' (merge_at z.l m (count_merge p) j id x)) sum_is s
 
     pub merge_to_zero : {xs' : List ℕ} → (old % 8 + k) % 8 ≡ 0 → ZeroLeft z j id xs xs'
-        → SteppedAs z m 1 1 st (Next (with_merges (st.merges + 1) st)) ws xs' (merge_at z.l m (count_merge p) j id ((angle_at p.out j + k) % 8))
+        → SteppedAs z m 1 1 st (Ok (with_merges (st.merges + 1) st)) ws xs' (merge_at z.l m (count_merge p) j id ((angle_at p.out j + k) % 8))
     merge_to_zero {xs'} e left =
-        result (subst (SteppedAs z m 1 1 st (Next (with_merges (st.merges + 1) st)) ws xs') (sym (merge_zero z.l m (count_merge p) j id _ e))
+        result (subst (SteppedAs z m 1 1 st (Ok (with_merges (st.merges + 1) st)) ws xs') (sym (merge_zero z.l m (count_merge p) j id _ e))
         (as_next (left.holds m (with_merges (st.merges + 1) st) ws (count_merge p) counted h.place) (omega arith) (omega arith)))
 
     module _ (n0 : (old % 8 + k) % 8 ≡ 0 → ⊥) {t : Bool} (said : t ≡ (is_at_once c.absorption && is_even ((old % 8 + k) % 8))) where
       once : t ≡ (is_at_once m && is_even ((old % 8 + k) % 8))
       once = said ∙ ap (λ (x : Absorption). is_at_once x && is_even ((old % 8 + k) % 8)) (sym h.mode)
 
-      pub merged_there : t ≡ true → MergedAt z (with_merges (st.merges + 1) st) j id ((old % 8 + k) % 8) (Axis a) ws xs m n (count_merge p)
+      pub merged_there : t ≡ true → MergedAt z (with_merges (st.merges + 1) st) j id ((old % 8 + k) % 8) (Some a) ws xs m n (count_merge p)
       merged_there e = record {
         at = record {
           at = record { granted = h.at.granted; holds = counted; fine = counted_fine h.at.fine; space = h.at.space };
@@ -233,7 +231,7 @@ module _ {z : Shape} {c : StreamRules} {st : State} {j id k a : ℕ} {ws xs : Li
         place = h.place;
       }
 
-      pub merge_at_once : {r : Step} {ws' xs' : List ℕ} → t ≡ true
+      pub merge_at_once : {r : Result State ExpansionLimit} {ws' xs' : List ℕ} → t ≡ true
           → SteppedAs z m 0 1 (with_merges (st.merges + 1) st) r ws' xs' (leave_zero j id (absorb z.l (count_merge p) id ((old % 8 + k) % 8)))
           → SteppedAs z m 1 1 st r ws' xs' (merge_at z.l m (count_merge p) j id ((angle_at p.out j + k) % 8))
       merge_at_once {r} {ws'} {xs'} e s =
@@ -251,11 +249,11 @@ module _ {z : Shape} {c : StreamRules} {st : State} {j id k a : ℕ} {ws xs : Li
         }
 
         pub merge_sets : {xs₂ : List ℕ} {s : State} → t ≡ false → PlaceNamed z c (with_merges (st.merges + 1) st) j ((old % 8 + k) % 8) xs₁ xs₂ s
-            → SteppedAs z m 1 1 st (Next s) ws xs₂ (merge_at z.l m (count_merge p) j id ((angle_at p.out j + k) % 8))
+            → SteppedAs z m 1 1 st (Ok s) ws xs₂ (merge_at z.l m (count_merge p) j id ((angle_at p.out j + k) % 8))
         merge_sets {xs₂} {s} e name =
             let a = ap (λ (x : State). x.merges) name.state in
             let b = ap (λ (x : State). x.absorbed) name.state in
-            result (subst (SteppedAs z m 1 1 st (Next s) ws xs₂) (sym (merge_stays z.l m (count_merge p) j id _ (sym once ∙ e) n0))
+            result (subst (SteppedAs z m 1 1 st (Ok s) ws xs₂) (sym (merge_stays z.l m (count_merge p) j id _ (sym once ∙ e) n0))
             (as_next (name.holds m ws (set_angle j id ((old % 8 + k) % 8) (count_merge p)) h.mode
             (angle_set (without_list st.waiting counted) put h.place (λ f. absurd (never f))) h.place
             (angle_waits counted put h.place))
@@ -398,7 +396,7 @@ module _ {z : Shape} {c : StreamRules} {st : State} {id k a : ℕ} {ws xs : List
   once_said : {t : Bool} → t ≡ (is_at_once c.absorption && is_even k) → t ≡ (is_at_once m && is_even k)
   once_said said = said ∙ ap (λ (x : Absorption). is_at_once x && is_even k) (sym h.mode)
 
-  pub taking_absorbs : {t : Bool} → t ≡ (is_at_once c.absorption && is_even k) → t ≡ true → AbsorbingAt z st id k (Axis a) ws xs m n p
+  pub taking_absorbs : {t : Bool} → t ≡ (is_at_once c.absorption && is_even k) → t ≡ true → AbsorbingAt z st id k (Some a) ws xs m n p
   taking_absorbs said e = record {
     at = h.at;
     id_in = h.id_in;
@@ -514,17 +512,17 @@ module _ {z : Shape} {c : StreamRules} {g : Rules} (rules : RulesAs c g) {st : S
 
 pub put_next : {z : Shape} {c : StreamRules} {m : Absorption} {st r : State} {id k : ℕ} {ws xs xs' : List ℕ} {p q : Pass}
     → m ≡ c.absorption
-    → HoldsPass z m st ws xs p → OutPut z c st id k xs xs' r → q ≡ put_out_rotation p id k → SteppedAs z m 1 1 st (Next r) ws xs' q
+    → HoldsPass z m st ws xs p → OutPut z c st id k xs xs' r → q ≡ put_out_rotation p id k → SteppedAs z m 1 1 st (Ok r) ws xs' q
 put_next {z} {c} {m} {st} {r} {id} {k} {ws} {xs} {xs'} {p} mode h o e =
     let a = ap (λ (s : State). s.merges) o.state in
     let b = ap (λ (s : State). s.absorbed) o.state in
-    subst (SteppedAs z m 1 1 st (Next r) ws xs') (sym e) (as_next (o.holds m ws p mode h) (omega arith) (omega arith))
+    subst (SteppedAs z m 1 1 st (Ok r) ws xs') (sym e) (as_next (o.holds m ws p mode h) (omega arith) (omega arith))
 
 pub out_left : {z : Shape} {c : StreamRules} {st r : State} {id k : ℕ} {ws xs xs' : List ℕ} → OutPut z c st id k xs xs' r
     → LeftS z ws xs ws xs'
 out_left {ws = ws} o = record { words = kept_none _ ws; numbers = o.left }
 
-pub answer_is : {z : Shape} {m : Absorption} (c d : ℕ) {st : State} {r : Step} {ws xs : List ℕ} {p q : Pass} → c ≤ 1 → d ≤ 1
+pub answer_is : {z : Shape} {m : Absorption} (c d : ℕ) {st : State} {r : Result State ExpansionLimit} {ws xs : List ℕ} {p q : Pass} → c ≤ 1 → d ≤ 1
     → SteppedAs z m c d st r ws xs p → q ≡ p → SteppedAs z m 1 1 st r ws xs q
 answer_is {z} {m} c d {st} {r} {ws} {xs} a b s e =
     subst (SteppedAs z m 1 1 st r ws xs) (sym e) (stepped_from 1 1 s (omega arith) (omega arith))

@@ -1,7 +1,7 @@
 // A carried rotation: absorbed at once, merged, or put out.
 #![tactic(auto)]
 
-ghost use Rattle.std.specs.Prelude.{◌≡◌, ◌&&◌, not, ℕ, ◌+◌, ◌%◌};
+ghost use Rattle.std.specs.Prelude.{◌≡◌, ◌&&◌, not, ℕ, ◌+◌, ◌%◌, Some, None};
 ghost use Rattle.model.specs.declared.Absorption.{Absorption};
 ghost use Rattle.model.specs.Rules.{Rules, is_at_once};
 ghost use Rattle.model.specs.Stream.{Pass, absorb, leave_zero, count_merge, merge_at, angle_at, take_rotation, carry_axis, image_id, axis_image};
@@ -9,7 +9,6 @@ ghost use Rattle.model.specs.Lists.{is_even};
 ghost use Rattle.model.specs.Items.{with_sign};
 ghost use Rattle.layout.specs.Words.{OnlyWords};
 ghost use Rattle.clifford.specs.Holds.{mask_place};
-ghost use Rattle.absorbing.specs.declared.Source.TheVariants.{Axis, Unknown};
 ghost use Rattle.absorbing.specs.Absorbing.{CarriesTo};
 ghost use Rattle.stream_states.specs.States.{held_of, SomePass, LeftS, SteppedAs, RulesAs};
 ghost use Rattle.merging.specs.Reach.{BlocksPre, passes, ReachPre, reaches};
@@ -18,10 +17,10 @@ ghost use Rattle.merging.specs.Taking.{MergedAt, MergingAt, last_said, LastPre, 
 ghost use Rattle.merging.specs.LookedUp.{SourceAt};
 ghost use Rattle.merging.specs.Carried.{CarryingAt};
 
-use absorbing::Source;
 use axes::Sizes;
 use layout::{CARRIED_FROM, LAST, OUT, Shape};
-use steps::{ImageStep, State, Step};
+use model::ExpansionLimit;
+use steps::State;
 use stream_states::StreamRules;
 
 // Whether output i, a rotation, stops axis id: it is not by nothing, and anticommutes with it.
@@ -131,20 +130,17 @@ fn absorb(
     st: State,
     id: usize,
     k: u32,
-    source: Source,
-) -> Step
+    source: Option<usize>,
+) -> Result<State, ExpansionLimit>
     requires { SomePass (λ m n p. AbsorbingAt shape st id k source words.old numbers.old m n p) }
     ensures { LeftAbsorbed shape st words.old numbers.old result words.new numbers.new
         × ((m : Absorption) (n : ℕ) (p : Pass) → AbsorbingAt shape st id k source words.old numbers.old m n p
         → SteppedAs shape m 0 1 st result words.new numbers.new (absorb shape.l p id k)) }
 {
-    let t = absorbing::absorb(words, numbers, shape, st, id, k, source);
-    let Step::Next(after) = t else {
-        return Step::ExpansionLimit;
-    };
+    let after = absorbing::absorb(words, numbers, shape, st, id, k, source)?;
     let mut s = after;
     s.absorbed = st.absorbed + 1;
-    Step::Next(s)
+    Ok(s)
 }
 
 // Whether angle k is absorbed at its turn.
@@ -166,19 +162,16 @@ fn absorb_merged(
     j: usize,
     id: usize,
     k: u32,
-    source: Source,
-) -> Step
+    source: Option<usize>,
+) -> Result<State, ExpansionLimit>
     requires { SomePass (λ m n p. MergedAt shape st j id k source words.old numbers.old m n p) }
     ensures { LeftAbsorbed shape st words.old numbers.old result words.new numbers.new
         × ((m : Absorption) (n : ℕ) (p : Pass) → MergedAt shape st j id k source words.old numbers.old m n p
         → SteppedAs shape m 0 1 st result words.new numbers.new (leave_zero j id (absorb shape.l p id k))) }
 {
-    let t = absorb(words, numbers, shape, st, id, k, source);
-    let Step::Next(after) = t else {
-        return Step::ExpansionLimit;
-    };
+    let after = absorb(words, numbers, shape, st, id, k, source)?;
     leave_zero(numbers, shape, j, id);
-    Step::Next(after)
+    Ok(after)
 }
 
 // Axis a, if F carries it to axis id.
@@ -189,19 +182,19 @@ fn source_of(
     st: State,
     a: usize,
     id: usize,
-) -> Source
+) -> Option<usize>
     requires { SomePass (λ m n p. SourceAt shape st id words.old numbers.now m n p) }
     ensures { OnlyWords shape.limit (mask_place shape) words.old words.new
         × ((m : Absorption) (n : ℕ) (p : Pass) → SourceAt shape st id words.old numbers.now m n p
-        → (b : ℕ) → result ≡ Axis b → CarriesTo shape st.axes b id (held_of p)) }
+        → (b : ℕ) → result ≡ Some b → CarriesTo shape st.axes b id (held_of p)) }
 {
     if st.axes <= a {
-        return Source::Unknown;
+        return None;
     }
     if !carrying::carries(words, numbers, shape, a, id) {
-        return Source::Unknown;
+        return None;
     }
-    Source::Axis(a)
+    Some(a)
 }
 
 // F takes in angle k about axis id, which waits at place j of the output. The axis that it was carried from is looked up, and asked whether
@@ -214,10 +207,10 @@ pub fn absorb_place(
     j: usize,
     id: usize,
     k: u32,
-) -> Step
-    requires { SomePass (λ m n p. MergedAt shape st j id k Unknown words.old numbers.old m n p) }
+) -> Result<State, ExpansionLimit>
+    requires { SomePass (λ m n p. MergedAt shape st j id k None words.old numbers.old m n p) }
     ensures { LeftAbsorbed shape st words.old numbers.old result words.new numbers.new
-        × ((m : Absorption) (n : ℕ) (p : Pass) → MergedAt shape st j id k Unknown words.old numbers.old m n p
+        × ((m : Absorption) (n : ℕ) (p : Pass) → MergedAt shape st j id k None words.old numbers.old m n p
         → SteppedAs shape m 0 1 st result words.new numbers.new (leave_zero j id (absorb shape.l p id k))) }
 {
     let a = store::read(&numbers[..], shape.u, CARRIED_FROM, j) as usize;
@@ -236,7 +229,7 @@ fn merge(
     id: usize,
     k: u32,
     a: usize,
-) -> Step
+) -> Result<State, ExpansionLimit>
     requires { SomePass (λ m n p. MergingAt shape rules st j id k a words.old numbers.old m n p) }
     ensures { LeftS shape words.old numbers.old words.new numbers.new
         × ((m : Absorption) (n : ℕ) (p : Pass) → MergingAt shape rules st j id k a words.old numbers.old m n p
@@ -249,13 +242,13 @@ fn merge(
     s.merges = st.merges + 1;
     if sum == 0 {
         leave_zero(numbers, shape, j, id);
-        return Step::Next(s);
+        return Ok(s);
     }
     if at_once(rules, sum) {
-        return absorb_merged(words, numbers, shape, s, j, id, sum, Source::Axis(a));
+        return absorb_merged(words, numbers, shape, s, j, id, sum, Some(a));
     }
     items::put_rotation(numbers, shape.u, OUT, j, id as u32, sum);
-    Step::Next(name_place(numbers, shape, rules, s, j, sum, a))
+    Ok(name_place(numbers, shape, rules, s, j, sum, a))
 }
 
 // The place that `last` names for axis id, plus 1; 0 where there is none, or nothing is merged.
@@ -304,7 +297,7 @@ fn take(
     id: usize,
     k: u32,
     a: usize,
-) -> Step
+) -> Result<State, ExpansionLimit>
     requires { SomePass (λ m n p. TakingAt shape rules st id k a words.old numbers.old m n p) }
     ensures { LeftS shape words.old numbers.old words.new numbers.new
         × ((g : Rules) (n : ℕ) (p : Pass) → RulesAs rules g
@@ -313,11 +306,11 @@ fn take(
         (take_rotation shape.l g rules.merge p id k)) }
 {
     if at_once(rules, k) {
-        return absorb(words, numbers, shape, st, id, k, Source::Axis(a));
+        return absorb(words, numbers, shape, st, id, k, Some(a));
     }
     let place = place_for(&words[..], &numbers[..], shape, rules, st, id);
     if place == 0 {
-        return Step::Next(put_out(numbers, shape, rules, st, id, k, a));
+        return Ok(put_out(numbers, shape, rules, st, id, k, a));
     }
     merge(words, numbers, shape, rules, st, place - 1, id, k, a)
 }
@@ -331,7 +324,7 @@ pub fn carry_and_take(
     st: State,
     a: usize,
     angle: u32,
-) -> Step
+) -> Result<State, ExpansionLimit>
     requires { SomePass (λ m n p. CarryingAt shape rules st a angle words.old numbers.old m n p) }
     ensures { LeftS shape words.old numbers.old words.new numbers.new
         × ((g : Rules) (n : ℕ) (p : Pass) → RulesAs rules g
@@ -340,10 +333,7 @@ pub fn carry_and_take(
         (take_rotation shape.l g rules.merge (carry_axis shape.l p a) (image_id shape.l (carry_axis shape.l p a) a)
         (with_sign (axis_image shape.l (carry_axis shape.l p a) a).turns angle))) }
 {
-    let c = carrying::carry(words, numbers, shape, st, a);
-    let ImageStep::Next(image) = c else {
-        return Step::ExpansionLimit;
-    };
+    let image = carrying::carry(words, numbers, shape, st, a)?;
     let s = steps::with_image(st, image);
     let k = items::with_sign(s.turns, angle);
     take(words, numbers, shape, rules, s, s.id, k, a)

@@ -7,6 +7,7 @@ use Rattle.model.specs.declared.Answer.{Answer}
 use Rattle.model.specs.declared.Answer.TheVariants.{Accepted, CountOutside, OptionOutside, SliceShort, BadNode, BadQubit, BadReference}
 use Rattle.model.specs.declared.Answer.TheVariants.{BadOperation}
 use Rattle.model.specs.declared.Answer.TheVariants.{BadOutcome, NonHermitianAxis, ExpansionLimit, BadText, BadPlace}
+use Rattle.model.specs.declared.ExpansionLimit.{ExpansionLimit as NoRoom}
 use Rattle.model.specs.declared.Counters.{Counters}
 
 -- "If the answer is an enum, a definition gives this paper's number and values for each of its cases." The cases have no values
@@ -24,6 +25,10 @@ number_of NonHermitianAxis = 9
 number_of ExpansionLimit = 10
 number_of BadText = 11
 number_of BadPlace = 16
+
+-- what an answer of 10 says by itself; it has no parts
+abbrev pub expansion_limit : NoRoom
+expansion_limit = record {}
 
 -- 0: the work goes on
 abbrev pub accepts : Answer → Bool

@@ -100,6 +100,10 @@ pub enum Answer {
     BadPlace,
 }
 
+// Refusal 10, by what stores a word: the limit leaves no room for it.
+#[derive(Clone, Copy)]
+pub struct ExpansionLimit;
+
 // Document 01's number of an answer.
 pub fn number_of(a: Answer) -> u32
     ensures { result ≡ number_of a }

@@ -1,5 +1,5 @@
 -- What memory holds of the model's packing at each point, and how a turn ends. Assumes nothing.
-use Rattle.std.specs.Prelude.{◌≡◌, true, false, ◌≢◌, ◌⊎◌, List, ℕ, suc, ◌+◌, ◌*◌, ◌%◌, ◌≤◌, ◌<◌, length, get_or}
+use Rattle.std.specs.Prelude.{◌≡◌, true, false, ◌≢◌, ◌⊎◌, List, ℕ, suc, ◌+◌, ◌*◌, ◌%◌, ◌≤◌, ◌<◌, length, get_or, Result, Ok, Err}
 use Rattle.store.specs.Part.{part}
 use Rattle.store.specs.Row.{row}
 use Rattle.model.specs.Program.{Program}
@@ -20,8 +20,8 @@ use Rattle.packing_states.specs.Linked.{Linked}
 use Rattle.packing_states.specs.InMemory.{OfShape}
 use Rattle.packing.specs.Phases.{phase_in}
 use Rattle.packing.specs.declared.Slots.{Slots}
-use Rattle.packing.specs.declared.PackStep.{PackStep}
-use Rattle.packing.specs.declared.PackStep.TheVariants.{Next, NonHermitianAxis, ExpansionLimit}
+use Rattle.packing_answer.specs.declared.PackingRefusal.{PackingRefusal}
+use Rattle.packing_answer.specs.declared.PackingRefusal.TheVariants.{NonHermitianAxis, ExpansionLimit}
 
 -- each node below b that is still to be used has a slot of its own, with its word there and its phase beside it;
 -- a free slot is no such node's, and is free once
@@ -95,10 +95,10 @@ holding_done f h = record {
 }
 
 -- how a turn ends that leads to k
-abbrev pub Turned : Program → Shape → ℕ → ℕ → ℕ → Pack → PackStep → List ℕ → List ℕ → Type 0
-Turned p z b n i k (Next st) ws xs = Holding p z b n i k st ws xs
-Turned p z b n i k NonHermitianAxis ws xs = (k.refused ≡ true) × (k.store.peak ≤ z.limit)
-Turned p z b n i k ExpansionLimit ws xs = z.limit < k.store.peak
+abbrev pub Turned : Program → Shape → ℕ → ℕ → ℕ → Pack → Result Slots PackingRefusal → List ℕ → List ℕ → Type 0
+Turned p z b n i k (Ok st) ws xs = Holding p z b n i k st ws xs
+Turned p z b n i k (Err NonHermitianAxis) ws xs = (k.refused ≡ true) × (k.store.peak ≤ z.limit)
+Turned p z b n i k (Err ExpansionLimit) ws xs = z.limit < k.store.peak
 
 -- ---- what the turns demand
 

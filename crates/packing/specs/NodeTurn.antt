@@ -1,5 +1,5 @@
 -- A node's turn: not used, or placed and its roots packed. Assumes nothing.
-use Rattle.std.specs.Prelude.{◌≡◌, refl, true, false, List, ℕ, suc, ◌+◌, ◌-◌, ◌*◌, ◌≤◌, ◌<◌, length, get_or}
+use Rattle.std.specs.Prelude.{◌≡◌, refl, true, false, List, ℕ, suc, ◌+◌, ◌-◌, ◌*◌, ◌≤◌, ◌<◌, length, get_or, Result, Ok, Err}
 use Rattle.std.proofs.Common.{sym, ap, ◌∙◌, true≢false, inl, inr, arith}
 use Rattle.std.proofs.Math.Decide.{dec_lt, ℕ_discrete}
 use Rattle.store.specs.Row.{row}
@@ -18,8 +18,8 @@ use Rattle.packing_states.specs.Uses.{unused_no_roots}
 use Rattle.packing_states.specs.Live.{used_below_same}
 use Rattle.packing_states.specs.InMemory.{total_is, node_is, operation_reference, row_reference, OfShape, given_shape}
 use Rattle.packing.specs.declared.Slots.{Slots}
-use Rattle.packing.specs.declared.PackStep.{PackStep}
-use Rattle.packing.specs.declared.PackStep.TheVariants.{Next, NonHermitianAxis, ExpansionLimit}
+use Rattle.packing_answer.specs.declared.PackingRefusal.{PackingRefusal}
+use Rattle.packing_answer.specs.declared.PackingRefusal.TheVariants.{NonHermitianAxis, ExpansionLimit}
 use Rattle.packing.specs.Phases.{phase_in, phase_operation, phase_row_lem}
 use Rattle.packing_states.specs.SomeProgram.{SomeProgram}
 use Rattle.packing.specs.Holding.{slots_among, SlotsHold, Done, Holding, holding_done, Turned, PlaceAt, RootsAt, NodeAt}
@@ -116,11 +116,11 @@ module _ (p : Program) (n : ℕ) (f : (before p n).refused ≡ false) (u : 0 < g
   after_limit z h = rw (before_used p n f u) (omega (arith, peak_within p n 0 (total p) (omega arith)))
 
   -- its roots end its turn
-  after_roots : (z : Shape) (r : PackStep) (ws xs : List ℕ) → Turned p z (suc n) n (total p) (within p n (total p)) r ws xs
+  after_roots : (z : Shape) (r : Result Slots PackingRefusal) (ws xs : List ℕ) → Turned p z (suc n) n (total p) (within p n (total p)) r ws xs
       → Turned p z (suc n) (suc n) 0 (before p (suc n)) r ws xs
-  after_roots z (Next st) ws xs t = past_roots (rw (before_used p n f u) t)
-  after_roots z NonHermitianAxis ws xs t = rw (before_used p n f u) t
-  after_roots z ExpansionLimit ws xs t = rw (before_used p n f u) t
+  after_roots z (Ok st) ws xs t = past_roots (rw (before_used p n f u) t)
+  after_roots z (Err NonHermitianAxis) ws xs t = rw (before_used p n f u) t
+  after_roots z (Err ExpansionLimit) ws xs t = rw (before_used p n f u) t
 
 -- ---- node n's turn, from what it demands
 
@@ -137,7 +137,7 @@ module _ {z : Shape} {st : Slots} {n : ℕ} {ns os rs ws xs : List ℕ} (a : Nod
   uses_is v e = e ∙ count_is n a.granted.numbers_long (nodes_in_lem a.granted) a.node (holding_slots a.holding)
 
   pub turn_unused : {v : ℕ} → v ≡ get_or (row xs z.u uses_row) n 0 → v ≡ 0
-      → RestKept z ws xs ws xs × Turned (program_in z ns os rs) z (suc n) (suc n) 0 (before (program_in z ns os rs) (suc n)) (Next st) ws xs
+      → RestKept z ws xs ws xs × Turned (program_in z ns os rs) z (suc n) (suc n) 0 (before (program_in z ns os rs) (suc n)) (Ok st) ws xs
   turn_unused {v} e f =
       (rest_none z ws xs, after_unused (given_shape a.given) a.node a.holding (sym (uses_is v e) ∙ f))
 
@@ -160,20 +160,20 @@ module _ {z : Shape} {st : Slots} {n : ℕ} {ns os rs ws xs : List ℕ} (a : Nod
     place_there i = record { program = program_in z ns os rs; it = place_at i }
 
     -- and has been
-    module _ {x : NodeRecord} {r : PackStep} {ws' xs' : List ℕ} (i : x ≡ node_record ns n) (k : RestKept z ws xs ws' xs')
+    module _ {x : NodeRecord} {r : Result Slots PackingRefusal} {ws' xs' : List ℕ} (i : x ≡ node_record ns n) (k : RestKept z ws xs ws' xs')
         (t : (p : Program) → PlaceAt p z st n x ws xs → Turned p z (suc n) n 0 (slotted p n) r ws' xs') where
       -- refused
-      pub turn_odd : r ≡ NonHermitianAxis → RestKept z ws xs ws' xs'
-          × Turned (program_in z ns os rs) z (suc n) (suc n) 0 (before (program_in z ns os rs) (suc n)) NonHermitianAxis ws' xs'
+      pub turn_odd : r ≡ Err NonHermitianAxis → RestKept z ws xs ws' xs'
+          × Turned (program_in z ns os rs) z (suc n) (suc n) 0 (before (program_in z ns os rs) (suc n)) (Err NonHermitianAxis) ws' xs'
       turn_odd c =
           (k, after_odd (program_in z ns os rs) n a.holding.going used z (rw c at (t (program_in z ns os rs) (place_at i))))
 
-      pub turn_limit : r ≡ ExpansionLimit → RestKept z ws xs ws' xs'
-          × Turned (program_in z ns os rs) z (suc n) (suc n) 0 (before (program_in z ns os rs) (suc n)) ExpansionLimit ws' xs'
+      pub turn_limit : r ≡ Err ExpansionLimit → RestKept z ws xs ws' xs'
+          × Turned (program_in z ns os rs) z (suc n) (suc n) 0 (before (program_in z ns os rs) (suc n)) (Err ExpansionLimit) ws' xs'
       turn_limit c =
           (k, after_limit (program_in z ns os rs) n a.holding.going used z (rw c at (t (program_in z ns os rs) (place_at i))))
 
-      module _ {s : Slots} (c : r ≡ Next s) where
+      module _ {s : Slots} (c : r ≡ Ok s) where
         roots_at : RootsAt (program_in z ns os rs) z s n os rs ws' xs'
         roots_at = record {
           granted = rest_granted a.granted k;
@@ -192,7 +192,7 @@ module _ {z : Shape} {st : Slots} {n : ℕ} {ns os rs ws xs : List ℕ} (a : Nod
         roots_there = record { program = program_in z ns os rs; it = roots_at }
 
         -- and have been
-        pub turn_roots : (q : PackStep) {ws'' xs'' : List ℕ} → RestKept z ws' xs' ws'' xs''
+        pub turn_roots : (q : Result Slots PackingRefusal) {ws'' xs'' : List ℕ} → RestKept z ws' xs' ws'' xs''
             → ((p : Program) → RootsAt p z s n os rs ws' xs' → Turned p z (suc n) n (total p) (within p n (total p)) q ws'' xs'')
             → RestKept z ws xs ws'' xs'' × Turned (program_in z ns os rs) z (suc n) (suc n) 0 (before (program_in z ns os rs) (suc n)) q ws'' xs''
         turn_roots q l m =

@@ -1,5 +1,5 @@
 -- A node's turn up to its slot: worked out, its children's uses given up, kept in a slot. Assumes nothing.
-use Rattle.std.specs.Prelude.{◌≡◌, false, ℕ, suc, ◌+◌, ◌-◌, ◌*◌, ◌≤◌, ◌<◌, set, take}
+use Rattle.std.specs.Prelude.{◌≡◌, false, ℕ, suc, ◌+◌, ◌-◌, ◌*◌, ◌≤◌, ◌<◌, set, take, Ok, Err}
 use Rattle.std.proofs.Math.Path.{refl, sym, ap, ap₂}
 use Rattle.std.proofs.Common.{◌∙◌, get_or-take}
 use mathlib.Core.List.{List, [], ◌∷◌}
@@ -32,7 +32,7 @@ use Rattle.packing_states.specs.Uses.{children_below, children_used}
 use Rattle.packing_states.specs.Live.{used_below_more}
 use Rattle.packing_states.specs.Linked.{linked_same}
 use Rattle.packing.specs.declared.Slots.{Slots}
-use Rattle.packing.specs.declared.PackStep.TheVariants.{Next, ExpansionLimit}
+use Rattle.packing_answer.specs.declared.PackingRefusal.TheVariants.{ExpansionLimit}
 use Rattle.packing.specs.Values.{slot_of, phase_of, uses_of, HeldPre, held_value, EvaluatePre, value_of_record, Evaluated, ChildrenPre}
 use Rattle.packing.specs.Values.{ChildrenReleased, TakePre, taken, KeepPre, Kept}
 use Rattle.packing.specs.Holding.{SlotsHold, SignedAt, Holding, Turned, PlaceAt}
@@ -273,7 +273,7 @@ module _ {p : Program} {z : Shape} {st : Slots} {n : ℕ} {x : NodeRecord} {ws x
       rw words_are (kept_put (z.limit + 2 * z.l) ws z.limit word (omega (arith, value_long h)) (omega (arith, h.granted.words_long)))
 
   -- the limit refuses the slot
-  pub place_limit : taken z t st₁ ≡ ExpansionLimit → Turned p z (suc n) n 0 (slotted p n) ExpansionLimit ws' t
+  pub place_limit : taken z t st₁ ≡ Err ExpansionLimit → Turned p z (suc n) n 0 (slotted p n) (Err ExpansionLimit) ws' t
   place_limit f =
       rw is_slotted (took_none z n (value_of p) t ws' (row t z.u node_phase) st₁ k₁ slots_count slots₁.all axes_count f)
 
@@ -282,7 +282,7 @@ module _ {p : Program} {z : Shape} {st : Slots} {n : ℕ} {x : NodeRecord} {ws x
   rest_limit = record { words = kept₁; numbers = only_of turn_rows refl c.only }
 
   -- the slot that is taken
-  module _ {st' : Slots} (f : taken z t st₁ ≡ Next st') where
+  module _ {st' : Slots} (f : taken z t st₁ ≡ Ok st') where
     abbrev s : ℕ
     s = st'.taken
 
@@ -392,7 +392,7 @@ module _ {p : Program} {z : Shape} {st : Slots} {n : ℕ} {x : NodeRecord} {ws x
       }
 
       -- the turn goes on
-      pub place_next : Turned p z (suc n) n 0 (slotted p n) (Next st') ws'' t''
+      pub place_next : Turned p z (suc n) n 0 (slotted p n) (Ok st') ws'' t''
       place_next = rw is_slotted holding''
 
       pub rest_next : RestKept z ws xs ws'' t''

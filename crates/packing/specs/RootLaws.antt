@@ -1,5 +1,5 @@
 -- Before a root's turn: what memory holds of its node, the root's sign, the model's next state, what `intern` answers. Assumes nothing.
-use Rattle.std.specs.Prelude.{◌≡◌, true, false, List, ℕ, suc, ◌+◌, ◌*◌, ◌%◌, ◌<◌}
+use Rattle.std.specs.Prelude.{◌≡◌, true, false, List, ℕ, suc, ◌+◌, ◌*◌, ◌%◌, ◌<◌, Result, Ok, Err}
 use Rattle.std.proofs.Common.{sym, ap, ◌∙◌, subst, subst₂, arith, eq-eqb, ne_eqb}
 use Rattle.std.proofs.Math.Path.{ap₂}
 use Rattle.store.specs.Row.{row}
@@ -14,8 +14,8 @@ use Rattle.interning.specs.Intern.{InternPre, Stores}
 use Rattle.interning.specs.Stored.{HasAxis, NoRoom, InternedAs, interned_is}
 use Rattle.axes.specs.declared.Sizes.{Sizes}
 use Rattle.interning.specs.declared.StoredAxis.{StoredAxis}
-use Rattle.interning.specs.declared.Interned.{Interned}
-use Rattle.interning.specs.declared.Interned.TheVariants.{Axis, Full}
+use Rattle.model.specs.declared.ExpansionLimit.{ExpansionLimit}
+use Rattle.model.specs.Interface.{expansion_limit}
 use Rattle.layout.specs.declared.Shape.{Shape}
 use Rattle.layout.specs.Words.{slot_place, slot_in, slot_counted}
 use Rattle.packing_states.specs.References.{reference_at}
@@ -121,7 +121,7 @@ module _ {p : Program} {z : Shape} {st : Slots} {n j phase : ℕ} {ws xs : List 
 
   -- ---- the answer of `intern`
 
-  module _ {v : ValueHeld} (e : v ≡ held_at z xs n) {sizes : Sizes} (f : sizes ≡ sizes_of z st.axes) {r : Interned} {ws' xs' : List ℕ}
+  module _ {v : ValueHeld} (e : v ≡ held_at z xs n) {sizes : Sizes} (f : sizes ≡ sizes_of z st.axes) {r : Result StoredAxis ExpansionLimit} {ws' xs' : List ℕ}
       (s : Stores sizes (st.slots * (2 * z.l)) st.peak ws xs v.at r ws' xs') where
     stored_as : InternedAs (sizes_of z st.axes) (st.slots * (2 * z.l)) ws xs (within p n j).store (value_of p n).word r ws' xs'
     stored_as =
@@ -130,8 +130,8 @@ module _ {p : Program} {z : Shape} {st : Slots} {n j phase : ℕ} {ws xs : List 
         (interned_is _ _ ws xs v.at (within p n j).store (sizes_pre e) h.holding.axes
         (subst₂ (λ (y : Sizes) (q : ℕ). Stores y (st.slots * (2 * z.l)) q ws xs v.at r ws' xs') f (sym h.holding.peak) s))
 
-    pub root_has_axis : {a : StoredAxis} → r ≡ Axis a → RootHasAxis p z st n j ws xs a ws' xs'
+    pub root_has_axis : {a : StoredAxis} → r ≡ Ok a → RootHasAxis p z st n j ws xs a ws' xs'
     root_has_axis q = rw q at stored_as
 
-    pub root_no_room : r ≡ Full → RootNoRoom p z st n j ws xs ws' xs'
+    pub root_no_room : r ≡ Err expansion_limit → RootNoRoom p z st n j ws xs ws' xs'
     root_no_room q = rw q at stored_as

@@ -1,5 +1,5 @@
 -- How a root's turn ends, answer by answer, and the bounds under which its numbers fit. Assumes nothing.
-use Rattle.std.specs.Prelude.{◌≡◌, List, ℕ, suc, ◌+◌, ◌*◌, ◌%◌, ◌≤◌, ◌<◌, length}
+use Rattle.std.specs.Prelude.{◌≡◌, List, ℕ, suc, ◌+◌, ◌*◌, ◌%◌, ◌≤◌, ◌<◌, length, Result, Ok, Err}
 use Rattle.std.proofs.Math.Path.{refl}
 use Rattle.std.proofs.Common.{arith}
 use Rattle.store.specs.Row.{Written}
@@ -11,8 +11,9 @@ use Rattle.axes.specs.declared.Sizes.{Sizes}
 use Rattle.axes.specs.Held.{sizes_of, held_count}
 use Rattle.interning.specs.Intern.{Stores}
 use Rattle.interning.specs.declared.StoredAxis.{StoredAxis}
-use Rattle.interning.specs.declared.Interned.{Interned}
-use Rattle.interning.specs.declared.Interned.TheVariants.{Axis, Full}
+use Rattle.model.specs.declared.ExpansionLimit.{ExpansionLimit}
+use Rattle.model.specs.Interface.{expansion_limit}
+use Rattle.packing_answer.specs.declared.PackingRefusal.TheVariants.{NonHermitianAxis, ExpansionLimit}
 use Rattle.layout.specs.declared.Shape.{Shape}
 use Rattle.layout.specs.Rows.{row_count, root_axis, root_sign}
 use Rattle.layout.specs.Only.{only_of}
@@ -22,7 +23,6 @@ use Rattle.packing_states.specs.States.{value_of, within}
 use Rattle.packing_states.specs.ReferenceRows.{ReferenceRows, reference_rows, reference_rows_lem}
 use Rattle.packing.specs.declared.Slots.{Slots}
 use Rattle.packing.specs.declared.ValueHeld.{ValueHeld}
-use Rattle.packing.specs.declared.PackStep.TheVariants.{Next, NonHermitianAxis, ExpansionLimit}
 use Rattle.packing.specs.Holding.{Turned, RootAt}
 use Rattle.packing.specs.RestKept.{turn_rows, RestKept}
 use Rattle.packing.specs.Bounds.{slots_fit}
@@ -48,27 +48,27 @@ module _ {p : Program} {z : Shape} {st : Slots} {n j phase : ℕ} {ws xs : List 
   module _ {v : ValueHeld} (e : v ≡ held_at z xs n) where
     -- ---- 9
 
-    pub root_odd : ((v.phase + phase % 4) % 4) % 2 ≡ 1 → Turned p z (suc n) n (suc j) (within p n (suc j)) NonHermitianAxis ws xs
+    pub root_odd : ((v.phase + phase % 4) % 4) % 2 ≡ 1 → Turned p z (suc n) n (suc j) (within p n (suc j)) (Err NonHermitianAxis) ws xs
     root_odd o = rw (refused_next h (odd_root h e o)) (refl, h.holding.fits)
 
-    module _ {sizes : Sizes} (f : sizes ≡ sizes_of z st.axes) {r : Interned} {ws' xs' : List ℕ}
+    module _ {sizes : Sizes} (f : sizes ≡ sizes_of z st.axes) {r : Result StoredAxis ExpansionLimit} {ws' xs' : List ℕ}
         (s : Stores sizes (st.slots * (2 * z.l)) st.peak ws xs v.at r ws' xs') where
       -- ---- 10
 
-      pub rest_limit : r ≡ Full → RestKept z ws xs ws' xs'
+      pub rest_limit : r ≡ Err expansion_limit → RestKept z ws xs ws' xs'
       unfolding member any_of all_of
       rest_limit q =
           let full = root_no_room h e f s q in
           record { words = rw full.kept (kept_none _ ws); numbers = only_of turn_rows refl full.numbers }
 
-      pub root_limit : (((v.phase + phase % 4) % 4) % 2 ≡ 1 → ⊥) → r ≡ Full
-          → Turned p z (suc n) n (suc j) (within p n (suc j)) ExpansionLimit ws' xs'
+      pub root_limit : (((v.phase + phase % 4) % 4) % 2 ≡ 1 → ⊥) → r ≡ Err expansion_limit
+          → Turned p z (suc n) n (suc j) (within p n (suc j)) (Err ExpansionLimit) ws' xs'
       unfolding use_node
       root_limit o q = rw (stored_next h (even_root h e o)) (root_no_room h e f s q).exceeds
 
       -- ---- the word is an axis
 
-      module _ {axis : StoredAxis} (q : r ≡ Axis axis) where
+      module _ {axis : StoredAxis} (q : r ≡ Ok axis) where
         stored : RootHasAxis p z st n j ws xs axis ws' xs'
         stored = root_has_axis h e f s q
 
@@ -93,5 +93,5 @@ module _ {p : Program} {z : Shape} {st : Slots} {n j phase : ℕ} {ws xs : List 
             root_rest = rest_next h stored written c
 
             pub root_next : (((v.phase + phase % 4) % 4) % 2 ≡ 1 → ⊥) → Turned p z (suc n) n (suc j) (within p n (suc j))
-                (Next (record { axes = axis.axes; peak = axis.peak; slots = st.slots; free = free; taken = st.taken })) ws' t
+                (Ok (record { axes = axis.axes; peak = axis.peak; slots = st.slots; free = free; taken = st.taken })) ws' t
             root_next o = rw (stored_next h (even_root h e o)) (holding_next h stored written c (phase_total h e))

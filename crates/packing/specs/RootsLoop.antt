@@ -1,5 +1,5 @@
 -- A node's roots, from link to link: what pack_roots' loop keeps. Assumes nothing.
-use Rattle.std.specs.Prelude.{◌≡◌, refl, true, false, List, ℕ, zero, suc, ◌+◌, ◌-◌, ◌*◌, ◌≤◌, ◌<◌, length, get_or}
+use Rattle.std.specs.Prelude.{◌≡◌, refl, true, false, List, ℕ, zero, suc, ◌+◌, ◌-◌, ◌*◌, ◌≤◌, ◌<◌, length, get_or, Result, Ok, Err}
 use Rattle.std.proofs.Common.{sym, ap, ◌∙◌, true≢false, inl, inr, arith}
 use Rattle.std.proofs.Math.Decide.{dec_lt}
 use Rattle.store.specs.Row.{row}
@@ -13,8 +13,8 @@ use Rattle.packing_states.specs.States.{within}
 use Rattle.packing_states.specs.StateLaws.{within_none, within_next, peak_within, refused_within}
 use Rattle.packing_states.specs.Uses.{root_used}
 use Rattle.packing.specs.declared.Slots.{Slots}
-use Rattle.packing.specs.declared.PackStep.{PackStep}
-use Rattle.packing.specs.declared.PackStep.TheVariants.{Next, NonHermitianAxis, ExpansionLimit}
+use Rattle.packing_answer.specs.declared.PackingRefusal.{PackingRefusal}
+use Rattle.packing_answer.specs.declared.PackingRefusal.TheVariants.{NonHermitianAxis, ExpansionLimit}
 use Rattle.packing.specs.Phases.{PhasePre, phase_in}
 use Rattle.packing_states.specs.SomeProgram.{SomeProgram}
 use Rattle.packing.specs.Holding.{Done, Holding, holding_done, Turned, RootAt, RootsAt}
@@ -130,13 +130,13 @@ module _ {z : Shape} {placed : Slots} {n : ℕ} {os rs ws₀ xs₀ : List ℕ} w
         (g.numbers_long, omega arith, omega (arith, ((a.at s.program s.it).some r l).reference, s.it.program.references, g.sized.row))
 
     -- and has been
-    module _ {step : PackStep} {phase : ℕ} {ws' xs' : List ℕ} (e : phase ≡ phase_in z.operations os rs r) (k : RestKept z ws xs ws' xs')
+    module _ {step : Result Slots PackingRefusal} {phase : ℕ} {ws' xs' : List ℕ} (e : phase ≡ phase_in z.operations os rs r) (k : RestKept z ws xs ws' xs')
         (t : (p : Program) → RootAt p z st n r phase ws xs → Turned p z (suc n) n (suc r) (within p n (suc r)) step ws' xs') where
-      next_holding : (p : Program) → RootsAt p z placed n os rs ws₀ xs₀ → (st' : Slots) → step ≡ Next st'
+      next_holding : (p : Program) → RootsAt p z placed n os rs ws₀ xs₀ → (st' : Slots) → step ≡ Ok st'
           → Holding p z (suc n) n (suc r) (within p n (suc r)) st' ws' xs'
       next_holding p h st' f = rw f at (t p (root_at p phase h e))
 
-      next_is : (p : Program) → RootsAt p z placed n os rs ws₀ xs₀ → (st' : Slots) → step ≡ Next st'
+      next_is : (p : Program) → RootsAt p z placed n os rs ws₀ xs₀ → (st' : Slots) → step ≡ Ok st'
           → get_or (row xs' z.u next_root) r 0 ≡ link_from p n (suc r)
       next_is p h st' f =
           let b = (a.at p h).some r l in
@@ -144,7 +144,7 @@ module _ {z : Shape} {placed : Slots} {n : ℕ} {os rs ws₀ xs₀ : List ℕ} w
           (next_holding p h st' f).linked.next r (omega arith) b.reference s.0 ∙ ap (λ (m : ℕ). link_from p m (suc r)) s.1
 
       -- the next link
-      pub along_next : (st' : Slots) (link' : ℕ) → step ≡ Next st' → link' ≡ get_or (row xs' z.u next_root) r 0
+      pub along_next : (st' : Slots) (link' : ℕ) → step ≡ Ok st' → link' ≡ get_or (row xs' z.u next_root) r 0
           → Along z placed n os rs ws₀ xs₀ ws' xs' st' link'
       along_next st' link' f g = record {
         rest = rest_then a.rest k;
@@ -152,7 +152,7 @@ module _ {z : Shape} {placed : Slots} {n : ℕ} {os rs ws₀ xs₀ : List ℕ} w
       }
 
       -- it is a later one
-      pub next_later : SomeProgram (λ p. RootsAt p z placed n os rs ws₀ xs₀) → (st' : Slots) (link' : ℕ) → step ≡ Next st'
+      pub next_later : SomeProgram (λ p. RootsAt p z placed n os rs ws₀ xs₀) → (st' : Slots) (link' : ℕ) → step ≡ Ok st'
           → link' ≡ get_or (row xs' z.u next_root) r 0
           → references_left (z.operations + 2 * z.qubits) link' < references_left (z.operations + 2 * z.qubits) link
       next_later s st' link' f g =
@@ -163,9 +163,9 @@ module _ {z : Shape} {placed : Slots} {n : ℕ} {os rs ws₀ xs₀ : List ℕ} w
           (λ m i. (link_some p n (suc r) m (sym (next_is p s.it st' f) ∙ sym g ∙ i)).0))
 
       -- "refused" ends the node's turn
-      pub along_odd : step ≡ NonHermitianAxis → RestKept z ws₀ xs₀ ws' xs'
+      pub along_odd : step ≡ Err NonHermitianAxis → RestKept z ws₀ xs₀ ws' xs'
           × ((p : Program) → RootsAt p z placed n os rs ws₀ xs₀
-          → Turned p z (suc n) n (total p) (within p n (total p)) NonHermitianAxis ws' xs')
+          → Turned p z (suc n) n (total p) (within p n (total p)) (Err NonHermitianAxis) ws' xs')
       along_odd f = (
         rest_then a.rest k,
         λ p h.
@@ -175,9 +175,9 @@ module _ {z : Shape} {placed : Slots} {n : ℕ} {os rs ws₀ xs₀ : List ℕ} w
       )
 
       -- and so does a sum above the limit
-      pub along_limit : step ≡ ExpansionLimit → RestKept z ws₀ xs₀ ws' xs'
+      pub along_limit : step ≡ Err ExpansionLimit → RestKept z ws₀ xs₀ ws' xs'
           × ((p : Program) → RootsAt p z placed n os rs ws₀ xs₀
-          → Turned p z (suc n) n (total p) (within p n (total p)) ExpansionLimit ws' xs')
+          → Turned p z (suc n) n (total p) (within p n (total p)) (Err ExpansionLimit) ws' xs')
       along_limit f = (
         rest_then a.rest k,
         λ p h.
@@ -188,5 +188,5 @@ module _ {z : Shape} {placed : Slots} {n : ℕ} {os rs ws₀ xs₀ : List ℕ} w
   -- the last link
   pub along_end : {ws xs : List ℕ} {st : Slots} {link : ℕ} → Along z placed n os rs ws₀ xs₀ ws xs st link → link ≡ 0
       → RestKept z ws₀ xs₀ ws xs
-      × ((p : Program) → RootsAt p z placed n os rs ws₀ xs₀ → Turned p z (suc n) n (total p) (within p n (total p)) (Next st) ws xs)
+      × ((p : Program) → RootsAt p z placed n os rs ws₀ xs₀ → Turned p z (suc n) n (total p) (within p n (total p)) (Ok st) ws xs)
   along_end a e = (a.rest, λ p h. (a.at p h).end e)

@@ -1,5 +1,5 @@
 -- What an answer of `take_slot` means for the model, whose free slots are those in memory. Assumes nothing.
-use Rattle.std.specs.Prelude.{◌≡◌, refl, ◌⊎◌, List, length}
+use Rattle.std.specs.Prelude.{◌≡◌, refl, ◌⊎◌, List, length, Result, Ok, Err}
 use Rattle.std.proofs.Common.{sym, subst, inl, inr, ⊎_elim, add-one, arith, ltb-true, ltb-false, lt-ltb, le-ltb}
 use Rattle.std.proofs.Math.Path.{ap, ap₂}
 use Prim.Native.Nat.{ℕ, suc, ◌+◌, ◌-◌, ◌*◌, ◌≤◌, ◌<◌, max}
@@ -11,8 +11,8 @@ use Rattle.theory.specs.Cases.{on_if, if_true, if_false}
 use Rattle.layout.specs.declared.Shape.{Shape}
 use Rattle.layout.specs.Rows.{node_slot, free_row}
 use Rattle.packing.specs.declared.Slots.{Slots}
-use Rattle.packing.specs.declared.PackStep.{PackStep}
-use Rattle.packing.specs.declared.PackStep.TheVariants.{Next, NonHermitianAxis, ExpansionLimit}
+use Rattle.packing_answer.specs.declared.PackingRefusal.{PackingRefusal}
+use Rattle.packing_answer.specs.declared.PackingRefusal.TheVariants.{NonHermitianAxis, ExpansionLimit}
 use Rattle.packing.specs.Holding.{SlotsHold}
 use Rattle.packing.specs.Values.{slot_sum, free_taken, new_taken, taken}
 use Rattle.packing.specs.Keeping.{Takes, takes_free, takes_new}
@@ -28,10 +28,10 @@ abbrev New : Shape → Slots → Slots → Type 0
 New z st st' = (st.free ≡ 0) × ((slot_sum z st ≤ z.limit) × (new_taken z st ≡ st'))
 
 -- what the answer means; without a slot none is free, and a new one exceeds the limit
-abbrev TakenAs : Shape → List ℕ → Slots → PackStep → Type 0
-TakenAs z xs st (Next st') = Freed z xs st st' ⊎ New z st st'
-TakenAs z xs st NonHermitianAxis = ⊥
-TakenAs z xs st ExpansionLimit = (st.free ≡ 0) × (z.limit < slot_sum z st)
+abbrev TakenAs : Shape → List ℕ → Slots → Result Slots PackingRefusal → Type 0
+TakenAs z xs st (Ok st') = Freed z xs st st' ⊎ New z st st'
+TakenAs z xs st (Err NonHermitianAxis) = ⊥
+TakenAs z xs st (Err ExpansionLimit) = (st.free ≡ 0) × (z.limit < slot_sum z st)
 
 taken_is : (z : Shape) (xs : List ℕ) (st : Slots) → TakenAs z xs st (taken z xs st)
 unfolding taken
@@ -42,7 +42,7 @@ taken_is z xs st =
     (λ f. inr (omega arith, (ltb-false z.limit (slot_sum z st) f, refl))))
 
 -- 9 is no answer of it
-pub taken_even : (z : Shape) (xs : List ℕ) (st : Slots) → taken z xs st ≡ NonHermitianAxis → ⊥
+pub taken_even : (z : Shape) (xs : List ℕ) (st : Slots) → taken z xs st ≡ Err NonHermitianAxis → ⊥
 taken_even z xs st e = rw e at (taken_is z xs st)
 
 -- ---- the model
@@ -81,7 +81,7 @@ module _ (z : Shape) (n : ℕ) (value : ℕ → Value) (xs ws phase_row : List �
   same_sum = rw (← slots_are, ← axes_are, add-one k.slots) refl
 
   -- the limit refuses a new slot
-  pub took_none : taken z xs st ≡ ExpansionLimit → z.limit < (take_slot z.l k).store.peak
+  pub took_none : taken z xs st ≡ Err ExpansionLimit → z.limit < (take_slot z.l k).store.peak
   unfolding tested
   took_none e =
       let f = rw e at (taken_is z xs st) in
@@ -129,7 +129,7 @@ module _ (z : Shape) (n : ℕ) (value : ℕ → Value) (xs ws phase_row : List �
         })
 
     -- a slot is taken
-    pub took_slot : {st' : Slots} → taken z xs st ≡ Next st' → Result st'
+    pub took_slot : {st' : Slots} → taken z xs st ≡ Ok st' → Result st'
     took_slot e =
         ⊎_elim (λ a. subst Result a.1 (took_free a.0)) (λ a. subst Result a.1.1 (took_new a.0 a.1.0))
         (rw e at (taken_is z xs st))

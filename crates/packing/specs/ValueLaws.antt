@@ -1,5 +1,5 @@
 -- What the functions over slots leave, shown from what their callees leave. Assumes nothing.
-use Rattle.std.specs.Prelude.{◌≡◌, ℕ, ◌+◌, ◌-◌, ◌*◌, ◌/◌, ◌%◌, ◌≤◌, ◌<◌, max, take, drop, replicate}
+use Rattle.std.specs.Prelude.{◌≡◌, ℕ, ◌+◌, ◌-◌, ◌*◌, ◌/◌, ◌%◌, ◌≤◌, ◌<◌, max, take, drop, replicate, Ok, Err}
 use Rattle.std.proofs.Math.Path.{refl, sym, ap}
 use Rattle.std.proofs.Common.{◌∙◌, inr, add-mul, one-mul, arith}
 use Rattle.std.proofs.Math.Bool.{true, false}
@@ -29,7 +29,7 @@ use Rattle.records.specs.declared.NodeRecord.{NodeRecord}
 use Rattle.records.specs.Records.{said_identity, said_letter, said_product}
 use Rattle.packing.specs.declared.Slots.{Slots}
 use Rattle.packing.specs.declared.ValueHeld.{ValueHeld}
-use Rattle.packing.specs.declared.PackStep.TheVariants.{Next, ExpansionLimit}
+use Rattle.packing_answer.specs.declared.PackingRefusal.TheVariants.{ExpansionLimit}
 use Rattle.packing.specs.Values.{slot_of, phase_of, HeldPre, held_at, held_value, EvaluatePre, value_of_record, Evaluated, uses_of}
 use Rattle.packing.specs.Values.{ReleasePre, Released, ChildrenPre, ChildrenReleased, taken, KeepPre, Kept}
 
@@ -227,24 +227,24 @@ sum_is l s a = omega (arith, add-mul (s + 1) a (2 * l), add-mul s 1 (2 * l), one
 
 module _ (z : Shape) (xs : List ℕ) (st : Slots) where
   pub taken_free : (s : ℕ) → 0 < st.free → s ≡ get_or (row xs z.u free_row) (st.free - 1) 0
-      → Next (record { axes = st.axes; peak = st.peak; slots = st.slots; free = st.free - 1; taken = s }) ≡ taken z xs st
+      → Ok (record { axes = st.axes; peak = st.peak; slots = st.slots; free = st.free - 1; taken = s }) ≡ taken z xs st
   unfolding taken
   taken_free s h e =
-      ap (λ (i : ℕ). Next (record { axes = st.axes; peak = st.peak; slots = st.slots; free = st.free - 1; taken = i })) e
+      ap (λ (i : ℕ). Ok (record { axes = st.axes; peak = st.peak; slots = st.slots; free = st.free - 1; taken = i })) e
       ∙ sym (if_true _ _ (lt-ltb 0 st.free h))
 
-  pub taken_limit : st.free ≤ 0 → z.limit < st.slots * (2 * z.l) + 2 * z.l + st.axes * (2 * z.l) → ExpansionLimit ≡ taken z xs st
+  pub taken_limit : st.free ≤ 0 → z.limit < st.slots * (2 * z.l) + 2 * z.l + st.axes * (2 * z.l) → (Err ExpansionLimit) ≡ taken z xs st
   unfolding taken
   taken_limit h k =
       sym (if_false _ _ (le-ltb 0 st.free h) ∙ if_true _ _ (lt-ltb z.limit _ (rw (sum_is z.l st.slots st.axes) k)))
 
   pub taken_new : st.free ≤ 0 → st.slots * (2 * z.l) + 2 * z.l + st.axes * (2 * z.l) ≤ z.limit
       → (q : ℕ) → q ≡ max st.peak (st.slots * (2 * z.l) + 2 * z.l + st.axes * (2 * z.l))
-      → Next (record { axes = st.axes; peak = q; slots = st.slots + 1; free = 0; taken = st.slots }) ≡ taken z xs st
+      → Ok (record { axes = st.axes; peak = q; slots = st.slots + 1; free = 0; taken = st.slots }) ≡ taken z xs st
   unfolding taken
   taken_new h k q e =
       let sum = sum_is z.l st.slots st.axes in
-      ap (λ (i : ℕ). Next (record { axes = st.axes; peak = i; slots = st.slots + 1; free = 0; taken = st.slots }))
+      ap (λ (i : ℕ). Ok (record { axes = st.axes; peak = i; slots = st.slots + 1; free = 0; taken = st.slots }))
       (e ∙ ap (max st.peak) (sym sum))
       ∙ sym (if_false _ _ (le-ltb 0 st.free h) ∙ if_false _ _ (le-ltb z.limit _ (rw sum k)))
 

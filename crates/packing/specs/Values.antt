@@ -1,5 +1,5 @@
 -- Slots: what the functions over them demand and leave. Assumes nothing.
-use Rattle.std.specs.Prelude.{◌≡◌, List, [], ◌∷◌, ℕ, ◌+◌, ◌-◌, ◌*◌, ◌≤◌, ◌<◌, max, eqb, ltb, length, get_or, set}
+use Rattle.std.specs.Prelude.{◌≡◌, List, [], ◌∷◌, ℕ, ◌+◌, ◌-◌, ◌*◌, ◌≤◌, ◌<◌, max, eqb, ltb, length, get_or, set, Result, Ok, Err}
 use Rattle.store.specs.Part.{part, put}
 use Rattle.store.specs.Row.{row}
 use Rattle.model.specs.Lists.{when◌then◌else◌}
@@ -14,8 +14,8 @@ use Rattle.records.specs.declared.NodeRecord.{NodeRecord}
 use Rattle.records.specs.Records.{node_said}
 use Rattle.packing.specs.declared.Slots.{Slots}
 use Rattle.packing.specs.declared.ValueHeld.{ValueHeld}
-use Rattle.packing.specs.declared.PackStep.{PackStep}
-use Rattle.packing.specs.declared.PackStep.TheVariants.{Next, ExpansionLimit}
+use Rattle.packing_answer.specs.declared.PackingRefusal.{PackingRefusal}
+use Rattle.packing_answer.specs.declared.PackingRefusal.TheVariants.{ExpansionLimit}
 
 -- ---- what is held of a node
 
@@ -131,11 +131,11 @@ abbrev pub new_taken : Shape → Slots → Slots
 new_taken z st = record { axes = st.axes; peak = max st.peak (slot_sum z st); slots = st.slots + 1; free = 0; taken = st.slots }
 
 -- "a slot is freed after its last use and reused, last freed first"; for a new one the sum is tested
-unfoldable pub taken : Shape → List ℕ → Slots → PackStep
+unfoldable pub taken : Shape → List ℕ → Slots → Result Slots PackingRefusal
 taken z xs st =
-    when ltb 0 st.free then Next (free_taken z xs st)
-    else when ltb z.limit (slot_sum z st) then ExpansionLimit
-    else Next (new_taken z st)
+    when ltb 0 st.free then Ok (free_taken z xs st)
+    else when ltb z.limit (slot_sum z st) then (Err ExpansionLimit)
+    else Ok (new_taken z st)
 
 -- ---- keeping a value
 

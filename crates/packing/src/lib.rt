@@ -53,7 +53,7 @@ fn place_node(
     st: Slots,
     n: usize,
     x: NodeRecord,
-) -> PackStep
+) -> Result<Slots, PackingRefusal>
     requires { SomeProgram (λ (p : Program). PlaceAt p shape st n x words.old numbers.old) }
     ensures { RestKept shape words.old numbers.old words.new numbers.new
         × ((p : Program) → PlaceAt p shape st n x words.old numbers.old
@@ -70,12 +70,12 @@ fn place_node(
     };
     let step = values::take_slot(&numbers[..], shape, freed);
     match step {
-        PackStep::Next(after) => {
+        Ok(after) => {
             values::keep(words, numbers, shape, n, after.taken, phase);
-            PackStep::Next(after)
+            Ok(after)
         }
-        PackStep::NonHermitianAxis => PackStep::NonHermitianAxis,
-        PackStep::ExpansionLimit => PackStep::ExpansionLimit,
+        Err(PackingRefusal::NonHermitianAxis) => Err(PackingRefusal::NonHermitianAxis),
+        Err(PackingRefusal::ExpansionLimit) => Err(PackingRefusal::ExpansionLimit),
     }
 }
 
@@ -99,7 +99,7 @@ fn pack_root(
     n: usize,
     root: usize,
     phase: u32,
-) -> PackStep
+) -> Result<Slots, PackingRefusal>
     requires { SomeProgram (λ (p : Program). RootAt p shape st n root phase words.old numbers.old) }
     ensures { RestKept shape words.old numbers.old words.new numbers.new
         × ((p : Program) → RootAt p shape st n root phase words.old numbers.old
@@ -108,18 +108,15 @@ fn pack_root(
     let v = values::held(&numbers[..], shape, n);
     let total = (v.phase + phase % 4) % 4;
     if total % 2 == 1 {
-        return PackStep::NonHermitianAxis;
+        return Err(PackingRefusal::NonHermitianAxis);
     }
     let counted = st.slots * (2 * shape.l);
     let sizes = axes::sizes_of(shape, st.axes);
-    let i = interning::intern(words, numbers, sizes, counted, st.peak, v.at);
-    let Interned::Axis(a) = i else {
-        return PackStep::ExpansionLimit;
-    };
+    let a = interning::intern(words, numbers, sizes, counted, st.peak, v.at)?;
     store::write(numbers, shape.u, ROOT_AXIS, root, a.id as u32);
     store::write(numbers, shape.u, ROOT_SIGN, root, total);
     let free = values::release(numbers, shape.u, st.free, n);
-    PackStep::Next(Slots {
+    Ok(Slots {
         axes: a.axes,
         peak: a.peak,
         slots: st.slots,
@@ -137,7 +134,7 @@ fn pack_roots(
     shape: Shape,
     placed: Slots,
     n: usize,
-) -> PackStep
+) -> Result<Slots, PackingRefusal>
     requires { SomeProgram (λ (p : Program). RootsAt p shape placed n operations.now rows.now words.old numbers.old) }
     ensures { RestKept shape words.old numbers.old words.new numbers.new
         × ((p : Program)
@@ -149,15 +146,10 @@ fn pack_roots(
     while next != 0 {
         let root = next - 1;
         let phase = reference_phase(operations, rows, shape.operations, root);
-        let step = pack_root(words, numbers, shape, st, n, root, phase);
-        match step {
-            PackStep::Next(s) => st = s,
-            PackStep::NonHermitianAxis => return PackStep::NonHermitianAxis,
-            PackStep::ExpansionLimit => return PackStep::ExpansionLimit,
-        }
+        st = pack_root(words, numbers, shape, st, n, root, phase)?;
         next = store::read(&numbers[..], shape.u, NEXT_ROOT, root) as usize;
     }
-    PackStep::Next(st)
+    Ok(st)
 }
 
 // Node n's turn.
@@ -170,7 +162,7 @@ fn pack_node(
     shape: Shape,
     st: Slots,
     n: usize,
-) -> PackStep
+) -> Result<Slots, PackingRefusal>
     requires { NodeAt shape st n nodes.now operations.now rows.now words.old numbers.old }
     ensures { RestKept shape words.old numbers.old words.new numbers.new
         × Turned (program_in shape nodes.now operations.now rows.now) shape (suc n) (suc n) 0
@@ -178,14 +170,14 @@ fn pack_node(
         result words.new numbers.new }
 {
     if store::read(&numbers[..], shape.u, USES, n) == 0 {
-        return PackStep::Next(st);
+        return Ok(st);
     }
     let x = records::node_at(nodes, n);
     let step = place_node(words, numbers, shape, st, n, x);
     match step {
-        PackStep::Next(placed) => pack_roots(operations, rows, words, numbers, shape, placed, n),
-        PackStep::NonHermitianAxis => PackStep::NonHermitianAxis,
-        PackStep::ExpansionLimit => PackStep::ExpansionLimit,
+        Ok(placed) => pack_roots(operations, rows, words, numbers, shape, placed, n),
+        Err(PackingRefusal::NonHermitianAxis) => Err(PackingRefusal::NonHermitianAxis),
+        Err(PackingRefusal::ExpansionLimit) => Err(PackingRefusal::ExpansionLimit),
     }
 }
 
@@ -212,12 +204,7 @@ fn pack_nodes(
         taken: 0,
     };
     for n in 0..shape.nodes {
-        let step = pack_node(nodes, operations, rows, words, numbers, shape, st, n);
-        match step {
-            PackStep::Next(s) => st = s,
-            PackStep::NonHermitianAxis => return Packed::NonHermitianAxis,
-            PackStep::ExpansionLimit => return Packed::ExpansionLimit,
-        }
+        st = pack_node(nodes, operations, rows, words, numbers, shape, st, n)?;
     }
     Packed::Axes {
         count: st.axes,

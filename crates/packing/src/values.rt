@@ -78,14 +78,14 @@ pub fn release_children(numbers: &mut [u32], u: usize, free: usize, x: NodeRecor
 }
 
 // The slot freed last, or a new one within the limit.
-pub fn take_slot(numbers: &[u32], shape: Shape, st: Slots) -> PackStep
+pub fn take_slot(numbers: &[u32], shape: Shape, st: Slots) -> Result<Slots, PackingRefusal>
     requires { TakePre shape numbers.now st }
     ensures { result ≡ taken shape numbers.now st }
 {
     if 0 < st.free {
         let free = st.free - 1;
         let taken = store::read(numbers, shape.u, FREE, free) as usize;
-        return PackStep::Next(Slots {
+        return Ok(Slots {
             axes: st.axes,
             peak: st.peak,
             slots: st.slots,
@@ -96,9 +96,9 @@ pub fn take_slot(numbers: &[u32], shape: Shape, st: Slots) -> PackStep
     let n = 2 * shape.l;
     let sum = st.slots * n + n + st.axes * n;
     if shape.limit < sum {
-        return PackStep::ExpansionLimit;
+        return Err(PackingRefusal::ExpansionLimit);
     }
-    PackStep::Next(Slots {
+    Ok(Slots {
         axes: st.axes,
         peak: layout::peak_with(st.peak, sum),
         slots: st.slots + 1,

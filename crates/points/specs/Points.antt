@@ -1,5 +1,5 @@
 -- A point of a run as it lies in memory, and what holds of it. Assumes nothing.
-use Rattle.std.specs.Prelude.{◌≡◌, refl, List, ℕ, ◌+◌, ◌*◌, ◌≤◌, ◌<◌, length}
+use Rattle.std.specs.Prelude.{◌≡◌, refl, List, ℕ, ◌+◌, ◌*◌, ◌≤◌, ◌<◌, length, Result, Ok, Err}
 use Rattle.std.proofs.Common.{◌∙◌, subst, arith}
 use Rattle.model.specs.declared.Options.{Options}
 use Rattle.model.specs.Program.{Program}
@@ -9,8 +9,8 @@ use Rattle.layout.specs.Shape.{Granted}
 use Rattle.work.specs.Work.{WorkIn}
 use Rattle.run_wellformed.specs.WorkWell.{WorkWell}
 use Rattle.steps.specs.declared.State.{State}
-use Rattle.steps.specs.declared.Step.{Step}
-use Rattle.steps.specs.declared.Step.TheVariants.{Next, ExpansionLimit}
+use Rattle.model.specs.declared.ExpansionLimit.{ExpansionLimit}
+use Rattle.model.specs.Interface.{expansion_limit}
 
 -- one pass raises the counters by no more than this, 2 ^ 33, all together
 abbrev pub most : ℕ
@@ -50,9 +50,9 @@ pub long_then : {ws xs ws₁ xs₁ ws₂ xs₂ : List ℕ} → SameLong ws xs ws
 long_then a b = record { words = b.words ∙ a.words; numbers = b.numbers ∙ a.numbers }
 
 -- what an answer means, where v is the model's work then
-pub record EndedAs (z : Shape) (i : ℕ) (r : Step) (ws xs : List ℕ) (p : Program) (v : Work) : Type 0 where
-  pub done : (s : State) → r ≡ Next s → RunAt z i s ws xs p v
-  pub refused : r ≡ ExpansionLimit → z.limit < v.store.peak
+pub record EndedAs (z : Shape) (i : ℕ) (r : Result State ExpansionLimit) (ws xs : List ℕ) (p : Program) (v : Work) : Type 0 where
+  pub done : (s : State) → r ≡ Ok s → RunAt z i s ws xs p v
+  pub refused : r ≡ Err expansion_limit → z.limit < v.store.peak
 
 -- ---- what holds of a point
 
@@ -77,14 +77,14 @@ some_later h s = record { program = s.program; work = s.work; at = later h s.at 
 
 -- an answer that is no refusal
 pub ended_at : {z : Shape} {i j : ℕ} {st : State} {ws xs : List ℕ} {p : Program} {w : Work} → i ≤ j → RunAt z i st ws xs p w
-    → EndedAs z j (Next st) ws xs p w
+    → EndedAs z j (Ok st) ws xs p w
 ended_at {z} {i} {j} {st} {ws} {xs} {p} {w} h r = record {
   done = λ s e. let a : st ≡ s = cc in subst (λ (x : State). RunAt z j x ws xs p w) a (later h r);
   refused = λ e. let b : ◌≡◌ {A = ℕ} 0 1 = cc in absurd (omega arith);
 }
 
 pub ended_limit : {z : Shape} {i : ℕ} {ws xs : List ℕ} {p : Program} {w : Work} → z.limit < w.store.peak
-    → EndedAs z i ExpansionLimit ws xs p w
+    → EndedAs z i (Err expansion_limit) ws xs p w
 ended_limit h = record {
   done = λ s e. let b : ◌≡◌ {A = ℕ} 0 1 = cc in absurd (omega arith);
   refused = λ e. h;

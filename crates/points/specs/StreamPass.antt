@@ -1,5 +1,5 @@
 -- The stream, from a point of a run to the next, or refused. Assumes nothing.
-use Rattle.std.specs.Prelude.{◌≡◌, refl, Bool, true, false, List, ℕ, ◌+◌}
+use Rattle.std.specs.Prelude.{◌≡◌, refl, Bool, true, false, List, ℕ, ◌+◌, Result, Ok, Err}
 use Rattle.std.proofs.Math.Path.{sym, ap}
 use Rattle.std.proofs.Common.{◌∙◌, arith}
 use Rattle.model.specs.declared.Lazy.{Lazy}
@@ -14,8 +14,8 @@ use Rattle.theory.specs.Cases.{if_true, if_false}
 use Rattle.layout.specs.declared.Shape.{Shape}
 use Rattle.layout.specs.Shape.{granted_same}
 use Rattle.steps.specs.declared.State.{State}
-use Rattle.steps.specs.declared.Step.{Step}
-use Rattle.steps.specs.declared.Step.TheVariants.{Next, ExpansionLimit}
+use Rattle.model.specs.declared.ExpansionLimit.{ExpansionLimit}
+use Rattle.model.specs.Interface.{expansion_limit}
 use Rattle.stream_states.specs.declared.StreamRules.{StreamRules}
 use Rattle.stream_states.specs.States.{RulesAs}
 use Rattle.stream.specs.Passing.{PassAtWork, SomeWork, LeftP}
@@ -55,19 +55,19 @@ module _ (o : Options) (merging : Bool) (st : State) {first : Absorption} (said 
   stream_pre s = record { program = s.program; work = s.work; rules = rules_of o; it = stream_at s.at }
 
   -- g are the counters that the pass was lent, h those that it left
-  module _ {g : Counters} (lent : g ≡ counters_at st) {r : Step} {ws' xs' : List ℕ} {h : Counters}
+  module _ {g : Counters} (lent : g ≡ counters_at st) {r : Result State ExpansionLimit} {ws' xs' : List ℕ} {h : Counters}
       (x : StreamedAs z (stream_rules o first merging) st.out st.axes st.peak ws xs g r ws' xs' h) where
-    pub stream_limit : r ≡ ExpansionLimit → (i : ℕ) (p : Program) (w : Work) → RunAt z i st ws xs p w
-        → EndedAs z (i + 1) ExpansionLimit ws' xs' p (stream_pass z.l (rules_of o) merging w)
+    pub stream_limit : r ≡ Err expansion_limit → (i : ℕ) (p : Program) (w : Work) → RunAt z i st ws xs p w
+        → EndedAs z (i + 1) (Err expansion_limit) ws' xs' p (stream_pass z.l (rules_of o) merging w)
     stream_limit e i p w a = ended_limit ((x.passed p w (rules_of o) (stream_at a)).refused e)
 
-    module _ {d : State} (e : r ≡ Next d) where
+    module _ {d : State} (e : r ≡ Ok d) where
       -- the counters are the run's
       counts : h ≡ raised (counters_at st) d.merges d.absorbed
       counts = x.counters ∙ rw (lent, (next_counts e).0, (next_counts e).1) refl
 
       pub stream_done : {next : State} → next ≡ with_counts h d → (i : ℕ) (p : Program) (w : Work) → RunAt z i st ws xs p w
-          → EndedAs z (i + 1) (Next next) ws' xs' p (stream_pass z.l (rules_of o) merging w)
+          → EndedAs z (i + 1) (Ok next) ws' xs' p (stream_pass z.l (rules_of o) merging w)
       stream_done f i p w a =
           let b = x.passed p w (rules_of o) (stream_at a) in
           rw (f, counts) (ended_at {i = i + 1} (omega arith) (record {

@@ -11,7 +11,7 @@ use Rattle.bits.specs.Popcount.{popcount, popcount_zero, popcount_step, popcount
 use Rattle.pauli.specs.Word.{x_word, z_word, common, xor_words, phase, anticommutes}
 use Rattle.pauli.specs.ProductLaws.{xor_words_at, common_more}
 use Rattle.angle.specs.declared.Phase.{Phase}
-use Rattle.product.specs.declared.Commutation.TheVariants.{Commute, Anticommute}
+use Rattle.std.specs.Prelude.{Some, None}
 use Rattle.product.specs.Product.{PhaseOf, phase_tells, odd_phase}
 
 -- ---- one number of each plane
@@ -142,11 +142,11 @@ module _ (l : ℕ) (p q : List ℕ) (ones twos j : ℕ) (a : Reading l p q ones 
 
 module _ (l : ℕ) (p q : List ℕ) where
   -- the words commute
-  pub tell_commute : anticommutes l p q ≡ false → Commute ≡ odd_phase l p q
+  pub tell_commute : anticommutes l p q ≡ false → None ≡ odd_phase l p q
   unfolding odd_phase
   tell_commute h = rw h refl
 
   -- they anticommute: it is the whole phase
-  pub tell_phase : {e : Phase} → anticommutes l p q ≡ true → PhaseOf l p q e.0 → Anticommute e ≡ odd_phase l p q
+  pub tell_phase : {e : Phase} → anticommutes l p q ≡ true → PhaseOf l p q e.0 → Some e ≡ odd_phase l p q
   unfolding odd_phase
   tell_phase h f = rw (h, ← f.turns) refl

@@ -7,8 +7,8 @@ ghost use Rattle.model.specs.Rounds.{Work, passes};
 ghost use Rattle.points.specs.Points.{SomeRun, OptionsIn, SameLong, RunAt, EndedAs};
 
 use layout::Shape;
-use model::{Options, Strategy};
-use steps::{State, Step};
+use model::{ExpansionLimit, Options, Strategy};
+use steps::State;
 
 // The passes, by the strategy.
 pub fn passes(
@@ -17,7 +17,7 @@ pub fn passes(
     shape: Shape,
     options: Options,
     first: State,
-) -> Step
+) -> Result<State, ExpansionLimit>
     requires { SomeRun shape 0 first words.old numbers.old × OptionsIn options }
     ensures { SameLong words.old numbers.old words.new numbers.new
         × ((p : Program) (w : Work) → RunAt shape 0 first words.old numbers.old p w

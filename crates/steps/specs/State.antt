@@ -1,13 +1,11 @@
 -- The first state, and a state with a part of it changed. Assumes nothing.
-use Rattle.std.specs.Prelude.{◌≡◌, ℕ}
+use Rattle.std.specs.Prelude.{◌≡◌, ℕ, Result, Ok, Err}
 use Rattle.std.proofs.Common.{sym, ◌∙◌}
 use Rattle.std.proofs.Math.Path.{ap}
 use Rattle.steps.specs.declared.State.{State}
 use Rattle.steps.specs.declared.Image.{Image}
-use Rattle.steps.specs.declared.Step.{Step}
-use Rattle.steps.specs.declared.Step.TheVariants.{Next, ExpansionLimit}
-use Rattle.steps.specs.declared.ImageStep.{ImageStep}
-use Rattle.steps.specs.declared.ImageStep.TheVariants.{Next as NextImage, ExpansionLimit as NoImage}
+use Rattle.model.specs.declared.ExpansionLimit.{ExpansionLimit}
+use Rattle.model.specs.Interface.{expansion_limit}
 
 -- the first: so many axes, the largest sum so far, so many items
 abbrev pub first_state : ℕ → ℕ → ℕ → State
@@ -143,15 +141,15 @@ with_absorbed n st = record {
 }
 
 -- how a step from st ends, by how carrying an axis ends
-unfoldable pub step_with : State → ImageStep → Step
-step_with st (NextImage i) = Next (with_image i.axes i.peak i.id i.turns st)
-step_with st NoImage = ExpansionLimit
+unfoldable pub step_with : State → Result Image ExpansionLimit → Result State ExpansionLimit
+step_with st (Ok i) = Ok (with_image i.axes i.peak i.id i.turns st)
+step_with st (Err expansion_limit) = (Err expansion_limit)
 
-module _ (st : State) {r : ImageStep} where
-  pub with_next : {i : Image} {s : State} → r ≡ NextImage i → s ≡ with_image i.axes i.peak i.id i.turns st → step_with st r ≡ Next s
+module _ (st : State) {r : Result Image ExpansionLimit} where
+  pub with_next : {i : Image} {s : State} → r ≡ Ok i → s ≡ with_image i.axes i.peak i.id i.turns st → step_with st r ≡ Ok s
   unfolding step_with
-  with_next e f = ap (step_with st) e ∙ ap Next (sym f)
+  with_next e f = ap (step_with st) e ∙ ap Ok (sym f)
 
-  pub with_limit : r ≡ NoImage → step_with st r ≡ ExpansionLimit
+  pub with_limit : r ≡ Err expansion_limit → step_with st r ≡ Err expansion_limit
   unfolding step_with
   with_limit e = ap (step_with st) e

@@ -21,13 +21,6 @@ pub struct State {
     pub absorbed: usize,
 }
 
-// How a step ends: the state then, or refusal 10.
-#[derive(Clone, Copy)]
-pub enum Step {
-    Next(State),
-    ExpansionLimit,
-}
-
 // An axis's image: how many axes there are with it, the largest word sum that was tested by then, its id and its quarter turns.
 #[derive(Clone, Copy)]
 pub struct Image {
@@ -35,13 +28,6 @@ pub struct Image {
     pub peak: usize,
     pub id: usize,
     pub turns: u32,
-}
-
-// How carrying an axis ends: its image, or refusal 10. Smaller than a `Step`, which is copied through memory.
-#[derive(Clone, Copy)]
-pub enum ImageStep {
-    Next(Image),
-    ExpansionLimit,
 }
 
 // Where a run or a stream begins: so many axes, the largest sum so far, so many items.

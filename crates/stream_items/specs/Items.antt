@@ -1,5 +1,5 @@
 -- One item of a stream: a rotation, behind those that wait and block it, or a barrier, behind all that wait. Assumes nothing.
-use Rattle.std.specs.Prelude.{◌≡◌, Bool, true, false, ℕ, ◌+◌, ◌-◌, ◌*◌, ◌%◌, ◌≤◌, ◌<◌, length, get_or}
+use Rattle.std.specs.Prelude.{◌≡◌, Bool, true, false, ℕ, ◌+◌, ◌-◌, ◌*◌, ◌%◌, ◌≤◌, ◌<◌, length, get_or, Result, Ok, Err}
 use Rattle.std.proofs.Math.Path.{refl, sym, ap, subst}
 use Rattle.std.proofs.Common.{ap₂, ◌∙◌, true≢false, lt_of_lt_of_le, arith}
 use mathlib.Core.List.{List, [], ◌∷◌, ◌++◌}
@@ -31,8 +31,8 @@ use Rattle.run_wellformed.specs.StreamSteps.{absorb_blocking_by}
 use Rattle.run_wellformed.specs.PassInside.{PassInside, inside_kept}
 use Rattle.steps.specs.declared.State.{State}
 use Rattle.steps.specs.State.{with_segment}
-use Rattle.steps.specs.declared.Step.{Step}
-use Rattle.steps.specs.declared.Step.TheVariants.{Next, ExpansionLimit}
+use Rattle.model.specs.declared.ExpansionLimit.{ExpansionLimit}
+use Rattle.model.specs.Interface.{expansion_limit}
 use Rattle.stream_states.specs.declared.StreamRules.{StreamRules}
 use Rattle.stream_states.specs.States.{last_in, is_waiting, Waits, PassAt, lazy_only, LeftS}
 use Rattle.stream_states.specs.States.{left_then, granted_left, stream_rows, SteppedAs, as_next, as_limit, stepped_from}
@@ -69,12 +69,12 @@ blocking_is l p a id h e =
     (carry_axis l p a).out)
     (sym (ap (word_of (carry_axis l p a).store.axes) (e ∙ id_as l p a h) ∙ its_word l p a))
 
-module _ {z : Shape} {st : State} {a : ℕ} {ws xs : List ℕ} {r : Step} {ws' xs' : List ℕ}
+module _ {z : Shape} {st : State} {a : ℕ} {ws xs : List ℕ} {r : Result State ExpansionLimit} {ws' xs' : List ℕ}
     (call : CarryLeft z st a ws xs r ws' xs') {n : ℕ} {p : Pass} (h : BlockingAt z st a ws xs n p) where
   a_stored : a < length p.store.axes
   a_stored = omega (arith, axes_count h.carry.at.holds, h.carry.a_in)
 
-  module _ {s : State} (e : r ≡ Next s) where
+  module _ {s : State} (e : r ≡ Ok s) where
     absorbed_same : s.absorbed ≡ st.absorbed
     absorbed_same = ap (λ (x : State). x.absorbed) (carried_same h.carry call e)
 
@@ -88,7 +88,7 @@ module _ {z : Shape} {st : State} {a : ℕ} {ws xs : List ℕ} {r : Step} {ws' x
       few = omega (arith, absorbed_same, out_same, h.few);
     }
 
-    pub blocked_as : {q : Step} {ws'' xs'' : List ℕ}
+    pub blocked_as : {q : Result State ExpansionLimit} {ws'' xs'' : List ℕ}
         → SteppedAs z lazy 0 s.out s q ws'' xs'' (waited_all z false s.id (carry_axis z.l p a))
         → SteppedAs z lazy 0 st.out st q ws'' xs'' (absorb_blocking z.l p a)
     blocked_as {q} {ws''} {xs''} t =
@@ -96,8 +96,8 @@ module _ {z : Shape} {st : State} {a : ℕ} {ws xs : List ℕ} {r : Step} {ws' x
         subst (SteppedAs z lazy 0 st.out st q ws'' xs'') (sym (blocking_is z.l p a s.id a_stored (carried_id h.carry call e)))
         (stepped_from 0 st.out t (omega arith) (omega (arith, absorbed_same, out_same)))
 
-  pub blocked_limit : r ≡ ExpansionLimit → {ws'' xs'' : List ℕ}
-      → SteppedAs z lazy 0 st.out st ExpansionLimit ws'' xs'' (absorb_blocking z.l p a)
+  pub blocked_limit : r ≡ Err expansion_limit → {ws'' xs'' : List ℕ}
+      → SteppedAs z lazy 0 st.out st (Err expansion_limit) ws'' xs'' (absorb_blocking z.l p a)
   unfolding absorb_blocking
   blocked_limit e =
       as_limit (lt_of_lt_of_le (carry_refused h.carry call e)
@@ -124,9 +124,9 @@ none_blocks l lazy p a e = absurd (true≢false e)
 
 module _ {z : Shape} {c : StreamRules} {st : State} {a : ℕ} {ws xs : List ℕ} {m : Absorption} {n : ℕ} {p : Pass}
     (h : UnblockAt z c st a ws xs m n p) where
-  pub unblock_none : is_lazy c.absorption ≡ false → SteppedAs z m 0 st.out st (Next st) ws xs (unblocked z.l m p a)
+  pub unblock_none : is_lazy c.absorption ≡ false → SteppedAs z m 0 st.out st (Ok st) ws xs (unblocked z.l m p a)
   unblock_none e =
-      subst (SteppedAs z m 0 st.out st (Next st) ws xs) (sym (none_blocks z.l m p a (ap is_lazy h.mode ∙ e)))
+      subst (SteppedAs z m 0 st.out st (Ok st) ws xs) (sym (none_blocks z.l m p a (ap is_lazy h.mode ∙ e)))
       (as_next h.carry.at.holds (omega arith) (omega arith))
 
   module _ (e : is_lazy c.absorption ≡ true) where
@@ -136,7 +136,7 @@ module _ {z : Shape} {c : StreamRules} {st : State} {a : ℕ} {ws xs : List ℕ}
     pub blocking_there : BlockingAt z st a ws xs n p
     blocking_there = record { carry = subst (λ (x : Absorption). CarryPass z st a ws xs x n p) waits h.carry; few = h.few }
 
-    pub unblock_as : {r : Step} {ws' xs' : List ℕ} → SteppedAs z lazy 0 st.out st r ws' xs' (absorb_blocking z.l p a)
+    pub unblock_as : {r : Result State ExpansionLimit} {ws' xs' : List ℕ} → SteppedAs z lazy 0 st.out st r ws' xs' (absorb_blocking z.l p a)
         → SteppedAs z m 0 st.out st r ws' xs' (unblocked z.l m p a)
     unfolding unblocked
     unblock_as {r} {ws'} {xs'} s =
@@ -181,8 +181,8 @@ module _ {z : Shape} {c : StreamRules} {st : State} {a k : ℕ} {ws xs : List �
   pub unblock_there : UnblockAt z c st a ws xs m n p
   unblock_there = record { carry = h.carrying.carry; mode = h.carrying.mode; few = h.few_all }
 
-  module _ {r : Step} {ws₁ xs₁ : List ℕ} (left : LeftS z ws xs ws₁ xs₁)
-      (call : SteppedAs z m 0 st.out st r ws₁ xs₁ (unblocked z.l m p a)) {s : State} (e : r ≡ Next s) where
+  module _ {r : Result State ExpansionLimit} {ws₁ xs₁ : List ℕ} (left : LeftS z ws xs ws₁ xs₁)
+      (call : SteppedAs z m 0 st.out st r ws₁ xs₁ (unblocked z.l m p a)) {s : State} (e : r ≡ Ok s) where
     from : Continues z.l (Unit {0}) p (unblocked z.l m p a)
     from = unblocked_well z.l m p a h.carrying.carry.at.fine.well
 
@@ -218,17 +218,17 @@ module _ (z : Shape) (c : StreamRules) (g : Rules) (st : State) (a k : ℕ) (p :
       take_rotation z.l g c.merge (carry_axis z.l before a) (image_id z.l (carry_axis z.l before a) a)
       (with_sign (axis_image z.l (carry_axis z.l before a) a).turns k)
 
-  module _ {r : Step} {ws₁ xs₁ : List ℕ} (first : SteppedAs z g.absorption 0 st.out st r ws₁ xs₁ before) where
-    pub rotation_next : {q : Step} {ws₂ xs₂ : List ℕ} {s : State} → r ≡ Next s → SteppedAs z g.absorption 1 1 s q ws₂ xs₂ taken
+  module _ {r : Result State ExpansionLimit} {ws₁ xs₁ : List ℕ} (first : SteppedAs z g.absorption 0 st.out st r ws₁ xs₁ before) where
+    pub rotation_next : {q : Result State ExpansionLimit} {ws₂ xs₂ : List ℕ} {s : State} → r ≡ Ok s → SteppedAs z g.absorption 1 1 s q ws₂ xs₂ taken
         → SteppedAs z g.absorption 1 (st.out + 1) st q ws₂ xs₂ (stream_item z.l g c.merge p (rotation (rot a k)))
     rotation_next {q} {ws₂} {xs₂} {s} e second =
         subst (SteppedAs z g.absorption 1 (st.out + 1) st q ws₂ xs₂) (sym (rotation_is z.l g c.merge p a k))
         (stepped_from 1 _ second (omega (arith, first.merges s e)) (omega (arith, first.absorbed s e)))
 
-    pub rotation_limit : r ≡ ExpansionLimit
-        → SteppedAs z g.absorption 1 (st.out + 1) st ExpansionLimit ws₁ xs₁ (stream_item z.l g c.merge p (rotation (rot a k)))
+    pub rotation_limit : r ≡ Err expansion_limit
+        → SteppedAs z g.absorption 1 (st.out + 1) st (Err expansion_limit) ws₁ xs₁ (stream_item z.l g c.merge p (rotation (rot a k)))
     rotation_limit e =
-        subst (SteppedAs z g.absorption 1 (st.out + 1) st ExpansionLimit ws₁ xs₁) (sym (rotation_is z.l g c.merge p a k))
+        subst (SteppedAs z g.absorption 1 (st.out + 1) st (Err expansion_limit) ws₁ xs₁) (sym (rotation_is z.l g c.merge p a k))
         (as_limit (omega (
           arith,
           first.refused e,
@@ -252,9 +252,9 @@ none_waiting l lazy p e = absurd (true≢false e)
 
 module _ {z : Shape} {c : StreamRules} {st : State} {ws xs : List ℕ} {m : Absorption} {n : ℕ} {p : Pass}
     (h : AllAt z c st ws xs m n p) where
-  pub none_waits : is_lazy c.absorption ≡ false → SteppedAs z m 0 st.out st (Next st) ws xs (absorb_all_waiting z.l m p)
+  pub none_waits : is_lazy c.absorption ≡ false → SteppedAs z m 0 st.out st (Ok st) ws xs (absorb_all_waiting z.l m p)
   none_waits e =
-      subst (SteppedAs z m 0 st.out st (Next st) ws xs) (sym (none_waiting z.l m p (ap is_lazy h.mode ∙ e)))
+      subst (SteppedAs z m 0 st.out st (Ok st) ws xs) (sym (none_waiting z.l m p (ap is_lazy h.mode ∙ e)))
       (as_next h.at.holds (omega arith) (omega arith))
 
   module _ (e : is_lazy c.absorption ≡ true) where
@@ -268,7 +268,7 @@ module _ {z : Shape} {c : StreamRules} {st : State} {ws xs : List ℕ} {m : Abso
       few = h.few;
     }
 
-    pub all_as : {r : Step} {ws' xs' : List ℕ} → SteppedAs z lazy 0 st.out st r ws' xs' (waited_all z true 0 p)
+    pub all_as : {r : Result State ExpansionLimit} {ws' xs' : List ℕ} → SteppedAs z lazy 0 st.out st r ws' xs' (waited_all z true 0 p)
         → SteppedAs z m 0 st.out st r ws' xs' (absorb_all_waiting z.l m p)
     unfolding absorb_all_waiting picked_by
     all_as {r} {ws'} {xs'} s =
@@ -291,14 +291,14 @@ pub record BarrierAt (z : Shape) (st : State) (x : Tagged) (ws xs : List ℕ) (m
   pub tag : x.tag ≡ 0 → ⊥
   pub sign : x.angle < 4
 
-module _ {z : Shape} {st : State} {x : Tagged} {ws xs : List ℕ} {r : Step} {ws' xs' : List ℕ}
+module _ {z : Shape} {st : State} {x : Tagged} {ws xs : List ℕ} {r : Result State ExpansionLimit} {ws' xs' : List ℕ}
     (call : CarryLeft z st x.axis ws xs r ws' xs') {m : Absorption} {n : ℕ} {p : Pass} (h : BarrierAt z st x ws xs m n p) where
-  pub barrier_limit : r ≡ ExpansionLimit → {ws'' xs'' : List ℕ}
-      → SteppedAs z m 0 0 st ExpansionLimit ws'' xs'' (barrier_put z.l p (x.tag - 1) x.axis x.angle)
+  pub barrier_limit : r ≡ Err expansion_limit → {ws'' xs'' : List ℕ}
+      → SteppedAs z m 0 0 st (Err expansion_limit) ws'' xs'' (barrier_put z.l p (x.tag - 1) x.axis x.angle)
   unfolding barrier_put put_out with_last
   barrier_limit e = as_limit (carry_refused h.carry call e)
 
-  module _ {to : State} (e : r ≡ Next to) where
+  module _ {to : State} (e : r ≡ Ok to) where
     pub barrier_entry : EntryPre xs' z.u out_row to.out
     barrier_entry =
         record {
@@ -328,7 +328,7 @@ module _ {z : Shape} {st : State} {x : Tagged} {ws xs : List ℕ} {r : Step} {ws
           said_other (moved_barrier x to.id to.turns) h.tag
           ∙ ap₂ (λ (i t : ℕ). barrier (x.tag - 1) i ((t + x.angle) % 4)) (carried_id h.carry call e) (carried_turns h.carry call e)
 
-      pub barrier_next : SteppedAs z m 0 0 st (Next (with_segment (to.out + 1) to)) ws' xs''
+      pub barrier_next : SteppedAs z m 0 0 st (Ok (with_segment (to.out + 1) to)) ws' xs''
           (barrier_put z.l p (x.tag - 1) x.axis x.angle)
       unfolding barrier_put put_out with_last member any_of
       barrier_next =

@@ -1,5 +1,5 @@
 -- All items of a stream, one after the other. Assumes nothing.
-use Rattle.std.specs.Prelude.{◌≡◌, Bool, ℕ, suc, ◌+◌, ◌-◌, ◌*◌, ◌≤◌, ◌<◌, length}
+use Rattle.std.specs.Prelude.{◌≡◌, Bool, ℕ, suc, ◌+◌, ◌-◌, ◌*◌, ◌≤◌, ◌<◌, length, Result, Ok, Err}
 use Rattle.std.proofs.Math.Path.{refl, ap}
 use Rattle.std.proofs.Common.{sym, ◌∙◌, subst, le_trans, lt_of_lt_of_le, arith}
 use mathlib.Core.List.{List, [], ◌∷◌}
@@ -25,8 +25,8 @@ use Rattle.run_wellformed.specs.WaitingItems.{Still}
 use Rattle.run_wellformed.specs.Changing.{stream_item_still, still_after}
 use Rattle.run_wellformed.specs.PassInside.{PassInside, inside_kept}
 use Rattle.steps.specs.declared.State.{State}
-use Rattle.steps.specs.declared.Step.{Step}
-use Rattle.steps.specs.declared.Step.TheVariants.{Next, ExpansionLimit}
+use Rattle.model.specs.declared.ExpansionLimit.{ExpansionLimit}
+use Rattle.model.specs.Interface.{expansion_limit}
 use Rattle.stream_states.specs.declared.StreamRules.{StreamRules}
 use Rattle.stream_states.specs.States.{HoldsPass, PassAt, SomePass, RulesAs, LeftS, left_none, left_then, granted_left}
 use Rattle.stream_states.specs.States.{SteppedAs, as_limit, stepped_from}
@@ -80,8 +80,8 @@ module _ {z : Shape} {c : StreamRules} {st : State} {x : Tagged} {ws xs : List �
   all_long at_once = refl
   all_long lazy = waiting_long z.l _ p 0 p.out
 
-  module _ {r : Step} {ws₁ xs₁ : List ℕ} (left : LeftS z ws xs ws₁ xs₁)
-      (call : SteppedAs z m 0 st.out st r ws₁ xs₁ (absorb_all_waiting z.l m p)) {s : State} (e : r ≡ Next s) where
+  module _ {r : Result State ExpansionLimit} {ws₁ xs₁ : List ℕ} (left : LeftS z ws xs ws₁ xs₁)
+      (call : SteppedAs z m 0 st.out st r ws₁ xs₁ (absorb_all_waiting z.l m p)) {s : State} (e : r ≡ Ok s) where
     pub same_out : s.out ≡ st.out
     same_out =
         sym (out_long (call.next s e)) ∙ all_long m ∙ out_long h.at.holds
@@ -122,19 +122,19 @@ unfolding stream_item barrier_put
 barrier_item l g merging p x n = ap (stream_item l g merging p) (said_other x n)
 
 module _ (z : Shape) (c : StreamRules) (g : Rules) (st : State) (x : Tagged) (p : Pass) where
-  pub item_as_rotation : {r : Step} {ws xs : List ℕ} → x.tag ≡ 0
+  pub item_as_rotation : {r : Result State ExpansionLimit} {ws xs : List ℕ} → x.tag ≡ 0
       → SteppedAs z g.absorption 1 (st.out + 1) st r ws xs (stream_item z.l g c.merge p (rotation (rot x.axis x.angle)))
       → SteppedAs z g.absorption 1 (st.out + 1) st r ws xs (stream_item z.l g c.merge p (item_said x))
   item_as_rotation {r} {ws} {xs} e s =
       subst (λ (i : Item). SteppedAs z g.absorption 1 (st.out + 1) st r ws xs (stream_item z.l g c.merge p i))
       (sym (said_rotation x e)) s
 
-  module _ (t : x.tag ≡ 0 → ⊥) {r : Step} {ws₁ xs₁ : List ℕ}
+  module _ (t : x.tag ≡ 0 → ⊥) {r : Result State ExpansionLimit} {ws₁ xs₁ : List ℕ}
       (first : SteppedAs z g.absorption 0 st.out st r ws₁ xs₁ (absorb_all_waiting z.l g.absorption p)) where
-    pub item_limit : r ≡ ExpansionLimit
-        → SteppedAs z g.absorption 1 (st.out + 1) st ExpansionLimit ws₁ xs₁ (stream_item z.l g c.merge p (item_said x))
+    pub item_limit : r ≡ Err expansion_limit
+        → SteppedAs z g.absorption 1 (st.out + 1) st (Err expansion_limit) ws₁ xs₁ (stream_item z.l g c.merge p (item_said x))
     item_limit e =
-        subst (SteppedAs z g.absorption 1 (st.out + 1) st ExpansionLimit ws₁ xs₁) (sym (barrier_item z.l g c.merge p x t))
+        subst (SteppedAs z g.absorption 1 (st.out + 1) st (Err expansion_limit) ws₁ xs₁) (sym (barrier_item z.l g c.merge p x t))
         (as_limit (lt_of_lt_of_le (first.refused e) rises))
       where
         rises : (absorb_all_waiting z.l g.absorption p).store.peak
@@ -142,7 +142,7 @@ module _ (z : Shape) (c : StreamRules) (g : Rules) (st : State) (x : Tagged) (p 
         rises = unfold barrier_put Rattle.model.specs.Stream.put_out Rattle.model.specs.Stream.with_last in
             (Rattle.theory.specs.Peak.carry_axis_rises z.l (absorb_all_waiting z.l g.absorption p) x.axis)
 
-    pub item_as_barrier : {q : Step} {ws₂ xs₂ : List ℕ} {s : State} → r ≡ Next s → s.out ≡ st.out
+    pub item_as_barrier : {q : Result State ExpansionLimit} {ws₂ xs₂ : List ℕ} {s : State} → r ≡ Ok s → s.out ≡ st.out
         → SteppedAs z g.absorption 0 0 s q ws₂ xs₂
         (barrier_put z.l (absorb_all_waiting z.l g.absorption p) (x.tag - 1) x.axis x.angle)
         → SteppedAs z g.absorption 1 (st.out + 1) st q ws₂ xs₂ (stream_item z.l g c.merge p (item_said x))
@@ -206,7 +206,7 @@ reading_first {z} {c} {k} {st} {ws} {xs} s = record {
 }
 
 -- what an item's call leaves
-abbrev pub ItemLeft : Shape → StreamRules → State → Tagged → List ℕ → List ℕ → Step → List ℕ → List ℕ → Type 0
+abbrev pub ItemLeft : Shape → StreamRules → State → Tagged → List ℕ → List ℕ → Result State ExpansionLimit → List ℕ → List ℕ → Type 0
 ItemLeft z c st x ws xs r ws' xs' =
     LeftS z ws xs ws' xs'
     × ((g : Rules) (n : ℕ) (p : Pass) → RulesAs c g → ItemAt z c st x ws xs g.absorption n p
@@ -261,10 +261,10 @@ reading_entry b more s = record {
 }
 
 -- what an answer means, where q is the model's state at the stream's end; nothing waits any more, so nothing is said of it
-pub record StreamedAs (z : Shape) (r : Step) (ws xs : List ℕ) (q : Pass) : Type 0 where
-  pub next : (s : State) → r ≡ Next s → HoldsPass z off s ws xs q
-  pub few : (s : State) → r ≡ Next s → s.merges + s.absorbed ≤ 8589934592
-  pub refused : r ≡ ExpansionLimit → z.limit < q.store.peak
+pub record StreamedAs (z : Shape) (r : Result State ExpansionLimit) (ws xs : List ℕ) (q : Pass) : Type 0 where
+  pub next : (s : State) → r ≡ Ok s → HoldsPass z off s ws xs q
+  pub few : (s : State) → r ≡ Ok s → s.merges + s.absorbed ≤ 8589934592
+  pub refused : r ≡ Err expansion_limit → z.limit < q.store.peak
 
 module _ {z : Shape} {c d : StreamRules} {k : ℕ} {st₀ : State} {ws₀ xs₀ ws xs : List ℕ} {st : State} {i : ℕ} {x : Tagged}
     (b : Reading z c d k st₀ ws₀ xs₀ ws xs st i) (more : i < k) (read : x ≡ tagged_at xs z.u items_row i) where
@@ -286,7 +286,7 @@ module _ {z : Shape} {c d : StreamRules} {k : ℕ} {st₀ : State} {ws₀ xs₀ 
       ∙ ap (λ (y : Item). stream z.l (rules_after n.present y) d.merge (stream_item z.l n.present d.merge n.now y)
       (items_in xs₀ z.u items_row (i + 1) (k - (i + 1)))) (sym (same_item b more read))
 
-  module _ {r : Step} {ws' xs' : List ℕ} (call : ItemLeft z d st x ws xs r ws' xs') where
+  module _ {r : Result State ExpansionLimit} {ws' xs' : List ℕ} (call : ItemLeft z d st x ws xs r ws' xs') where
     pub reading_left : LeftS z ws₀ xs₀ ws' xs'
     reading_left = left_then b.left call.0
 
@@ -295,8 +295,8 @@ module _ {z : Shape} {c d : StreamRules} {k : ℕ} {st₀ : State} {ws₀ xs₀ 
         (stream_item z.l (here b more read h).present d.merge (here b more read h).now (item_said x))
     step {g} h = let n = here b more read h in call.1 n.present i n.now n.said (item_at_lem b more read h)
 
-    pub reading_limit : r ≡ ExpansionLimit → (g : Rules) (p : Pass) → StreamAt z c st₀ k ws₀ xs₀ g p
-        → StreamedAs z ExpansionLimit ws' xs' (stream z.l g c.merge p (items_in xs₀ z.u items_row 0 k))
+    pub reading_limit : r ≡ Err expansion_limit → (g : Rules) (p : Pass) → StreamAt z c st₀ k ws₀ xs₀ g p
+        → StreamedAs z (Err expansion_limit) ws' xs' (stream z.l g c.merge p (items_in xs₀ z.u items_row 0 k))
     reading_limit e g p h = record {
       next = λ s f. let o : ◌≡◌ {A = ℕ} 0 1 = cc in absurd (omega arith);
       few = λ s f. let o : ◌≡◌ {A = ℕ} 0 1 = cc in absurd (omega arith);
@@ -310,7 +310,7 @@ module _ {z : Shape} {c d : StreamRules} {k : ℕ} {st₀ : State} {ws₀ xs₀ 
       );
     }
 
-    pub reading_next : SomeStream (λ g p. StreamAt z c st₀ k ws₀ xs₀ g p) → (s : State) → r ≡ Next s
+    pub reading_next : SomeStream (λ g p. StreamAt z c st₀ k ws₀ xs₀ g p) → (s : State) → r ≡ Ok s
         → Reading z c (rules_then (begins_at d x) d) k st₀ ws₀ xs₀ ws' xs' (state_then (begins_at d x) s) (i + 1)
     reading_next some s e = record {
       index = omega arith;
@@ -410,7 +410,7 @@ module _ {z : Shape} {c d : StreamRules} {k : ℕ} {st₀ : State} {ws₀ xs₀ 
     is_end =
         end.whole ∙ ap (stream z.l end.present d.merge end.now) (view_none item_said xs₀ z.u items_row i (k - i) (omega arith))
 
-    pub reading_ended : {r : Step} {ws' xs' : List ℕ}
+    pub reading_ended : {r : Result State ExpansionLimit} {ws' xs' : List ℕ}
         → SteppedAs z (b.at g p h).present.absorption 0 st.out st r ws' xs'
         (absorb_all_waiting z.l (b.at g p h).present.absorption (b.at g p h).now)
         → StreamedAs z r ws' xs' (stream z.l g c.merge p (items_in xs₀ z.u items_row 0 k))

@@ -1,5 +1,5 @@
 -- Lazy: what is done at one place of the list of waiting places. Assumes nothing.
-use Rattle.std.specs.Prelude.{◌≡◌, ◌⊎◌, Bool, true, not, ◌&&◌, ℕ, ◌+◌, ◌*◌, ◌≤◌, ◌<◌, length}
+use Rattle.std.specs.Prelude.{◌≡◌, ◌⊎◌, Bool, true, not, ◌&&◌, ℕ, ◌+◌, ◌*◌, ◌≤◌, ◌<◌, length, None, Result, Ok}
 use Rattle.std.proofs.Math.Path.{refl, ap}
 use Rattle.std.proofs.Common.{sym, ap₂, ◌∙◌, subst, inr, arith, get_or-set_same, ne_eqb}
 use Rattle.std.proofs.Math.Logic.{inl}
@@ -28,14 +28,12 @@ use Rattle.items.specs.View.{tagged_at, item_said, item_at, said_rotation, said_
 use Rattle.items.specs.Put.{EntryPre}
 use Rattle.waiting.specs.Places.{place_in, place_own, place_other}
 use Rattle.steps.specs.declared.State.{State}
-use Rattle.steps.specs.declared.Step.{Step}
-use Rattle.steps.specs.declared.Step.TheVariants.{Next}
+use Rattle.model.specs.declared.ExpansionLimit.{ExpansionLimit}
 use Rattle.steps.specs.State.{with_waiting}
 use Rattle.stream_states.specs.States.{is_waiting, PassAt, stream_rows, LeftS}
 use Rattle.stream_states.specs.States.{SteppedAs, as_next}
 use Rattle.stream_states.specs.Output.{never, with_list}
 use Rattle.stream_states.specs.Known.{out_long, out_few, out_item, out_rotation, axes_stored}
-use Rattle.absorbing.specs.declared.Source.TheVariants.{Unknown}
 use Rattle.merging.specs.Steps.{LeftAbsorbed}
 use Rattle.merging.specs.Taking.{MergedAt, even_quarters}
 use Rattle.merging.specs.LookedUp.{none_told}
@@ -119,11 +117,11 @@ abbrev pub TurnOf : Shape → State → State → List ℕ → ℕ → List ℕ 
 TurnOf z st s xs i xs' q = GoneFrom z st s xs i q ⊎ KeptIn z st s xs i xs'
 
 -- of the list: places behind i and those that are kept are as they were; place i does not wait any more, or is kept
-pub record TurnedAs (z : Shape) (st : State) (all : Bool) (id i : ℕ) (xs : List ℕ) (p : Pass) (r : Step)
+pub record TurnedAs (z : Shape) (st : State) (all : Bool) (id i : ℕ) (xs : List ℕ) (p : Pass) (r : Result State ExpansionLimit)
     (ws' xs' : List ℕ) : Type 0 where
   pub stepped : SteppedAs z off 0 1 st r ws' xs' (waited_at z all id (place_in z.u xs i) xs p)
   pub same : (k : ℕ) → (k < st.waiting) ⊎ (i < k) → place_in z.u xs' k ≡ place_in z.u xs k
-  pub turned : (s : State) → r ≡ Next s → TurnOf z st s xs i xs' (waited_at z all id (place_in z.u xs i) xs p)
+  pub turned : (s : State) → r ≡ Ok s → TurnOf z st s xs i xs' (waited_at z all id (place_in z.u xs i) xs p)
 
 -- an item that does not wait, or is not picked
 pub pass_over : (l : ℕ) (picks : ℕ → Bool) (p : Pass) (j : ℕ) (i : Item) → is_waiting i ≡ false → absorb_waiting_at l picks p j i ≡ p
@@ -158,9 +156,9 @@ module _ {z : Shape} {st : State} {all : Bool} {id i : ℕ} {ws xs : List ℕ} {
     turn_small = omega (arith, j_in, out_few h.at, h.at.granted.sized.u_small)
 
     -- the answer, at the place that was read
-    at_place : {r : Step} {ws' xs' : List ℕ} → SteppedAs z off 0 1 st r ws' xs' (waited_at z all id j xs p)
+    at_place : {r : Result State ExpansionLimit} {ws' xs' : List ℕ} → SteppedAs z off 0 1 st r ws' xs' (waited_at z all id j xs p)
         → ((k : ℕ) → (k < st.waiting) ⊎ (i < k) → place_in z.u xs' k ≡ place_in z.u xs k)
-        → ((s : State) → r ≡ Next s → TurnOf z st s xs i xs' (waited_at z all id j xs p)) → TurnedAs z st all id i xs p r ws' xs'
+        → ((s : State) → r ≡ Ok s → TurnOf z st s xs i xs' (waited_at z all id j xs p)) → TurnedAs z st all id i xs p r ws' xs'
     at_place {r} {ws'} {xs'} a b c = record {
       stepped = subst (λ (x : ℕ). SteppedAs z off 0 1 st r ws' xs' (waited_at z all id x xs p)) place a;
       same = b;
@@ -169,11 +167,11 @@ module _ {z : Shape} {st : State} {all : Bool} {id i : ℕ} {ws xs : List ℕ} {
 
     -- it does not wait
     pub turned_over : {x : Tagged} {t : Bool} → x ≡ tagged_at xs z.u out_row j → t ≡ is_waiting (item_said x) → t ≡ false
-        → TurnedAs z st all id i xs p (Next st) ws xs
+        → TurnedAs z st all id i xs p (Ok st) ws xs
     turned_over {x} {t} e f g =
         let no : is_waiting (item_at xs z.u out_row j) ≡ false = ap (λ (y : Tagged). is_waiting (item_said y)) (sym e) ∙ sym f ∙ g in
         let same = pass_over z.l (picked_by all z.l p.store.axes id) p j (item_at xs z.u out_row j) no in
-        at_place (subst (SteppedAs z off 0 1 st (Next st) ws xs) (sym same) (as_next h.at.holds (omega arith) (omega arith)))
+        at_place (subst (SteppedAs z off 0 1 st (Ok st) ws xs) (sym same) (as_next h.at.holds (omega arith) (omega arith)))
         (λ k o. refl) (λ s o. let y : st ≡ s = cc in inl (record {
           count = sym (ap (λ (v : State). v.waiting) y);
           quiet =
@@ -207,13 +205,13 @@ module _ {z : Shape} {st : State} {all : Bool} {id i : ℕ} {ws xs : List ℕ} {
         -- it is left to wait
         pub turned_left : {s : Bool} {after : State} {xs' : List ℕ} → s ≡ picked_by all y.l (stored_axes y ws) id x.axis → s ≡ false
             → Written xs z.u waiting_row st.waiting j xs' → after ≡ with_waiting (st.waiting + 1) st
-            → TurnedAs z st all id i xs p (Next after) ws xs'
+            → TurnedAs z st all id i xs p (Ok after) ws xs'
         turned_left {s} {after} {xs'} k e wrote g =
             let same = ap (absorb_waiting_at z.l (picked_by all z.l p.store.axes id) p j) item_is
             ∙ not_picked z.l (picked_by all z.l p.store.axes id) p j x x_waits (sym (picks_is k) ∙ e) in
             let fits : st.waiting < z.u = omega (arith, h.kept, h.index) in
-            subst (λ (v : State). TurnedAs z st all id i xs p (Next v) ws xs') (sym g)
-            (at_place (subst (SteppedAs z off 0 1 st (Next (with_waiting (st.waiting + 1) st)) ws xs') (sym same)
+            subst (λ (v : State). TurnedAs z st all id i xs p (Ok v) ws xs') (sym g)
+            (at_place (subst (SteppedAs z off 0 1 st (Ok (with_waiting (st.waiting + 1) st)) ws xs') (sym same)
             (as_next (with_list (st.waiting + 1) (only_written h.at.granted.numbers_long (omega arith) fits wrote) h.at.holds
             (λ o. absurd (never o))) (omega arith) (omega arith)))
             (λ v o. place_other h.at.granted.numbers_long fits wrote v (differs v o))
@@ -236,7 +234,7 @@ module _ {z : Shape} {st : State} {all : Bool} {id i : ℕ} {ws xs : List ℕ} {
               (let b : st.waiting < z.u = omega (arith, h.kept, h.index) in b) wrote);
         }
 
-        pub turned_absorbed : {s : Bool} {r : Step} {ws' xs' : List ℕ} → s ≡ picked_by all y.l (stored_axes y ws) id x.axis
+        pub turned_absorbed : {s : Bool} {r : Result State ExpansionLimit} {ws' xs' : List ℕ} → s ≡ picked_by all y.l (stored_axes y ws) id x.axis
             → s ≡ true
             → LeftAbsorbed z st ws xs r ws' xs'
             → SteppedAs z off 0 1 st r ws' xs' (leave_zero j x.axis (absorb z.l p x.axis x.angle))
@@ -260,7 +258,7 @@ module _ {z : Shape} {st : State} {all : Bool} {id i : ℕ} {ws xs : List ℕ} {
                 (ap is_waiting (get_or-set_same p.out j (rotation (rot x.axis 0)) outside
                 (omega (arith, j_in, out_long h.at.holds))))
 
-      pub turn_merged : MergedAt z st j x.axis x.angle Unknown ws xs off n p
+      pub turn_merged : MergedAt z st j x.axis x.angle None ws xs off n p
       turn_merged = record {
         at = record {
           at = h.at;

@@ -1,5 +1,5 @@
 -- The list of waiting places, place by place: what is left of it is what the model absorbs. Assumes nothing.
-use Rattle.std.specs.Prelude.{◌≡◌, Bool, true, false, ℕ, zero, suc, ◌+◌, ◌-◌, ◌≤◌, ◌<◌}
+use Rattle.std.specs.Prelude.{◌≡◌, Bool, true, false, ℕ, zero, suc, ◌+◌, ◌-◌, ◌≤◌, ◌<◌, Result, Ok, Err}
 use Rattle.std.proofs.Math.Path.{refl, ap, ap₂}
 use Rattle.std.proofs.Common.{sym, ◌∙◌, subst, inl, inr, true≢false, arith}
 use mathlib.Core.List.{List, [], ◌∷◌}
@@ -23,8 +23,8 @@ use Rattle.run_wellformed.specs.CliffordAngles.{SmallItem}
 use Rattle.run_wellformed.specs.StreamSteps.{absorb_waiting_at_by}
 use Rattle.run_wellformed.specs.PassInside.{PassInside, inside_kept}
 use Rattle.steps.specs.declared.State.{State}
-use Rattle.steps.specs.declared.Step.{Step}
-use Rattle.steps.specs.declared.Step.TheVariants.{Next, ExpansionLimit}
+use Rattle.model.specs.declared.ExpansionLimit.{ExpansionLimit}
+use Rattle.model.specs.Interface.{expansion_limit}
 use Rattle.steps.specs.State.{with_waiting}
 use Rattle.stream_states.specs.States.{is_waiting, Waits, HoldsPass, FinePass, PassAt, SomePass, LeftS, left_none}
 use Rattle.stream_states.specs.States.{left_then}
@@ -181,7 +181,7 @@ module _ {z : Shape} {st₀ : State} {n : ℕ} {all : Bool} {id : ℕ} {ws xs : 
       drop_long = lib.ListN.length-drop h.place p.out
 
 -- what a turn's call leaves
-abbrev pub TurnLeft : Shape → State → Bool → ℕ → ℕ → List ℕ → List ℕ → Step → List ℕ → List ℕ → Type 0
+abbrev pub TurnLeft : Shape → State → Bool → ℕ → ℕ → List ℕ → List ℕ → Result State ExpansionLimit → List ℕ → List ℕ → Type 0
 TurnLeft z st all id i ws xs r ws' xs' =
     LeftS z ws xs ws' xs' × ((k : ℕ) (p : Pass) → TurnAt z st all id i ws xs k p → TurnedAs z st all id i xs p r ws' xs')
 
@@ -247,15 +247,15 @@ module _ {z : Shape} {st₀ : State} {n : ℕ} {all : Bool} {id : ℕ} {ws₀ xs
   pub scan_turn : SomePass (λ m k p. ListedAt z st₀ n all id ws₀ xs₀ k p) → SomePass (λ m k p. TurnAt z st all id i ws xs k p)
   scan_turn s = record { absorption = off; items = s.items; pass = (here s.it).now; it = turn_at s.it }
 
-  module _ {r : Step} {ws' xs' : List ℕ} (call : TurnLeft z st all id i ws xs r ws' xs') where
+  module _ {r : Result State ExpansionLimit} {ws' xs' : List ℕ} (call : TurnLeft z st all id i ws xs r ws' xs') where
     pub scan_left : LeftS z ws₀ xs₀ ws' xs'
     scan_left = left_then b.left call.0
 
     step : {k : ℕ} {p : Pass} (h : ListedAt z st₀ n all id ws₀ xs₀ k p) → TurnedAs z st all id i xs (here h).now r ws' xs'
     step {k} h = call.1 k (here h).now (turn_at h)
 
-    pub scan_limit : r ≡ ExpansionLimit → (k : ℕ) (p : Pass) → ListedAt z st₀ n all id ws₀ xs₀ k p
-        → SteppedAs z lazy 0 n st₀ ExpansionLimit ws' xs' (waited_all z all id p)
+    pub scan_limit : r ≡ Err expansion_limit → (k : ℕ) (p : Pass) → ListedAt z st₀ n all id ws₀ xs₀ k p
+        → SteppedAs z lazy 0 n st₀ (Err expansion_limit) ws' xs' (waited_all z all id p)
     scan_limit e k p h =
         as_limit (omega (
           arith,
@@ -265,7 +265,7 @@ module _ {z : Shape} {st₀ : State} {n : ℕ} {all : Bool} {id : ℕ} {ws₀ xs
               (suc (place_in z.u xs i)) (drop (suc (place_in z.u xs i)) p.out),
         ))
 
-    module _ {s : State} (e : r ≡ Next s) where
+    module _ {s : State} (e : r ≡ Ok s) where
       module _ {k : ℕ} {p : Pass} (h : ListedAt z st₀ n all id ws₀ xs₀ k p) where
         held : HoldsPass z off s ws' xs' (waited_at z all id (place_in z.u xs i) xs (here h).now)
         held = (step h).stepped.next s e
@@ -462,7 +462,7 @@ module _ {z : Shape} {st₀ : State} {n : ℕ} {all : Bool} {id : ℕ} {ws₀ xs
 -- all places have had their turn
 pub scan_end : {z : Shape} {st₀ : State} {n : ℕ} {all : Bool} {id : ℕ} {ws₀ xs₀ ws xs : List ℕ} {st : State} {i : ℕ}
     → Scan z st₀ n all id ws₀ xs₀ ws xs st i → n ≤ i → (k : ℕ) (p : Pass) → ListedAt z st₀ n all id ws₀ xs₀ k p
-    → SteppedAs z lazy 0 n st₀ (Next st) ws xs (waited_all z all id p)
+    → SteppedAs z lazy 0 n st₀ (Ok st) ws xs (waited_all z all id p)
 unfolding absorb_waiting
 scan_end {z} {st₀} {n} {all} {id} {ws₀} {xs₀} {ws} {xs} {st} {i} b e k p h =
     let t = b.at k p h in
@@ -471,7 +471,7 @@ scan_end {z} {st₀} {n} {all} {id} {ws₀} {xs₀} {ws} {xs} {st} {i} b e k p h
     (pass_to t st.out t.inside (omega arith) long (λ x c d. absurd (omega arith))).0
     ∙ ap (λ (m : ℕ). absorb_waiting z.l (picked_by all z.l p.store.axes id) t.now st.out (drop m p.out)) (sym long)
     ∙ ap (absorb_waiting z.l (picked_by all z.l p.store.axes id) t.now st.out) (drop-length p.out) in
-    subst (SteppedAs z lazy 0 n st₀ (Next st) ws xs) (sym is_now)
+    subst (SteppedAs z lazy 0 n st₀ (Ok st) ws xs) (sym is_now)
     (as_next (with_list st.waiting (only_none (waiting_row ∷ []) z.u xs) t.at.holds (λ o. record {
       rising = record { below = λ v c d. omega (arith, t.kept.below v c d, t.inside); rises = t.kept.rises };
       all = λ j c f. go t j c (ap is_waiting (out_item t.at j c outside) ∙ f) (dec_lt j t.place);
@@ -501,7 +501,7 @@ module _ {z : Shape} {st first : State} {all : Bool} {id : ℕ} {ws xs : List �
     few = h.few;
   })
 
-  pub listed_as : {r : Step} {ws' xs' : List ℕ} {q : Pass} → SteppedAs z lazy 0 st.waiting first r ws' xs' q
+  pub listed_as : {r : Result State ExpansionLimit} {ws' xs' : List ℕ} {q : Pass} → SteppedAs z lazy 0 st.waiting first r ws' xs' q
       → SteppedAs z lazy 0 st.out st r ws' xs' q
   listed_as s =
       let a = ap (λ (x : State). x.merges) e in

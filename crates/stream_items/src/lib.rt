@@ -20,8 +20,8 @@ ghost use Rattle.stream_items.specs.Loop.{ItemAt, StreamAt, SomeStream, Streamed
 use axes::Sizes;
 use items::Tagged;
 use layout::{ITEMS, OUT, Shape, WAITING};
-use model::{Absorption, Lazy};
-use steps::{ImageStep, State, Step};
+use model::{Absorption, ExpansionLimit, Lazy};
+use steps::State;
 use stream_states::StreamRules;
 
 // Whether an output waits: an even rotation that is not by nothing.
@@ -58,7 +58,7 @@ fn waiting_turn(
     all: bool,
     id: usize,
     i: usize,
-) -> Step
+) -> Result<State, ExpansionLimit>
     requires { SomePass (λ m n p. TurnAt shape st all id i words.old numbers.old n p) }
     ensures { LeftS shape words.old numbers.old words.new numbers.new
         × ((n : ℕ) (p : Pass) → TurnAt shape st all id i words.old numbers.old n p
@@ -67,13 +67,13 @@ fn waiting_turn(
     let j = store::read(&numbers[..], shape.u, WAITING, i) as usize;
     let x = items::item_at(&numbers[..], shape.u, OUT, j);
     if !waits(x) {
-        return Step::Next(st);
+        return Ok(st);
     }
     let axis = x.axis as usize;
     let z = axes::sizes_of(shape, st.axes);
     if !picks(&words[..], &numbers[..], z, all, axis, id) {
         store::write(numbers, shape.u, WAITING, st.waiting, j as u32);
-        return Step::Next(steps::with_waiting(st, st.waiting + 1));
+        return Ok(steps::with_waiting(st, st.waiting + 1));
     }
     merging::absorb_place(words, numbers, shape, st, j, axis, x.angle)
 }
@@ -87,7 +87,7 @@ fn absorb_listed(
     n: usize,
     all: bool,
     id: usize,
-) -> Step
+) -> Result<State, ExpansionLimit>
     requires { SomePass (λ m k p. ListedAt shape first n all id words.old numbers.old k p) }
     ensures { LeftS shape words.old numbers.old words.new numbers.new
         × ((k : ℕ) (p : Pass) → ListedAt shape first n all id words.old numbers.old k p
@@ -95,13 +95,9 @@ fn absorb_listed(
 {
     let mut st = first;
     for i in 0..n {
-        let t = waiting_turn(words, numbers, shape, st, all, id, i);
-        match t {
-            Step::Next(s) => st = s,
-            Step::ExpansionLimit => return Step::ExpansionLimit,
-        }
+        st = waiting_turn(words, numbers, shape, st, all, id, i)?;
     }
-    Step::Next(st)
+    Ok(st)
 }
 
 // Absorbs the rotations that wait, in order: all of them, or those that anticommute with axis id.
@@ -112,7 +108,7 @@ fn absorb_waiting(
     st: State,
     all: bool,
     id: usize,
-) -> Step
+) -> Result<State, ExpansionLimit>
     requires { SomePass (λ m n p. WaitAt shape st all id words.old numbers.old n p) }
     ensures { LeftS shape words.old numbers.old words.new numbers.new
         × ((n : ℕ) (p : Pass) → WaitAt shape st all id words.old numbers.old n p
@@ -129,16 +125,13 @@ fn absorb_blocking(
     shape: Shape,
     st: State,
     a: usize,
-) -> Step
+) -> Result<State, ExpansionLimit>
     requires { SomePass (λ m n p. BlockingAt shape st a words.old numbers.old n p) }
     ensures { LeftS shape words.old numbers.old words.new numbers.new
         × ((n : ℕ) (p : Pass) → BlockingAt shape st a words.old numbers.old n p
         → SteppedAs shape lazy 0 st.out st result words.new numbers.new (absorb_blocking shape.l p a)) }
 {
-    let c = carrying::carry(words, numbers, shape, st, a);
-    let ImageStep::Next(image) = c else {
-        return Step::ExpansionLimit;
-    };
+    let image = carrying::carry(words, numbers, shape, st, a)?;
     let s = steps::with_image(st, image);
     absorb_waiting(words, numbers, shape, s, false, s.id)
 }
@@ -152,14 +145,14 @@ fn unblock(
     rules: StreamRules,
     st: State,
     a: usize,
-) -> Step
+) -> Result<State, ExpansionLimit>
     requires { SomePass (λ m n p. UnblockAt shape rules st a words.old numbers.old m n p) }
     ensures { LeftS shape words.old numbers.old words.new numbers.new
         × ((m : Absorption) (n : ℕ) (p : Pass) → UnblockAt shape rules st a words.old numbers.old m n p
         → SteppedAs shape m 0 st.out st result words.new numbers.new (unblocked shape.l m p a)) }
 {
     if !stream_states::is_lazy(rules) {
-        return Step::Next(st);
+        return Ok(st);
     }
     absorb_blocking(words, numbers, shape, st, a)
 }
@@ -173,7 +166,7 @@ fn rotation(
     st: State,
     a: usize,
     angle: u32,
-) -> Step
+) -> Result<State, ExpansionLimit>
     requires { SomePass (λ m n p. RotationAt shape rules st a angle words.old numbers.old m n p) }
     ensures { LeftS shape words.old numbers.old words.new numbers.new
         × ((g : Rules) (n : ℕ) (p : Pass) → RulesAs rules g
@@ -181,10 +174,7 @@ fn rotation(
         → SteppedAs shape g.absorption 1 (st.out + 1) st result words.new numbers.new
         (stream_item shape.l g rules.merge p (rotation (rot a angle)))) }
 {
-    let t = unblock(words, numbers, shape, rules, st, a);
-    let Step::Next(s) = t else {
-        return Step::ExpansionLimit;
-    };
+    let s = unblock(words, numbers, shape, rules, st, a)?;
     merging::carry_and_take(words, numbers, shape, rules, s, a, angle)
 }
 
@@ -195,20 +185,20 @@ fn absorb_all(
     shape: Shape,
     rules: StreamRules,
     st: State,
-) -> Step
+) -> Result<State, ExpansionLimit>
     requires { SomePass (λ m n p. AllAt shape rules st words.old numbers.old m n p) }
     ensures { LeftS shape words.old numbers.old words.new numbers.new
         × ((m : Absorption) (n : ℕ) (p : Pass) → AllAt shape rules st words.old numbers.old m n p
         → SteppedAs shape m 0 st.out st result words.new numbers.new (absorb_all_waiting shape.l m p)) }
 {
     if !stream_states::is_lazy(rules) {
-        return Step::Next(st);
+        return Ok(st);
     }
     absorb_waiting(words, numbers, shape, st, true, 0)
 }
 
 // A barrier, once none waits: it is carried and put out, and a segment begins behind it.
-fn put_barrier(words: &mut [u64], numbers: &mut [u32], shape: Shape, st: State, x: Tagged) -> Step
+fn put_barrier(words: &mut [u64], numbers: &mut [u32], shape: Shape, st: State, x: Tagged) -> Result<State, ExpansionLimit>
     requires { SomePass (λ m n p. BarrierAt shape st x words.old numbers.old m n p) }
     ensures { LeftS shape words.old numbers.old words.new numbers.new
         × ((m : Absorption) (n : ℕ) (p : Pass) → BarrierAt shape st x words.old numbers.old m n p
@@ -216,10 +206,7 @@ fn put_barrier(words: &mut [u64], numbers: &mut [u32], shape: Shape, st: State, 
         (barrier_put shape.l p (x.tag - 1) x.axis x.angle)) }
 {
     let a = x.axis as usize;
-    let c = carrying::carry(words, numbers, shape, st, a);
-    let ImageStep::Next(image) = c else {
-        return Step::ExpansionLimit;
-    };
+    let image = carrying::carry(words, numbers, shape, st, a)?;
     let to = steps::with_image(st, image);
     let out = to.out;
     let moved = Tagged {
@@ -231,7 +218,7 @@ fn put_barrier(words: &mut [u64], numbers: &mut [u32], shape: Shape, st: State, 
     let mut s = to;
     s.out = out + 1;
     s.start = out + 1;
-    Step::Next(s)
+    Ok(s)
 }
 
 // One item of a stream.
@@ -242,7 +229,7 @@ fn stream_item(
     rules: StreamRules,
     st: State,
     x: Tagged,
-) -> Step
+) -> Result<State, ExpansionLimit>
     requires { SomePass (λ m n p. ItemAt shape rules st x words.old numbers.old m n p) }
     ensures { LeftS shape words.old numbers.old words.new numbers.new
         × ((g : Rules) (n : ℕ) (p : Pass) → RulesAs rules g
@@ -253,10 +240,7 @@ fn stream_item(
     if x.tag == 0 {
         return rotation(words, numbers, shape, rules, st, x.axis as usize, x.angle);
     }
-    let t = absorb_all(words, numbers, shape, rules, st);
-    let Step::Next(s) = t else {
-        return Step::ExpansionLimit;
-    };
+    let s = absorb_all(words, numbers, shape, rules, st)?;
     put_barrier(words, numbers, shape, s, x)
 }
 
@@ -319,7 +303,7 @@ pub fn stream_items(
     rules: StreamRules,
     first: State,
     items: usize,
-) -> Step
+) -> Result<State, ExpansionLimit>
     requires { SomeStream (λ g p. StreamAt shape rules first items words.old numbers.old g p) }
     ensures { LeftS shape words.old numbers.old words.new numbers.new
         × ((g : Rules) (p : Pass) → StreamAt shape rules first items words.old numbers.old g p
@@ -330,10 +314,7 @@ pub fn stream_items(
     let mut present = rules;
     for i in 0..items {
         let x = items::item_at(&numbers[..], shape.u, ITEMS, i);
-        let t = stream_item(words, numbers, shape, present, st, x);
-        let Step::Next(s) = t else {
-            return Step::ExpansionLimit;
-        };
+        let s = stream_item(words, numbers, shape, present, st, x)?;
         let begin = begins(present, x);
         st = state_behind(s, begin);
         present = rules_behind(present, begin);

@@ -1,5 +1,5 @@
 -- An axis is carried: the state after it, and what its image is to the model. Assumes nothing.
-use Rattle.std.specs.Prelude.{◌≡◌, List, ℕ, ◌<◌, length}
+use Rattle.std.specs.Prelude.{◌≡◌, List, ℕ, ◌<◌, length, Result, Ok, Err}
 use Rattle.std.proofs.Math.Path.{refl, ap, subst}
 use Rattle.std.proofs.Common.{sym, ◌∙◌, arith}
 use Rattle.model.specs.Lists.{all_of, any_of, member}
@@ -16,8 +16,8 @@ use Rattle.words_wellformed.specs.PassWords.{carry_axis_well}
 use Rattle.run_wellformed.specs.PassInside.{inside_kept}
 use Rattle.carrying.specs.Carrying.{image_of_axis, carried_store, CarryPre, LeftCarried, CarriedTo, CarriedAs}
 use Rattle.steps.specs.declared.State.{State}
-use Rattle.steps.specs.declared.Step.{Step}
-use Rattle.steps.specs.declared.Step.TheVariants.{Next, ExpansionLimit}
+use Rattle.model.specs.declared.ExpansionLimit.{ExpansionLimit}
+use Rattle.model.specs.Interface.{expansion_limit}
 use Rattle.steps.specs.State.{with_image}
 use Rattle.stream_states.specs.States.{held_of, HoldsPass, FinePass, PassAt, LeftS, stream_rows}
 use Rattle.stream_states.specs.Output.{pass_other}
@@ -29,7 +29,7 @@ pub record CarryPass (z : Shape) (st : State) (a : ℕ) (ws xs : List ℕ) (m : 
   pub a_in : a < st.axes
 
 -- what the call leaves
-abbrev pub CarryLeft : Shape → State → ℕ → List ℕ → List ℕ → Step → List ℕ → List ℕ → Type 0
+abbrev pub CarryLeft : Shape → State → ℕ → List ℕ → List ℕ → Result State ExpansionLimit → List ℕ → List ℕ → Type 0
 CarryLeft z st a ws xs r ws' xs' =
     LeftCarried z ws xs ws' xs' × ((t : Touched) → CarryPre z st a ws xs t → CarriedAs z st a t r ws' xs')
 
@@ -44,17 +44,17 @@ module _ {z : Shape} {st : State} {a : ℕ} {ws xs : List ℕ} {m : Absorption} 
     stored = h.at.fine.well.stored;
   }
 
-  module _ {r : Step} {ws' xs' : List ℕ} (call : CarryLeft z st a ws xs r ws' xs') where
+  module _ {r : Result State ExpansionLimit} {ws' xs' : List ℕ} (call : CarryLeft z st a ws xs r ws' xs') where
     pub carry_left : LeftS z ws xs ws' xs'
     unfolding all_of member any_of
     carry_left = record { words = kept_later (omega arith) call.0.words; numbers = only_of stream_rows refl call.0.numbers }
 
-    pub carry_refused : r ≡ ExpansionLimit → z.limit < (carry_axis z.l p a).store.peak
+    pub carry_refused : r ≡ Err expansion_limit → z.limit < (carry_axis z.l p a).store.peak
     unfolding carry_axis axis_image
     carry_refused e = unfold carried_store image_of_axis in ((call.1 (held_of p) carry_pre).refused e)
 
     -- the state then
-    module _ {s : State} (e : r ≡ Next s) where
+    module _ {s : State} (e : r ≡ Ok s) where
       to : CarriedTo z st a (held_of p) ws' xs' s
       to = (call.1 (held_of p) carry_pre).to s e
 

@@ -1,5 +1,5 @@
 -- The stream's state in memory: F and the axes, the output in rows OUT, `last` in row LAST. Assumes nothing.
-use Rattle.std.specs.Prelude.{◌≡◌, refl, Bool, true, false, List, ◌∷◌, ℕ, ◌+◌, ◌-◌, ◌≤◌, ◌<◌, ltb, get_or}
+use Rattle.std.specs.Prelude.{◌≡◌, refl, Bool, true, false, List, ◌∷◌, ℕ, ◌+◌, ◌-◌, ◌≤◌, ◌<◌, ltb, get_or, Result, Ok, Err}
 use Rattle.std.proofs.Common.{sym, subst, true≢false, arith}
 use Rattle.store.specs.Row.{row}
 use Rattle.model.specs.Lists.{when◌then◌else◌}
@@ -20,8 +20,8 @@ use Rattle.words_wellformed.specs.PassWords.{WellPass}
 use Rattle.clifford.specs.Holds.{Holds, mask_place}
 use Rattle.run_wellformed.specs.PassInside.{PassInside}
 use Rattle.steps.specs.declared.State.{State}
-use Rattle.steps.specs.declared.Step.{Step}
-use Rattle.steps.specs.declared.Step.TheVariants.{Next, ExpansionLimit}
+use Rattle.model.specs.declared.ExpansionLimit.{ExpansionLimit}
+use Rattle.model.specs.Interface.{expansion_limit}
 use Rattle.stream_states.specs.declared.StreamRules.{StreamRules}
 
 -- F and its store
@@ -112,14 +112,14 @@ granted_left g h = granted_same g h.words.long h.numbers.long
 
 -- what an answer means, where p is the model's next state: it is held, with at most c merges and d absorbed rotations more,
 -- or its peak is above the limit
-pub record SteppedAs (z : Shape) (m : Absorption) (c d : ℕ) (st : State) (r : Step) (ws xs : List ℕ) (p : Pass) : Type 0 where
-  pub next : (s : State) → r ≡ Next s → HoldsPass z m s ws xs p
-  pub merges : (s : State) → r ≡ Next s → s.merges ≤ st.merges + c
-  pub absorbed : (s : State) → r ≡ Next s → s.absorbed ≤ st.absorbed + d
-  pub refused : r ≡ ExpansionLimit → z.limit < p.store.peak
+pub record SteppedAs (z : Shape) (m : Absorption) (c d : ℕ) (st : State) (r : Result State ExpansionLimit) (ws xs : List ℕ) (p : Pass) : Type 0 where
+  pub next : (s : State) → r ≡ Ok s → HoldsPass z m s ws xs p
+  pub merges : (s : State) → r ≡ Ok s → s.merges ≤ st.merges + c
+  pub absorbed : (s : State) → r ≡ Ok s → s.absorbed ≤ st.absorbed + d
+  pub refused : r ≡ Err expansion_limit → z.limit < p.store.peak
 
 pub as_next : {z : Shape} {m : Absorption} {c d : ℕ} {st s : State} {ws xs : List ℕ} {p : Pass} → HoldsPass z m s ws xs p
-    → s.merges ≤ st.merges + c → s.absorbed ≤ st.absorbed + d → SteppedAs z m c d st (Next s) ws xs p
+    → s.merges ≤ st.merges + c → s.absorbed ≤ st.absorbed + d → SteppedAs z m c d st (Ok s) ws xs p
 as_next {z} {m} {c} {d} {st} {s} {ws} {xs} {p} h a b = record {
   next = λ k e. let f : s ≡ k = cc in subst (λ (i : State). HoldsPass z m i ws xs p) f h;
   merges = λ k e. let f : s ≡ k = cc in subst (λ (i : State). i.merges ≤ st.merges + c) f a;
@@ -128,7 +128,7 @@ as_next {z} {m} {c} {d} {st} {s} {ws} {xs} {p} h a b = record {
 }
 
 pub as_limit : {z : Shape} {m : Absorption} {c d : ℕ} {st : State} {ws xs : List ℕ} {p : Pass} → z.limit < p.store.peak
-    → SteppedAs z m c d st ExpansionLimit ws xs p
+    → SteppedAs z m c d st (Err expansion_limit) ws xs p
 as_limit h = record {
   next = λ k e. let f : ◌≡◌ {A = ℕ} 0 1 = cc in absurd (omega arith);
   merges = λ k e. let f : ◌≡◌ {A = ℕ} 0 1 = cc in absurd (omega arith);
@@ -137,7 +137,7 @@ as_limit h = record {
 }
 
 -- counted from an earlier state
-pub stepped_from : {z : Shape} {m : Absorption} {c d : ℕ} (e f : ℕ) {s st : State} {r : Step} {ws xs : List ℕ} {p : Pass}
+pub stepped_from : {z : Shape} {m : Absorption} {c d : ℕ} (e f : ℕ) {s st : State} {r : Result State ExpansionLimit} {ws xs : List ℕ} {p : Pass}
     → SteppedAs z m c d s r ws xs p → s.merges + c ≤ st.merges + e → s.absorbed + d ≤ st.absorbed + f
     → SteppedAs z m e f st r ws xs p
 stepped_from e f k a b = record {

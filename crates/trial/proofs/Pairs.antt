@@ -1,7 +1,7 @@
 -- A pair of exchanges tried, one and then the other: what an edit of `exchange_of` refutes. Assumes nothing.
 use Rattle.std.proofs.Math.Path.{◌≡◌, refl, sym}
 use Rattle.std.proofs.Common.{◌∙◌}
-use Rattle.std.specs.Prelude.{Bool, true, false, not}
+use Rattle.std.specs.Prelude.{Bool, true, false, not, Some, None}
 use Rattle.std.proofs.Math.Option.{Option, none, some, or_else}
 use mathlib.Core.List.{List}
 use Prim.Native.Nat.{ℕ, ◌-◌}
@@ -14,14 +14,12 @@ use Rattle.layout.specs.Only.{only_none, only_then}
 use Rattle.axes.specs.declared.Sizes.{Sizes}
 use Rattle.certificate.specs.Groups.{group_in}
 use Rattle.trial.specs.declared.ThreeGroups.{ThreeGroups}
-use Rattle.trial.specs.declared.Trial.{Trial}
-use Rattle.trial.specs.declared.Trial.TheVariants.{Nothing, Better}
 use Rattle.trial.specs.Plain.{exchange_rows}
 use Rattle.trial.specs.Trying.{said, Tried}
 use Rattle.trial.specs.Kept.{KeptRight, start_kept, end_kept}
 use Rattle.trial.specs.Laying.{ThreeGroupsPre, PairPre, first_part, third_part, exchange_of, exchanged, pair_of, ExchangeTried, exchange_same, PairTried, parts_kept, none_tried, tried_as}
 
-exchange_kept : {z : Sizes} {ws xs ys : List ℕ} {t : ThreeGroups} {o : Option (List Rot)} {r : Trial} → ThreeGroupsPre z ws xs t
+exchange_kept : {z : Sizes} {ws xs ys : List ℕ} {t : ThreeGroups} {o : Option (List Rot)} {r : Option ℕ} → ThreeGroupsPre z ws xs t
     → (second : Bool) → ExchangeTried z ws xs t (exchange_of t second) o r ys → (lo hi : ℕ)
     → KeptRight z ws xs lo t.second t.third hi → KeptRight z ws ys lo t.second t.third hi
 unfolding exchange_of
@@ -29,7 +27,7 @@ exchange_kept {t = t} h true x lo hi k = end_kept h.second_order x.tried.only k 
 exchange_kept {t = t} h false x lo hi k = start_kept h.second_order x.tried.only k t.first h.first_some x.one
 
 -- the other exchange may be tried then
-pub pair_kept : {z : Sizes} {ws xs ys : List ℕ} {t : ThreeGroups} {o : Option (List Rot)} {r : Trial} → PairPre z ws xs t
+pub pair_kept : {z : Sizes} {ws xs ys : List ℕ} {t : ThreeGroups} {o : Option (List Rot)} {r : Option ℕ} → PairPre z ws xs t
     → (second : Bool) → ExchangeTried z ws xs t (exchange_of t second) o r ys → PairPre z ws ys t
 pair_kept {t = t} h second x =
     record { parts = parts_kept h.parts x.tried.only; kept = exchange_kept h.parts second x t.first t.end h.kept }
@@ -42,31 +40,31 @@ module _ {z : Sizes} {ws xs : List ℕ} {t : ThreeGroups} (h : PairPre z ws xs t
   abbrev other : Option (List Rot)
   other = exchanged z rules.eager ws xs t (exchange_of t (not rules.second_first))
 
-  pub pair_none : b ≡ false → PairTried z ws xs t (pair_of z rules ws xs t) Nothing xs
+  pub pair_none : b ≡ false → PairTried z ws xs t (pair_of z rules ws xs t) None xs
   unfolding pair_of
   pair_none f = record { tried = none_tried (only_none _ _ _) (sym (if_false _ _ (sym test ∙ f))); kept = λ lo hi k. k }
 
   -- the exchange that is tried first improves
-  pub pair_one : b ≡ true → {r : Trial} {n : ℕ} {ys : List ℕ} → ExchangeTried z ws xs t (exchange_of t rules.second_first) one r ys
-      → r ≡ Better n → PairTried z ws xs t (pair_of z rules ws xs t) (Better n) ys
+  pub pair_one : b ≡ true → {r : Option ℕ} {n : ℕ} {ys : List ℕ} → ExchangeTried z ws xs t (exchange_of t rules.second_first) one r ys
+      → r ≡ Some n → PairTried z ws xs t (pair_of z rules ws xs t) (Some n) ys
   pair_one f {r} {n} {ys} x e = record {
     tried = tried_as (found one (sym y.answer) ∙ sym (unfold pair_of in (if_true _ _ (sym test ∙ f)))) y;
     kept = exchange_kept h.parts rules.second_first x;
   }
     where
-      y : Tried exchange_rows z xs (t.end - t.first) one (Better n) ys
+      y : Tried exchange_rows z xs (t.end - t.first) one (Some n) ys
       y = rw e at x.tried
 
-      found : (o : Option (List Rot)) → o ≡ said z.u ys (Better n) → o ≡ or_else o other
+      found : (o : Option (List Rot)) → o ≡ said z.u ys (Some n) → o ≡ or_else o other
       found none d = unfold or_else said in (absurd (not_some d))
         where
-          not_some : none ≡ said z.u ys (Better n) → ⊥
+          not_some : none ≡ said z.u ys (Some n) → ⊥
           not_some q = unfold said in (let w : ◌≡◌ {A = ℕ} 0 1 = cc in omega arith)
       found (some rs) d = unfold or_else in refl
 
   -- it does not
-  pub pair_other : b ≡ true → {r q : Trial} {ys vs : List ℕ} → ExchangeTried z ws xs t (exchange_of t rules.second_first) one r ys
-      → r ≡ Nothing
+  pub pair_other : b ≡ true → {r q : Option ℕ} {ys vs : List ℕ} → ExchangeTried z ws xs t (exchange_of t rules.second_first) one r ys
+      → r ≡ None
       → ExchangeTried z ws ys t (exchange_of t (not rules.second_first))
       (exchanged z rules.eager ws ys t (exchange_of t (not rules.second_first))) q vs
       → PairTried z ws xs t (pair_of z rules ws xs t) q vs
