@@ -58,7 +58,7 @@ intern_answer l others limit st w = when nat_lt limit (intern l others st w).pea
 -- the word store by the answer: a new word is laid behind the n axes
 unfoldable pub laid_by : Result StoredAxis ExpansionLimit → ℕ → ℕ → List ℕ → List ℕ → List ℕ
 laid_by (Ok a) l n s w = when nat_lt a.id n then s else put s (axis_place l n) w
-laid_by (Err expansion_limit) l n s w = s
+laid_by (Err _) l n s w = s
 
 -- answer and word store are the model's
 pub record Answered (z : Sizes) (others peak : ℕ) (ws : List ℕ) (at : ℕ) (r : Result StoredAxis ExpansionLimit) (ws' : List ℕ) : Type 0 where

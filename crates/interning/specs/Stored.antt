@@ -43,7 +43,7 @@ pub record NoRoom (z : Sizes) (others : ℕ) (ws xs : List ℕ) (st : Store) (w 
 -- what an answer of `intern` means
 abbrev pub InternedAs : Sizes → ℕ → List ℕ → List ℕ → Store → List ℕ → Result StoredAxis ExpansionLimit → List ℕ → List ℕ → Type 0
 InternedAs z others ws xs st w (Ok a) ws' xs' = HasAxis z others ws xs st w a ws' xs'
-InternedAs z others ws xs st w (Err expansion_limit) ws' xs' = NoRoom z others ws xs st w ws' xs'
+InternedAs z others ws xs st w (Err _) ws' xs' = NoRoom z others ws xs st w ws' xs'
 
 module _ (z : Sizes) (others : ℕ) (ws xs : List ℕ) (at : ℕ) (st : Store) (pre : InternPre z others st.peak ws xs at)
     (h : HoldsAxes z ws xs st.axes) where

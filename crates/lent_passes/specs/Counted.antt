@@ -17,11 +17,11 @@ use Rattle.lent_passes.specs.declared.Counted.{Counted}
 -- "merges", "cliffords_to_frame": a refused stream adds nothing, since after any refusal counters are 0
 unfoldable pub merges_of : Result State ExpansionLimit → ℕ
 merges_of (Ok s) = s.merges
-merges_of (Err expansion_limit) = 0
+merges_of (Err _) = 0
 
 unfoldable pub absorbed_of : Result State ExpansionLimit → ℕ
 absorbed_of (Ok s) = s.absorbed
-absorbed_of (Err expansion_limit) = 0
+absorbed_of (Err _) = 0
 
 pub next_counts : {t : Result State ExpansionLimit} {s : State} → t ≡ Ok s → (s.merges ≡ merges_of t) × (s.absorbed ≡ absorbed_of t)
 unfolding merges_of absorbed_of
@@ -59,7 +59,7 @@ few_of : {z : Shape} {c : StreamRules} {prog : Program} {w : Work} {g : Rules} (
     → PassedAs z c prog w g t ws xs → merges_of t + absorbed_of t ≤ 8589934592
 unfolding merges_of absorbed_of
 few_of (Ok s) h = h.few s refl
-few_of (Err expansion_limit) h = omega arith
+few_of (Err _) h = omega arith
 
 pub counted : {z : Shape} {c : StreamRules} {k n peak : ℕ} {ws xs ws' xs' : List ℕ} {t : Result State ExpansionLimit} {m a : ℕ}
     → SomeWork (λ prog w g. PassAtWork z c prog w n k peak ws xs g)

@@ -14,21 +14,10 @@ use model::{Counters, ExchangeRules, ExpansionLimit};
 use steps::State;
 use stream_states::StreamRules;
 
+// How a pass ends, and the counters that it leaves.
 #[derive(Clone, Copy)]
-pub struct Streamed {
-    pub outcome: Result<State, ExpansionLimit>,
-    pub stats: Counters,
-}
-
-#[derive(Clone, Copy)]
-pub struct Swapped {
-    pub outcome: Progress,
-    pub stats: Counters,
-}
-
-#[derive(Clone, Copy)]
-pub struct Layered {
-    pub outcome: Layering,
+pub struct Passed<T> {
+    pub outcome: T,
     pub stats: Counters,
 }
 
@@ -41,13 +30,13 @@ pub fn stream(
     axes: usize,
     peak: usize,
     mut stats: Counters,
-) -> Streamed
+) -> Passed<Result<State, ExpansionLimit>>
     requires { SomeWork (λ prog w g. PassAtWork shape rules prog w axes items peak words.old numbers.old g) × Room stats }
     ensures { StreamedAs shape rules items axes peak words.old numbers.old stats result.outcome
         words.new numbers.new result.stats }
 {
     let outcome = crate::stream_pass(words, numbers, shape, rules, items, axes, peak, &mut stats);
-    Streamed { outcome, stats }
+    Passed { outcome, stats }
 }
 
 pub fn exchange(
@@ -57,13 +46,13 @@ pub fn exchange(
     rules: ExchangeRules,
     items: usize,
     mut stats: Counters,
-) -> Swapped
+) -> Passed<Progress>
     requires { ExchangePre z rules words.now numbers.old items × (stats.swaps + items < 2 ^ 64) }
     ensures { Exchanged z rules words.now numbers.old items result.outcome numbers.new
         × (result.stats ≡ more_swaps stats result.outcome.swaps) }
 {
     let outcome = crate::exchange_pass(words, numbers, z, rules, items, &mut stats);
-    Swapped { outcome, stats }
+    Passed { outcome, stats }
 }
 
 pub fn layering(
@@ -72,11 +61,11 @@ pub fn layering(
     z: Sizes,
     items: usize,
     mut stats: Counters,
-) -> Layered
+) -> Passed<Layering>
     requires { LayeringPre z words.now numbers.old items × (stats.merges + items < 2 ^ 64) }
     ensures { LayeredAs z words.now numbers.old items result.outcome numbers.new
         × (result.stats ≡ more_merges stats result.outcome.merged) }
 {
     let outcome = crate::layering_pass(words, numbers, z, items, &mut stats);
-    Layered { outcome, stats }
+    Passed { outcome, stats }
 }

@@ -32,7 +32,7 @@ fn merges_of(t: Result<State, ExpansionLimit>) -> usize
 {
     match t {
         Ok(s) => s.merges,
-        Err(ExpansionLimit) => 0,
+        Err(_) => 0,
     }
 }
 
@@ -42,7 +42,7 @@ fn absorbed_of(t: Result<State, ExpansionLimit>) -> usize
 {
     match t {
         Ok(s) => s.absorbed,
-        Err(ExpansionLimit) => 0,
+        Err(_) => 0,
     }
 }
 

@@ -30,8 +30,7 @@ fn litinski_from(
         if s.merges == run.merges {
             return Ok(s);
         }
-        let next = points::stream_pass(words, numbers, shape, options, false, s)?;
-        run = next;
+        run = points::stream_pass(words, numbers, shape, options, false, s)?;
     }
     Ok(run)
 }

@@ -24,8 +24,7 @@ pub fn passes(
         → EndedAs shape 511 result words.new numbers.new p
         (passes options.strategy shape.l (rules_of options) options.rounds w)) }
 {
-    let strategy = options.strategy;
-    match strategy {
+    match options.strategy {
         Strategy::Merge => merge_rounds::merge_rounds(words, numbers, shape, options, first),
         Strategy::Litinski => litinski::litinski_rounds(words, numbers, shape, options, first),
     }

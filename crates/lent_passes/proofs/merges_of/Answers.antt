@@ -1,8 +1,8 @@
 use Rattle.lent_passes.specs.Counted.{next_counts, limit_counts}
 use Rattle.lent_passes.proofs.merges_of.Goals as goal
 
-pub returns-in-Next : goal.returns-in-Next
-returns-in-Next c = (next_counts c.in-Next.is).0
+pub returns-in-Ok : goal.returns-in-Ok
+returns-in-Ok c = (next_counts c.in-Ok.is).0
 
-pub returns-in-ExpansionLimit : goal.returns-in-ExpansionLimit
-returns-in-ExpansionLimit c = (limit_counts c.in-ExpansionLimit.is).0
+pub returns-in-Err : goal.returns-in-Err
+returns-in-Err c = (limit_counts c.in-Err.is).0

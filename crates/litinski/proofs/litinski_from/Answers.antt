@@ -24,24 +24,24 @@ returns-then-s-run c = (
       c.loop-j-test.true c.layering_pass-s.ensures h c.if-s-run.true c.requires.1,
 )
 
-pub stream_pass-e-requires : goal.stream_pass-e-requires
-stream_pass-e-requires c = (
+pub stream_pass-requires : goal.stream_pass-requires
+stream_pass-requires c = (
   layered_some c.loop-j.invariant c.loop-j-test.true c.layering_pass-s.ensures c.requires.0.at c.requires.1,
   c.requires.1,
 )
 
-pub shape_of-words-in_default : goal.shape_of-words-in_default
-shape_of-words-in_default c = (long_then (long_then c.loop-j.invariant.long c.layering_pass-s.ensures.0) c.stream_pass-e.ensures.0).words
+pub shape_of-words-in_err-run : goal.shape_of-words-in_err-run
+shape_of-words-in_err-run c = (long_then (long_then c.loop-j.invariant.long c.layering_pass-s.ensures.0) c.stream_pass.ensures.0).words
 
-pub shape_of-numbers-in_default : goal.shape_of-numbers-in_default
-shape_of-numbers-in_default c = (long_then (long_then c.loop-j.invariant.long c.layering_pass-s.ensures.0) c.stream_pass-e.ensures.0).numbers
+pub shape_of-numbers-in_err-run : goal.shape_of-numbers-in_err-run
+shape_of-numbers-in_err-run c = (long_then (long_then c.loop-j.invariant.long c.layering_pass-s.ensures.0) c.stream_pass.ensures.0).numbers
 
-pub returns-in_default : goal.returns-in_default
-returns-in_default c = (
-  long_then (long_then c.loop-j.invariant.long c.layering_pass-s.ensures.0) c.stream_pass-e.ensures.0,
+pub returns-in_err-run : goal.returns-in_err-run
+returns-in_err-run c = (
+  long_then (long_then c.loop-j.invariant.long c.layering_pass-s.ensures.0) c.stream_pass.ensures.0,
   λ p w h. rounds_limit c.loop-j.invariant
       c.loop-j-test.true c.layering_pass-s.ensures c.if-s-run.false
-      c.stream_pass-e.ensures h c.in_default.is,
+      c.stream_pass.ensures h c.in_err-run.was,
 )
 
 pub overflow_step-j : goal.overflow_step-j
@@ -53,7 +53,7 @@ loop-j-smaller c = omega (arith, c.loop-j-test.true)
 pub loop-j-preserved : goal.loop-j-preserved
 loop-j-preserved c =
     rounds_next c.loop-j.invariant c.loop-j-test.true c.layering_pass-s.ensures c.if-s-run.false
-    c.stream_pass-e.ensures _ c.in-Next.is
+    c.stream_pass.ensures _ c.in_ok-run.was
 
 pub shape_of-words : goal.shape_of-words
 shape_of-words c = c.loop-j.invariant.long.words

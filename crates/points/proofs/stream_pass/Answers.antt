@@ -9,17 +9,17 @@ stream-t-requires c = (
   stream_room c.requires.0 c.counters_of.ensures,
 )
 
-pub shape_of-words-in_default : goal.shape_of-words-in_default
-shape_of-words-in_default c = (stream_long c.stream-t.ensures.left).words
+pub shape_of-words-in_err-s : goal.shape_of-words-in_err-s
+shape_of-words-in_err-s c = (stream_long c.stream-t.ensures.left).words
 
-pub shape_of-numbers-in_default : goal.shape_of-numbers-in_default
-shape_of-numbers-in_default c = (stream_long c.stream-t.ensures.left).numbers
+pub shape_of-numbers-in_err-s : goal.shape_of-numbers-in_err-s
+shape_of-numbers-in_err-s c = (stream_long c.stream-t.ensures.left).numbers
 
-pub returns-in_default : goal.returns-in_default
-returns-in_default c = (
+pub returns-in_err-s : goal.returns-in_err-s
+returns-in_err-s c = (
   stream_long c.stream-t.ensures.left,
   stream_limit c.args.options c.args.merging c.args.run
-      c.absorption_of-absorption.ensures c.counters_of.ensures c.stream-t.ensures c.in_default.is,
+      c.absorption_of-absorption.ensures c.counters_of.ensures c.stream-t.ensures c.in_err-s.was,
 )
 
 pub shape_of-words : goal.shape_of-words
@@ -32,6 +32,6 @@ pub returns : goal.returns
 returns c = (
   stream_long c.stream-t.ensures.left,
   stream_done c.args.options c.args.merging c.args.run
-      c.absorption_of-absorption.ensures c.counters_of.ensures c.stream-t.ensures c.in-Next.is
+      c.absorption_of-absorption.ensures c.counters_of.ensures c.stream-t.ensures c.in_ok-s.was
       c.with_counts.ensures,
 )
