@@ -149,7 +149,7 @@ is_limit (Err x) e = refl
 -- how a step from st ends, by how carrying an axis ends
 unfoldable pub step_with : State → Result Image ExpansionLimit → Result State ExpansionLimit
 step_with st (Ok i) = Ok (with_image i.axes i.peak i.id i.turns st)
-step_with st (Err expansion_limit) = (Err expansion_limit)
+step_with st (Err _) = Err expansion_limit
 
 module _ (st : State) {r : Result Image ExpansionLimit} where
   pub with_next : {i : Image} {s : State} → r ≡ Ok i → s ≡ with_image i.axes i.peak i.id i.turns st → step_with st r ≡ Ok s
