@@ -11,7 +11,6 @@ use Rattle.model.specs.Words.{word_of, set_bits, support}
 use Rattle.model.specs.Clifford.{Touched, touch, touch_all}
 use Rattle.theory.specs.Every.{Every}
 use Rattle.theory.specs.Peak.{touch_all_rises}
-use Rattle.theory.specs.Ids.{id_in}
 use Rattle.layout.specs.declared.Shape.{Shape}
 use Rattle.layout.specs.Words.{axis_place}
 use Rattle.steps.specs.declared.State.{State}

@@ -11,12 +11,11 @@ use Rattle.std.specs.Int.Count.{count_trailing_zeros}
 use Rattle.bits.specs.LowestBit.{clear_lt}
 use Rattle.store.specs.Part.{put, part_put_same}
 use Rattle.store.specs.Row.{row}
-use Rattle.pauli.specs.Word.{phase, identity}
+use Rattle.pauli.specs.Word.{identity}
 use Rattle.pauli.specs.Letter.{single, letter_at as qubit_letter}
 use Rattle.model.specs.Words.{Value, word_of, as_value, set_bits, support}
 use Rattle.model.specs.Clifford.{Touched, letter_image, multiply_images, word_image}
 use Rattle.theory.specs.Every.{Every}
-use Rattle.theory.specs.Ids.{id_in}
 use Rattle.layout.specs.declared.Shape.{Shape}
 use Rattle.layout.specs.Rows.{f_slot}
 use Rattle.layout.specs.Words.{axis_place, scratch_place, slots_le, OnlyWords, words_none, words_then, words_put}

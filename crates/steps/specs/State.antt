@@ -1,7 +1,8 @@
 -- The first state, and a state with a part of it changed. Assumes nothing.
 use Rattle.std.specs.Prelude.{◌≡◌, ℕ, Result, Ok, Err}
-use Rattle.std.proofs.Common.{sym, ◌∙◌}
-use Rattle.std.proofs.Math.Path.{ap}
+use Rattle.std.specs.Result.{IsErr}
+use Rattle.std.proofs.Common.{sym, ◌∙◌, rules}
+use Rattle.std.proofs.Math.Path.{ap, refl}
 use Rattle.steps.specs.declared.State.{State}
 use Rattle.steps.specs.declared.Image.{Image}
 use Rattle.model.specs.declared.ExpansionLimit.{ExpansionLimit}
@@ -140,10 +141,15 @@ with_absorbed n st = record {
   absorbed = n;
 }
 
+-- the one error, as a `?` returns it
+pub is_limit : {T : Type 0} (r : Result T ExpansionLimit) → IsErr r → r ≡ Err expansion_limit
+is_limit (Ok x) e = search rules
+is_limit (Err x) e = refl
+
 -- how a step from st ends, by how carrying an axis ends
 unfoldable pub step_with : State → Result Image ExpansionLimit → Result State ExpansionLimit
 step_with st (Ok i) = Ok (with_image i.axes i.peak i.id i.turns st)
-step_with st (Err _) = (Err expansion_limit)
+step_with st (Err _) = Err expansion_limit
 
 module _ (st : State) {r : Result Image ExpansionLimit} where
   pub with_next : {i : Image} {s : State} → r ≡ Ok i → s ≡ with_image i.axes i.peak i.id i.turns st → step_with st r ≡ Ok s

@@ -12,7 +12,7 @@ use Rattle.model.specs.declared.Absorption.TheVariants.{Off as off, AtOnce as at
 use Rattle.model.specs.Rules.{is_lazy, Rules}
 use Rattle.model.specs.Words.{Value, word_of, anticommute, id_of}
 use Rattle.model.specs.Items.{rot, Item, rotation, barrier, with_sign}
-use Rattle.model.specs.Stream.{at, Pass, with_last, cleared_last, put_out, axis_image, image_id, carry_axis, absorb_waiting, absorb_all_waiting}
+use Rattle.model.specs.Stream.{Pass, with_last, cleared_last, put_out, axis_image, image_id, carry_axis, absorb_waiting, absorb_all_waiting}
 use Rattle.model.specs.Stream.{absorb_blocking, Carried, carry_rotation, take_rotation, stream_item}
 use Rattle.theory.specs.Ids.{id_word, id_in}
 use Rattle.theory.specs.Peak.{carry_axis_rises, absorb_waiting_rises, take_rotation_rises}

@@ -2,6 +2,7 @@
 use Rattle.absorbing.specs.AxisQubits.{axis_small, numbers_word, numbers_first, numbers_turn, numbers_left, numbers_next}
 use Rattle.absorbing.specs.AxisQubits.{numbers_limit, numbers_end}
 use native.Mathlib.Omega.{arith}
+use Rattle.steps.specs.State.{is_limit}
 use Rattle.absorbing.proofs.touch_all.Goals as goal
 
 pub axis_at-at-requires : goal.axis_at-at-requires
@@ -13,24 +14,25 @@ loop-j-init c = numbers_first
 pub acted_at-acted-requires : goal.acted_at-acted-requires
 acted_at-acted-requires c = (numbers_word c.loop-j.invariant c.requires c.axis_at-at.ensures, c.loop-j-test.true)
 
-pub touch_bits-t-requires : goal.touch_bits-t-requires
-touch_bits-t-requires c = numbers_turn c.loop-j.invariant c.loop-j-test.true c.axis_at-at.ensures c.acted_at-acted.ensures c.requires
+pub touch_bits-requires : goal.touch_bits-requires
+touch_bits-requires c = numbers_turn c.loop-j.invariant c.loop-j-test.true c.axis_at-at.ensures c.acted_at-acted.ensures c.requires
 
-pub shape_of-words-in-ExpansionLimit : goal.shape_of-words-in-ExpansionLimit
-shape_of-words-in-ExpansionLimit c = (numbers_left c.loop-j.invariant c.loop-j-test.true c.axis_at-at.ensures c.acted_at-acted.ensures
-    c.touch_bits-t.ensures).words.long
+pub shape_of-words-in_err-st : goal.shape_of-words-in_err-st
+shape_of-words-in_err-st c = (numbers_left c.loop-j.invariant c.loop-j-test.true c.axis_at-at.ensures c.acted_at-acted.ensures
+    c.touch_bits.ensures).words.long
 
-pub shape_of-numbers-in-ExpansionLimit : goal.shape_of-numbers-in-ExpansionLimit
-shape_of-numbers-in-ExpansionLimit c = (numbers_left c.loop-j.invariant c.loop-j-test.true c.axis_at-at.ensures c.acted_at-acted.ensures
-    c.touch_bits-t.ensures).numbers.long
+pub shape_of-numbers-in_err-st : goal.shape_of-numbers-in_err-st
+shape_of-numbers-in_err-st c = (numbers_left c.loop-j.invariant c.loop-j-test.true c.axis_at-at.ensures c.acted_at-acted.ensures
+    c.touch_bits.ensures).numbers.long
 
-pub returns-in-ExpansionLimit : goal.returns-in-ExpansionLimit
-returns-in-ExpansionLimit c = (
+pub returns-in_err-st : goal.returns-in_err-st
+returns-in_err-st c = (
   numbers_left c.loop-j.invariant c.loop-j-test.true c.axis_at-at.ensures c.acted_at-acted.ensures
-      c.touch_bits-t.ensures,
-  numbers_limit c.loop-j.invariant c.loop-j-test.true c.axis_at-at.ensures
-      c.acted_at-acted.ensures c.touch_bits-t.ensures c.in-ExpansionLimit.is,
+      c.touch_bits.ensures,
+  rw (is_limit _ c.from_residual.ensures.0) (numbers_limit c.loop-j.invariant c.loop-j-test.true c.axis_at-at.ensures
+      c.acted_at-acted.ensures c.touch_bits.ensures c.in_err-st.was),
 )
+
 
 pub overflow_step-j : goal.overflow_step-j
 overflow_step-j c = omega (arith, c.loop-j-test.true, c.requires.it.at.granted.sized.few)
@@ -41,7 +43,7 @@ loop-j-smaller c = omega (arith, c.loop-j-test.true)
 pub loop-j-preserved : goal.loop-j-preserved
 loop-j-preserved c =
     numbers_next c.loop-j.invariant c.loop-j-test.true c.axis_at-at.ensures c.acted_at-acted.ensures
-    c.touch_bits-t.ensures c.requires _ c.in-Next.is
+    c.touch_bits.ensures c.requires _ c.in_ok-st.was
 
 pub shape_of-words : goal.shape_of-words
 shape_of-words c = c.loop-j.invariant.left.words.long

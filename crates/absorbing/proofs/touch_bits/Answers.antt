@@ -4,6 +4,7 @@ use lib.Count.{trailing_le}
 use Rattle.bits.specs.LowestBit.{clear_lt}
 use mathlib.Core.Path.{refl}
 use native.Mathlib.Omega.{arith}
+use Rattle.steps.specs.State.{is_limit}
 use Rattle.absorbing.proofs.touch_bits.Goals as goal
 
 pub loop-rest-init : goal.loop-rest-init
@@ -18,27 +19,28 @@ overflow_cast-q c = omega (arith, trailing_le 64 c.loop-rest.rest)
 pub overflow_add-q : goal.overflow_add-q
 overflow_add-q c = omega (arith, number_small c.requires.it, trailing_le 64 c.loop-rest.rest)
 
-pub touch-t-requires : goal.touch-t-requires
-touch-t-requires c = bits_turn c.loop-rest.invariant c.loop-rest-test.true refl c.requires
+pub touch-requires : goal.touch-requires
+touch-requires c = bits_turn c.loop-rest.invariant c.loop-rest-test.true refl c.requires
 
-pub shape_of-words-in-ExpansionLimit : goal.shape_of-words-in-ExpansionLimit
-shape_of-words-in-ExpansionLimit c = (bits_left c.loop-rest.invariant c.loop-rest-test.true refl c.touch-t.ensures).words.long
+pub shape_of-words-in_err-st : goal.shape_of-words-in_err-st
+shape_of-words-in_err-st c = (bits_left c.loop-rest.invariant c.loop-rest-test.true refl c.touch.ensures).words.long
 
-pub shape_of-numbers-in-ExpansionLimit : goal.shape_of-numbers-in-ExpansionLimit
-shape_of-numbers-in-ExpansionLimit c = (bits_left c.loop-rest.invariant c.loop-rest-test.true refl c.touch-t.ensures).numbers.long
+pub shape_of-numbers-in_err-st : goal.shape_of-numbers-in_err-st
+shape_of-numbers-in_err-st c = (bits_left c.loop-rest.invariant c.loop-rest-test.true refl c.touch.ensures).numbers.long
 
-pub returns-in-ExpansionLimit : goal.returns-in-ExpansionLimit
-returns-in-ExpansionLimit c = (
-  bits_left c.loop-rest.invariant c.loop-rest-test.true refl c.touch-t.ensures,
-  bits_limit c.loop-rest.invariant
-      c.loop-rest-test.true refl c.touch-t.ensures c.in-ExpansionLimit.is,
+pub returns-in_err-st : goal.returns-in_err-st
+returns-in_err-st c = (
+  bits_left c.loop-rest.invariant c.loop-rest-test.true refl c.touch.ensures,
+  rw (is_limit _ c.from_residual.ensures.0) (bits_limit c.loop-rest.invariant
+      c.loop-rest-test.true refl c.touch.ensures c.in_err-st.was),
 )
+
 
 pub loop-rest-smaller : goal.loop-rest-smaller
 loop-rest-smaller c = clear_lt _ (omega arith)
 
 pub loop-rest-preserved : goal.loop-rest-preserved
-loop-rest-preserved c = bits_next c.loop-rest.invariant c.loop-rest-test.true refl c.touch-t.ensures c.requires _ c.in-Next.is
+loop-rest-preserved c = bits_next c.loop-rest.invariant c.loop-rest-test.true refl c.touch.ensures c.requires _ c.in_ok-st.was
 
 pub shape_of-words : goal.shape_of-words
 shape_of-words c = c.loop-rest.invariant.left.words.long

@@ -17,14 +17,14 @@ pub returns-in_default : goal.returns-in_default
 returns-in_default c = turned_at c.axis_at-b.ensures (all_turned c.turn_images.ensures)
 
 pub axis_at-at-requires : goal.axis_at-at-requires
-axis_at-at-requires c = source_here c.requires.it c.axis_at-b.ensures c.in-Axis.is
+axis_at-at-requires c = source_here c.requires.it c.axis_at-b.ensures c.in-Some.is
 
 pub turn_acted-requires : goal.turn_acted-requires
 turn_acted-requires c = record
-    { count = _; it = acted_pre c.requires.it c.axis_at-b.ensures c.in-Axis.is c.axis_at-at.ensures }
+    { count = _; it = acted_pre c.requires.it c.axis_at-b.ensures c.in-Some.is c.axis_at-at.ensures }
 
 pub returns : goal.returns
 returns c =
-    turned_at c.axis_at-b.ensures (acted_all c.requires.it c.axis_at-b.ensures c.in-Axis.is
+    turned_at c.axis_at-b.ensures (acted_all c.requires.it c.axis_at-b.ensures c.in-Some.is
     c.axis_at-at.ensures (c.turn_acted.ensures _
-    (acted_pre c.requires.it c.axis_at-b.ensures c.in-Axis.is c.axis_at-at.ensures)))
+    (acted_pre c.requires.it c.axis_at-b.ensures c.in-Some.is c.axis_at-at.ensures)))

@@ -1,6 +1,6 @@
 -- A word that F leaves has its id; else its image is worked out and stored. Assumes nothing.
 use mathlib.Core.Path.{refl}
-use Rattle.steps.specs.State.{step_with}
+use Rattle.steps.specs.State.{is_limit, step_with}
 use Rattle.carrying.specs.Carrying.{carry_at, carry_words, carry_numbers, left_fixed, fixed_to, intern_there, limit_left, carry_limit}
 use Rattle.carrying.specs.Carrying.{carry_left, carry_to}
 use native.Mathlib.Omega.{arith}
@@ -26,31 +26,31 @@ returns-then-fixes c = (
 pub carry_word-turns-requires : goal.carry_word-turns-requires
 carry_word-turns-requires c = record { state = c.requires.state; it = carry_at c.requires.it }
 
-pub intern-i-requires : goal.intern-i-requires
-intern-i-requires c =
+pub intern-requires : goal.intern-requires
+intern-requires c =
     intern_there c.requires.it (c.carry_word-turns.ensures _ (carry_at c.requires.it)) c.scratch_at-scratch.ensures
     c.sizes_of-z.ensures (omega (arith, c.requires.it.axis.at.holds.room))
 
-pub returns-in_default : goal.returns-in_default
+pub returns-in_err-a : goal.returns-in_err-a
 unfolding step_with
-returns-in_default c = (
+returns-in_err-a c = (
   limit_left c.requires.it (c.carry_word-turns.ensures _ (carry_at c.requires.it)) c.scratch_at-scratch.ensures
-      c.sizes_of-z.ensures c.intern-i.ensures c.in_default.is,
-  λ t h. carry_limit h
+      c.sizes_of-z.ensures c.intern.ensures c.in_err-a.was,
+  rw (is_limit _ c.from_residual.ensures.0) (λ t h. carry_limit h
       (c.carry_word-turns.ensures t (carry_at h)) c.scratch_at-scratch.ensures c.sizes_of-z.ensures
-      c.intern-i.ensures c.in_default.is,
+      c.intern.ensures c.in_err-a.was),
 )
 
 pub shape_of-words : goal.shape_of-words
 shape_of-words c = (carry_left c.requires.it (c.carry_word-turns.ensures _ (carry_at c.requires.it)) c.scratch_at-scratch.ensures
-    c.sizes_of-z.ensures c.intern-i.ensures c.in-Axis.is).words.long
+    c.sizes_of-z.ensures c.intern.ensures c.in_ok-a.was).words.long
 
 pub returns : goal.returns
 unfolding step_with
 returns c = (
   carry_left c.requires.it (c.carry_word-turns.ensures _ (carry_at c.requires.it)) c.scratch_at-scratch.ensures
-      c.sizes_of-z.ensures c.intern-i.ensures c.in-Axis.is,
+      c.sizes_of-z.ensures c.intern.ensures c.in_ok-a.was,
   λ t h. carry_to h
       (c.carry_word-turns.ensures t (carry_at h)) c.scratch_at-scratch.ensures c.sizes_of-z.ensures
-      c.intern-i.ensures c.in-Axis.is refl,
+      c.intern.ensures c.in_ok-a.was refl,
 )

@@ -3,7 +3,6 @@ use Rattle.merging.specs.Steps.{absorbed_left}
 use Rattle.merging.specs.Taking.{taking_put, taking_place, taking_absorbs, taking_there, take_once, take_out, take_there, put_next}
 use Rattle.merging.specs.Taking.{out_left, answer_is}
 use native.Mathlib.Omega.{arith}
-use borrow.Author.Rules.{rules}
 use Rattle.merging.proofs.take.Goals as goal
 
 pub absorb-requires : goal.absorb-requires
