@@ -53,12 +53,12 @@ axis_of st st' w = record { id = id_of st.axes w; axes = length st'.axes; peak =
 
 -- refused where the sum that `intern` tests exceeds the limit
 unfoldable pub intern_answer : ℕ → ℕ → ℕ → Store → List ℕ → Result StoredAxis ExpansionLimit
-intern_answer l others limit st w = when nat_lt limit (intern l others st w).peak then (Err expansion_limit) else Ok (axis_of st (intern l others st w) w)
+intern_answer l others limit st w = when nat_lt limit (intern l others st w).peak then Err expansion_limit else Ok (axis_of st (intern l others st w) w)
 
 -- the word store by the answer: a new word is laid behind the n axes
 unfoldable pub laid_by : Result StoredAxis ExpansionLimit → ℕ → ℕ → List ℕ → List ℕ → List ℕ
 laid_by (Ok a) l n s w = when nat_lt a.id n then s else put s (axis_place l n) w
-laid_by (Err _) l n s w = s
+laid_by (Err e) l n s w = s
 
 -- answer and word store are the model's
 pub record Answered (z : Sizes) (others peak : ℕ) (ws : List ℕ) (at : ℕ) (r : Result StoredAxis ExpansionLimit) (ws' : List ℕ) : Type 0 where
@@ -90,7 +90,7 @@ module _ (l others limit : ℕ) (st : Store) (w : List ℕ) where
       ap (λ (x : Store). Ok (axis_of st x w)) (sym e)
       ∙ sym (if_false _ _ (le-ltb limit (intern l others st w).peak (omega (arith, ap (λ (x : Store). x.peak) e))))
 
-  answer_limit : limit < (intern l others st w).peak → (Err expansion_limit) ≡ intern_answer l others limit st w
+  answer_limit : limit < (intern l others st w).peak → Err expansion_limit ≡ intern_answer l others limit st w
   unfolding intern_answer
   answer_limit h = sym (if_true _ _ (lt-ltb limit (intern l others st w).peak h))
 
@@ -188,7 +188,7 @@ stores_limit {z} {xs = xs} k = record {
   index = λ a e. never e;
 }
   where
-    never : {a : StoredAxis} {A : Type 0} → (Err expansion_limit) ≡ Ok a → A
+    never : {a : StoredAxis} {A : Type 0} → Err expansion_limit ≡ Ok a → A
     never e = let f : ◌≡◌ {A = ℕ} 0 1 = cc in absurd (omega arith)
 
 -- a new axis: its own beside it, and its chain goes on to it
@@ -276,10 +276,3 @@ link_there {z} others {p = p} s end fits ends =
       place_in = at.1;
       other = walked_other row (pick_low p) ends.walk;
     }
-
--- the word is read once to be found and once to be stored
-pub id_again : (axes : List (List ℕ)) {id : ℕ} {p q r : List ℕ} → id ≡ id_of axes p → p ≡ r → q ≡ r → id ≡ id_of axes q
-id_again axes e f g = e ∙ ap (id_of axes) (f ∙ sym g)
-
-pub ends_again : {z : Sizes} {xs p q r : List ℕ} {i : ℕ} → EndsAt z xs p i → p ≡ r → q ≡ r → EndsAt z xs q i
-ends_again {z} {xs} {i = i} e f g = subst (λ (w : List ℕ). EndsAt z xs w i) (f ∙ sym g) e

@@ -20,7 +20,6 @@ use Rattle.interning.specs.Intern.{sum_with, one_more, store_with, InternPre, St
 use Rattle.interning.specs.Intern.{intern_new, answered_new, answered_one}
 use Rattle.interning.specs.declared.StoredAxis.{StoredAxis}
 use Rattle.model.specs.declared.ExpansionLimit.{ExpansionLimit}
-use Rattle.model.specs.Interface.{expansion_limit}
 
 -- what a word's axis means to the caller: the stores hold the model's axes, so many, the largest tested sum is the model's and within
 -- the limit, axes and the other words still fit in it, and the other words that are counted, those behind the limit, and the rows that
@@ -43,7 +42,7 @@ pub record NoRoom (z : Sizes) (others : ℕ) (ws xs : List ℕ) (st : Store) (w 
 -- what an answer of `intern` means
 abbrev pub InternedAs : Sizes → ℕ → List ℕ → List ℕ → Store → List ℕ → Result StoredAxis ExpansionLimit → List ℕ → List ℕ → Type 0
 InternedAs z others ws xs st w (Ok a) ws' xs' = HasAxis z others ws xs st w a ws' xs'
-InternedAs z others ws xs st w (Err _) ws' xs' = NoRoom z others ws xs st w ws' xs'
+InternedAs z others ws xs st w (Err e) ws' xs' = NoRoom z others ws xs st w ws' xs'
 
 module _ (z : Sizes) (others : ℕ) (ws xs : List ℕ) (at : ℕ) (st : Store) (pre : InternPre z others st.peak ws xs at)
     (h : HoldsAxes z ws xs st.axes) where

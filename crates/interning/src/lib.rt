@@ -2,14 +2,12 @@
 #![tactic(auto)]
 
 ghost use Rattle.std.specs.Prelude.{◌≡◌, ◌+◌, ◌^◌, ◌<◌, ◌≤◌, true, length, slice_index};
-ghost use Rattle.model.specs.Words.{id_of};
 ghost use Rattle.layout.specs.Index.{links_place};
 ghost use Rattle.layout.specs.Words.{axis_place};
 ghost use Rattle.axes.specs.Pick.{mixed};
-ghost use Rattle.axes.specs.Chains.{next_place};
 ghost use Rattle.axes.specs.View.{axes_of};
 ghost use Rattle.axes.specs.Held.{Stored};
-ghost use Rattle.interning.specs.Find.{SumsOf, FirstAt, FoundAs};
+ghost use Rattle.interning.specs.Find.{SumsOf, FirstAt, Behind, entry_of, FoundAs, stored_id};
 ghost use Rattle.interning.specs.Beside.{BesidePre, BesidePut};
 ghost use Rattle.interning.specs.Link.{LinkPre, LinkPut, Entered, ChainsCleared};
 ghost use Rattle.interning.specs.Intern.{InternPre, Stores};
@@ -45,7 +43,7 @@ struct Sums {
 fn mixed_halves(hash: u64) -> u64
     ensures { result ≡ mixed hash }
 {
-    std::num::wrapping_add_u64(hash % HALF * LOWER, hash / HALF * UPPER)
+    (hash % HALF * LOWER).wrapping_add(hash / HALF * UPPER)
 }
 
 // A word's numbers, read once.
@@ -54,92 +52,83 @@ fn sums_of(w: &[u64]) -> Sums
 {
     let mut total: u64 = 0;
     let mut hash: u64 = 0;
-    for k in 0..w.len() {
-        let number = w[k];
-        total = std::num::wrapping_add_u64(total, number);
-        hash = std::num::wrapping_add_u64(mixed_halves(hash), number);
+    for &number in w {
+        total = total.wrapping_add(number);
+        hash = mixed_halves(hash).wrapping_add(number);
     }
     Sums { total, hash }
 }
 
-// A word among the axes, or the end of the walk for it: its id, their number if it is none of them, and the place that the walk came to.
-#[derive(Clone, Copy)]
-pub struct Found {
-    pub id: usize,
-    pub place: usize,
-}
-
-// The place of the link by which a walk goes on behind axis b.
-fn next(z: Sizes, b: usize, digits: u64) -> usize
-    requires { links_place z.u + b < 2 ^ 64 }
-    ensures { result ≡ next_place z.u b digits }
-{
-    if digits % 2 == 0 {
-        return layout::links_at(z.u) + b;
-    }
-    FORK * z.u + b
-}
-
-// Where a walk stands, and the digits by which it goes on.
+// Where a walk along the index stands, and the digits by which it goes on.
 #[derive(Clone, Copy)]
 struct Walk {
     place: usize,
     digits: u64,
 }
 
-// Where the walk for a word with these sums begins: at the head of the chain that is picked for it.
-fn first(z: Sizes, s: Sums) -> Walk
-    requires { links_place z.u < 2 ^ 64 }
-    ensures { FirstAt z s result }
-{
-    Walk {
-        place: layout::heads_at(z.u) + (s.total % HEADS as u64) as usize,
-        digits: mixed_halves(s.hash) / HALF,
+impl Walk {
+    // For a word with these sums it begins at the head of the chain that is picked for it.
+    fn from_head(z: Sizes, s: Sums) -> Walk
+        requires { links_place z.u < 2 ^ 64 }
+        ensures { FirstAt z s result }
+    {
+        Walk {
+            place: layout::heads_at(z.u) + (s.total % HEADS as u64) as usize,
+            digits: mixed_halves(s.hash) / HALF,
+        }
+    }
+
+    // Behind axis b it goes on by one of the axis's two links.
+    fn behind(self, z: Sizes, b: usize) -> Walk
+        requires { links_place z.u + b < 2 ^ 64 }
+        ensures { Behind z self b result }
+    {
+        let links = if self.digits % 2 == 0 {
+            layout::links_at(z.u)
+        } else {
+            FORK * z.u
+        };
+        Walk {
+            place: links + b,
+            digits: self.digits / 2,
+        }
     }
 }
 
-// The entry of the index at a place: 0, or an axis's id and 1.
-fn entry_at(numbers: &[u32], place: usize) -> u32
+// The axis that the index names at a place: an entry is 0, or an axis's id and 1.
+fn named_at(numbers: &[u32], place: usize) -> Option<usize>
     requires { place < length numbers.now }
-    ensures { result ≡ slice_index numbers.now place }
+    ensures { entry_of result ≡ slice_index numbers.now place }
 {
-    numbers[place]
+    (numbers[place] as usize).checked_sub(1)
 }
 
-// The id of w among the axes, found by its chain.
-pub fn find(words: &[u64], numbers: &[u32], z: Sizes, w: &[u64]) -> Found
+// A word looked for by its chain: its id among the axes, or, as an error, the place at the end of its walk where its entry belongs.
+pub fn find(words: &[u64], numbers: &[u32], z: Sizes, w: &[u64]) -> Result<usize, usize>
     requires { Stored z words.now numbers.now }
     ensures { FoundAs z words.now numbers.now w.now result }
 {
-    let begin = first(z, sums_of(w));
-    let mut place = begin.place;
-    let mut digits = begin.digits;
-    let mut entry = entry_at(numbers, place) as usize;
-    while entry != 0 {
-        if same(axes::axis(words, entry - 1, z.l), w) {
-            return Found {
-                id: entry - 1,
-                place,
-            };
+    let mut walk = Walk::from_head(z, sums_of(w));
+    while let Some(axis) = named_at(numbers, walk.place) {
+        if same(axes::axis(words, axis, z.l), w) {
+            return Ok(axis);
         }
-        place = next(z, entry - 1, digits);
-        digits = digits / 2;
-        entry = entry_at(numbers, place) as usize;
+        walk = walk.behind(z, axis);
     }
-    Found { id: z.axes, place }
+    Err(walk.place)
 }
 
-// The id of w among the first so many axes, their number if it is none of them, by a scan of all: 01's rule, to which `find` is held.
-pub fn scan(words: &[u64], l: usize, axes: usize, w: &[u64]) -> usize
+// The id of w among the first so many axes, by a scan of all: 01's rule, to which `find` is held.
+pub fn scan(words: &[u64], l: usize, axes: usize, w: &[u64]) -> Option<usize>
     requires { axis_place l axes ≤ length words.now }
-    ensures { result ≡ id_of (axes_of l axes words.now) w.now }
+    ensures { result ≡ stored_id (axes_of l axes words.now) w.now }
 {
     for id in 0..axes {
         if same(axes::axis(words, id, l), w) {
-            return id;
+            return Some(id);
         }
     }
-    axes
+    None
 }
 
 // 02: "Ids and results stay equal to the scan's, which is kept and proved to agree."
@@ -147,7 +136,7 @@ pub fn agree(words: &[u64], numbers: &[u32], z: Sizes, w: &[u64]) -> bool
     requires { Stored z words.now numbers.now }
     ensures { result ≡ true }
 {
-    find(words, numbers, z, w).id == scan(words, z.l, z.axes, w)
+    find(words, numbers, z, w).ok() == scan(words, z.l, z.axes, w)
 }
 
 // Every chain is empty.
@@ -205,32 +194,28 @@ pub fn intern(
     requires { InternPre z others peak words.old numbers.old at }
     ensures { Stores z others peak words.old numbers.old at result words.new numbers.new }
 {
-    let found = find(
-        &words[..],
-        &numbers[..],
-        z,
-        axes::word_at(&words[..], at, z.l),
-    );
-    let id = found.id;
-    if id < z.axes {
-        return Ok(StoredAxis {
-            id,
-            axes: z.axes,
-            peak,
-        });
-    }
+    let w = axes::word_at(&words[..], at, z.l);
+    let place = match find(&words[..], &numbers[..], z, w) {
+        Ok(id) => {
+            return Ok(StoredAxis {
+                id,
+                axes: z.axes,
+                peak,
+            });
+        }
+        Err(place) => place,
+    };
     let n = 2 * z.l;
     let end = layout::axis_at(z.l, z.axes);
     let sum = end + n + others;
     if z.limit < sum {
         return Err(ExpansionLimit);
     }
-    let w = axes::word_at(&words[..], at, z.l);
-    enter(numbers, z, w, found.place);
+    enter(numbers, z, w, place);
     store::copy_within(words, at, end, n);
     Ok(StoredAxis {
-        id,
+        id: z.axes,
         axes: z.axes + 1,
-        peak: layout::peak_with(peak, sum),
+        peak: peak.max(sum),
     })
 }

@@ -1,14 +1,15 @@
 -- The loop's invariant: none of the first id axes is w. Assumes nothing.
 use Rattle.std.proofs.Common.{arith}
 use Rattle.layout.specs.Words.{slots_le}
-use Rattle.interning.specs.Find.{id_here, id_next, id_none}
+use Rattle.interning.specs.Find.{id_here, id_next, id_none, stored_here, stored_none}
 use Rattle.interning.proofs.scan.Goals as goal
 
 pub axis-requires : goal.axis-requires
 axis-requires c = omega (arith, c.requires, slots_le c.args.l c.loop-id.id c.args.axes (omega arith))
 
 pub returns-then-same : goal.returns-then-same
-returns-then-same c = id_here _ _ _ _ _ c.loop-id.invariant.1 (omega arith) c.same.ensures c.if-same.true (c.axis.ensures _ (omega arith))
+returns-then-same c =
+    stored_here _ _ _ _ (id_here _ _ _ _ _ c.loop-id.invariant.1 (omega arith) c.same.ensures c.if-same.true (c.axis.ensures _ (omega arith))) (omega arith)
 
 pub loop-id-preserved : goal.loop-id-preserved
 loop-id-preserved c = (
@@ -17,4 +18,4 @@ loop-id-preserved c = (
 )
 
 pub returns : goal.returns
-returns c = id_none _ _ _ _ (omega arith)
+returns c = stored_none _ _ _ _ (id_none _ _ _ _ (omega arith))

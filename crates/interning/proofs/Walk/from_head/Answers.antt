@@ -2,7 +2,7 @@
 use Rattle.std.proofs.Common.{ℕ, ◌+◌, ◌/◌, ◌%◌, ap}
 use Rattle.layout.specs.Index.{head_count}
 use Rattle.axes.specs.Pick.{digits_by}
-use Rattle.interning.proofs.first.Goals as goal
+use Rattle.interning.proofs.Walk.from_head.Goals as goal
 
 pub returns : goal.returns
 unfolding digits_by
