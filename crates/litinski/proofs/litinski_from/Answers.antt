@@ -3,6 +3,7 @@ use Rattle.points.specs.Points.{long_then}
 use Rattle.litinski.specs.LayerRounds.{rounds_first, rounds_some, rounds_stop, layered_some, rounds_limit}
 use Rattle.litinski.specs.LayerRounds.{rounds_next, rounds_end}
 use native.Mathlib.Omega.{arith}
+use Rattle.steps.specs.State.{is_limit}
 use Rattle.litinski.proofs.litinski_from.Goals as goal
 
 pub loop-j-init : goal.loop-j-init
@@ -37,7 +38,7 @@ pub shape_of-numbers-in_err-run : goal.shape_of-numbers-in_err-run
 shape_of-numbers-in_err-run c = (long_then (long_then c.loop-j.invariant.long c.layering_pass-s.ensures.0) c.stream_pass.ensures.0).numbers
 
 pub returns-in_err-run : goal.returns-in_err-run
-returns-in_err-run c = (
+returns-in_err-run c = rw (is_limit _ c.from_residual.ensures.0) (
   long_then (long_then c.loop-j.invariant.long c.layering_pass-s.ensures.0) c.stream_pass.ensures.0,
   λ p w h. rounds_limit c.loop-j.invariant
       c.loop-j-test.true c.layering_pass-s.ensures c.if-s-run.false

@@ -2,6 +2,7 @@
 use Rattle.points.specs.Points.{some_later, long_same, long_then}
 use Rattle.litinski.specs.LayerRounds.{litinski_zero, litinski_limit, litinski_some, litinski_end}
 use native.Mathlib.Omega.{arith}
+use Rattle.steps.specs.State.{is_limit}
 use Rattle.litinski.proofs.litinski_rounds.Goals as goal
 
 pub returns-then-options-eq0 : goal.returns-then-options-eq0
@@ -17,7 +18,7 @@ pub shape_of-numbers-in_err-run : goal.shape_of-numbers-in_err-run
 shape_of-numbers-in_err-run c = c.stream_pass.ensures.0.numbers
 
 pub returns-in_err-run : goal.returns-in_err-run
-returns-in_err-run c = (
+returns-in_err-run c = rw (is_limit _ c.from_residual.ensures.0) (
   c.stream_pass.ensures.0,
   λ p w h. litinski_limit c.args.options w c.if-options-eq0.false
       (c.stream_pass.ensures.1 0 p w h) c.in_err-run.was,

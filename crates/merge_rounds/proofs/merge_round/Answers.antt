@@ -2,6 +2,7 @@
 use Rattle.points.specs.Points.{some_later, long_then}
 use Rattle.merge_rounds.specs.OneRound.{merged_limit, merged_some, merged_done}
 use native.Mathlib.Omega.{arith}
+use Rattle.steps.specs.State.{is_limit}
 use Rattle.merge_rounds.proofs.merge_round.Goals as goal
 
 pub stream_pass-requires : goal.stream_pass-requires
@@ -14,7 +15,7 @@ pub shape_of-numbers-in_err-s : goal.shape_of-numbers-in_err-s
 shape_of-numbers-in_err-s c = c.stream_pass.ensures.0.numbers
 
 pub returns-in_err-s : goal.returns-in_err-s
-returns-in_err-s c = (
+returns-in_err-s c = rw (is_limit _ c.from_residual.ensures.0) (
   c.stream_pass.ensures.0,
   λ i p w h. merged_limit c.args.options i w (c.stream_pass.ensures.1 i p w h)
       c.in_err-s.was,

@@ -1,6 +1,7 @@
 -- The rounds, and one more stream. Assumes nothing.
 use Rattle.points.specs.Points.{long_then}
 use Rattle.merge_rounds.specs.Closing.{merging_limit, merging_some, merging_end}
+use Rattle.steps.specs.State.{is_limit}
 use Rattle.merge_rounds.proofs.merge_rounds.Goals as goal
 
 pub shape_of-words-in_err-run : goal.shape_of-words-in_err-run
@@ -10,7 +11,7 @@ pub shape_of-numbers-in_err-run : goal.shape_of-numbers-in_err-run
 shape_of-numbers-in_err-run c = c.rounds_from.ensures.0.numbers
 
 pub returns-in_err-run : goal.returns-in_err-run
-returns-in_err-run c = (
+returns-in_err-run c = rw (is_limit _ c.from_residual.ensures.0) (
   c.rounds_from.ensures.0,
   λ p w h. merging_limit c.args.options w (c.rounds_from.ensures.1 p w h)
       c.in_err-run.was,

@@ -3,6 +3,7 @@ use Rattle.points.specs.Points.{long_then}
 use Rattle.merge_rounds.specs.AllRounds.{rounds_first, rounds_some, rounds_limit, rounds_count, rounds_stop}
 use Rattle.merge_rounds.specs.AllRounds.{rounds_next, rounds_end}
 use native.Mathlib.Omega.{arith}
+use Rattle.steps.specs.State.{is_limit}
 use Rattle.merge_rounds.proofs.rounds_from.Goals as goal
 
 pub overflow_add-t : goal.overflow_add-t
@@ -21,7 +22,7 @@ pub shape_of-numbers-in_err-s : goal.shape_of-numbers-in_err-s
 shape_of-numbers-in_err-s c = (long_then c.loop-j.invariant.long c.merge_round.ensures.0).numbers
 
 pub returns-in_err-s : goal.returns-in_err-s
-returns-in_err-s c = (
+returns-in_err-s c = rw (is_limit _ c.from_residual.ensures.0) (
   long_then c.loop-j.invariant.long c.merge_round.ensures.0,
   λ p w h. rounds_limit c.loop-j.invariant
       c.loop-j-test.true c.merge_round.ensures h c.in_err-s.was,

@@ -3,4 +3,4 @@ use Rattle.points.specs.Counts.{counters_set}
 use Rattle.points.proofs.counters_of.Goals as goal
 
 pub returns : goal.returns
-returns c = counters_set c.args.run c.no_counters-c.ensures
+returns c = counters_set c.args.run c.no_counters.ensures

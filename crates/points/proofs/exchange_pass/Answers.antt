@@ -14,5 +14,5 @@ pub returns : goal.returns
 returns c = (
   record { words = refl; numbers = c.exchange-t.ensures.0.only.long },
   swapped_at c.args.options c.sizes_of-z.ensures c.counters_of.ensures c.exchange-t.ensures
-      c.with_counts-next.ensures,
+      c.with_counts.ensures,
 )

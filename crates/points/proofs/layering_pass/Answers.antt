@@ -10,5 +10,5 @@ layering-t-requires c = (layer_pre c.sizes_of-z.ensures c.requires, layering_roo
 pub returns : goal.returns
 returns c = (
   record { words = refl; numbers = c.layering-t.ensures.0.only.long },
-  layered_at c.sizes_of-z.ensures c.counters_of.ensures c.layering-t.ensures c.with_counts-next.ensures,
+  layered_at c.sizes_of-z.ensures c.counters_of.ensures c.layering-t.ensures c.with_counts.ensures,
 )

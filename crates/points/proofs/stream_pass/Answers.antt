@@ -1,6 +1,7 @@
 -- The stream's pass. Assumes nothing.
 use Rattle.points.specs.Counts.{stream_room}
 use Rattle.points.specs.StreamPass.{stream_pre, stream_long, stream_limit, stream_done}
+use Rattle.steps.specs.State.{is_limit}
 use Rattle.points.proofs.stream_pass.Goals as goal
 
 pub stream-t-requires : goal.stream-t-requires
@@ -16,7 +17,7 @@ pub shape_of-numbers-in_err-s : goal.shape_of-numbers-in_err-s
 shape_of-numbers-in_err-s c = (stream_long c.stream-t.ensures.left).numbers
 
 pub returns-in_err-s : goal.returns-in_err-s
-returns-in_err-s c = (
+returns-in_err-s c = rw (is_limit _ c.from_residual.ensures.0) (
   stream_long c.stream-t.ensures.left,
   stream_limit c.args.options c.args.merging c.args.run
       c.absorption_of-absorption.ensures c.counters_of.ensures c.stream-t.ensures c.in_err-s.was,
