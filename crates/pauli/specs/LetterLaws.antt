@@ -1,5 +1,5 @@
 -- Letters and words determine each other; the letters of a product, of one letter, and their counts. Assumes nothing.
-use Rattle.std.specs.Prelude.{◌≡◌, refl, ◌⊎◌, List, length, get_or, set}
+use Rattle.std.specs.Prelude.{◌≡◌, refl, List, length, get_or, set}
 use Rattle.std.proofs.Common.{sym, ap, ◌∙◌, zero-mul, one-mul, eq-or-lt_of_le, arith, pow_mono, ext_get_or}
 use Rattle.std.proofs.Math.Path.{ap₂}
 use Rattle.std.proofs.Math.Logic.{⊎_elim}

@@ -4,42 +4,26 @@
 ghost use Rattle.std.specs.Prelude.{◌≡◌, ◌*◌, length};
 ghost use Rattle.store.specs.Equal.{same_list};
 ghost use Rattle.pauli.specs.Word.{width, is_identity, anticommutes};
+
 // The words of a plane for a number of qubits.
 pub fn width(qubits: usize) -> usize
     ensures { result ≡ width qubits }
 {
-    if qubits == 0 {
-        1
-    } else {
-        (qubits - 1) / 64 + 1
-    }
+    qubits.div_ceil(64).max(1)
 }
 
 // Whether p and q are one word.
 pub fn same(p: &[u64], q: &[u64]) -> bool
     ensures { result ≡ same_list p.now q.now }
 {
-    if p.len() != q.len() {
-        return false;
-    }
-    for j in 0..p.len() {
-        if p[j] != q[j] {
-            return false;
-        }
-    }
-    true
+    p == q
 }
 
 // Whether every letter of p is I.
 pub fn is_identity(p: &[u64]) -> bool
     ensures { result ≡ is_identity p.now }
 {
-    for k in 0..p.len() {
-        if p[k] != 0 {
-            return false;
-        }
-    }
-    true
+    p.iter().all(|word| *word == 0)
 }
 
 // Whether p and q anticommute.
@@ -51,5 +35,5 @@ pub fn anticommutes(p: &[u64], q: &[u64], l: usize) -> bool
     for j in 0..l {
         acc ^= (p[j] & q[l + j]) ^ (p[l + j] & q[j]);
     }
-    u64::count_ones(acc) % 2 == 1
+    acc.count_ones() % 2 == 1
 }

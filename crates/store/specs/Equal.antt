@@ -1,5 +1,6 @@
 -- Equality of two lists of numbers, as a Bool. Assumes nothing.
 use Rattle.std.specs.Prelude.{◌≡◌, refl, Bool, true, false, ◌&&◌, ℕ, List, [], ◌∷◌, eqb}
+use Rattle.std.specs.Cmp.Lexicographic.{pointwise}
 use Rattle.std.proofs.Common.{sym, ap, ap₂, ◌∙◌, true≢false, eq-eqb, eqb-true}
 use Rattle.std.proofs.lemmas.Bool.{false≢true}
 
@@ -32,6 +33,14 @@ same_false xs ys n = go (same_list xs ys) refl
     go : (b : Bool) → same_list xs ys ≡ b → b ≡ false
     go true p = absurd (n (same_true xs ys p))
     go false p = refl
+
+-- what `==` of two slices answers
+pub pointwise_same : (xs ys : List ℕ) → pointwise eqb xs ys ≡ same_list xs ys
+unfolding same_list
+pointwise_same [] [] = refl
+pointwise_same [] (y ∷ ys) = refl
+pointwise_same (x ∷ xs) [] = refl
+pointwise_same (x ∷ xs) (y ∷ ys) = ap (λ (b : Bool). eqb x y && b) (pointwise_same xs ys)
 
 -- ---- what a call that answers `same_list a w` says of a list x that a is
 

@@ -4,5 +4,5 @@
 mod numbers;
 mod words;
 
-pub use numbers::{clear_row, read, read_wide, write, write_wide, zero_numbers};
-pub use words::{copy_within, zero_words};
+pub use numbers::{clear_row, read, read_wide, write, write_wide};
+pub use words::copy_within;

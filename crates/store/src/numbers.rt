@@ -4,17 +4,6 @@ ghost use Rattle.store.specs.Part.{put};
 ghost use Rattle.store.specs.Row.{row, Written};
 ghost use Rattle.store.specs.Wide.{wide_at, WrittenWide};
 
-// d becomes zeros.
-pub fn zero_numbers(d: &mut [u32])
-    ensures { d.new ≡ replicate (length d.old) 0 }
-{
-    let mut i = d.len();
-    while 0 < i {
-        i -= 1;
-        d[i] = 0;
-    }
-}
-
 // Entry i of row r.
 pub fn read(numbers: &[u32], u: usize, r: usize, i: usize) -> u32
     requires { (24 * u ≤ length numbers.now) × (r < 24) × (i < u) }
@@ -58,5 +47,5 @@ pub fn clear_row(numbers: &mut [u32], u: usize, r: usize, n: usize)
 {
     let a = r * u;
     let e = a + n;
-    zero_numbers(&mut numbers[a..e]);
+    numbers[a..e].fill(0);
 }

@@ -1,30 +1,19 @@
--- The machine's remainder of a signed number, made the one from 0 to 7. Assumes nothing.
-use Rattle.angle.proofs.Remainder.{r8_below, r8_above, eighths_back}
+-- The library's remainder is the angle's. Assumes nothing.
+use Rattle.std.proofs.Common.{◌≡◌, refl, ap, ◌∙◌, arith, ℤ, pos, negsuc, w32}
+use Rattle.std.specs.Int.{int_rem_euclid}
+use Rattle.std.proofs.lemmas.Int.{to_z_pos}
+use Rattle.std.proofs.Math.Facts.{to_z-of_z}
+use Rattle.angle.specs.Angle.{eighths_of}
 use Rattle.angle.specs.AngleLaws.{eighths_lt}
-use native.Mathlib.Omega.{arith}
 use Rattle.angle.proofs.PauliAngle.new.Goals as goal
 
-pub overflow_add-result : goal.overflow_add-result
-overflow_add-result c =
-    let k = c.args.eighths in
-    rw (r8_below k c.ranges.eighths c.if-r-lt0.true) (record { sfits = omega (arith, eighths_lt k) })
+remainder : (k : ℤ) → int_rem_euclid k (pos 8) ≡ pos (eighths_of k)
+unfolding eighths_of
+remainder (pos n) = refl
+remainder (negsuc n) = refl
 
-pub overflow_cast-result : goal.overflow_cast-result
-overflow_cast-result c =
+pub returns : goal.returns
+returns c =
     let k = c.args.eighths in
-    let f = c.ranges.eighths in
-    rw (r8_below k f c.if-r-lt0.true, eighths_back k f) (tt, record { fits = omega (arith, eighths_lt k) })
-
-pub overflow_cast-result-else-r-lt0 : goal.overflow_cast-result-else-r-lt0
-overflow_cast-result-else-r-lt0 c =
-    let k = c.args.eighths in
-    rw (r8_above k c.ranges.eighths c.if-r-lt0.false) (tt, record { fits = omega (arith, eighths_lt k) })
-
-pub returns-then-r-lt0 : goal.returns-then-r-lt0
-returns-then-r-lt0 c =
-    let k = c.args.eighths in
-    let f = c.ranges.eighths in
-    rw (r8_below k f c.if-r-lt0.true, eighths_back k f)
-
-pub returns-else-r-lt0 : goal.returns-else-r-lt0
-returns-else-r-lt0 c = rw (r8_above c.args.eighths c.ranges.eighths c.if-r-lt0.false)
+    let e = c.rem_euclid.ensures.value ∙ ap (λ (z : ℤ). int_rem_euclid z (pos 8)) (to_z-of_z c.ranges.eighths) ∙ remainder k in
+    rw (e, to_z_pos w32 (eighths_of k) (omega (arith, eighths_lt k)))

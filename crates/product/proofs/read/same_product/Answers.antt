@@ -1,15 +1,12 @@
--- The loop's invariant: no number of the products differs so far. Assumes nothing.
-use borrow.Author.Count.{below_more}
-use Rattle.product.proofs.SameProduct.{products_differ, products_same}
-use native.Mathlib.Omega.{arith}
-use borrow.Author.Rules.{rules}
+-- The places are looked at in order, up to one where the products differ. Assumes nothing.
+use Rattle.std.proofs.Common.{refl, length, arith, rules, tests}
+use Rattle.std.proofs.lemmas.Iterator.{cases_from_all, YieldsList-from_range}
+use Rattle.product.proofs.SameProduct.{Agree, answered}
 use Rattle.product.proofs.read.same_product.Goals as goal
 
-pub returns-then-p-j : goal.returns-then-p-j
-returns-then-p-j c = products_differ _ _ _ _ _ c.if-p-j.true
-
-pub loop-j-preserved : goal.loop-j-preserved
-loop-j-preserved c = (search rules, search rules, below_more _ _ c.loop-j.invariant.2 c.if-p-j.false)
-
 pub returns : goal.returns
-returns c = products_same _ _ _ _ c.requires (λ j b. c.loop-j.invariant.2 j (omega arith))
+returns c =
+    let a = c.args in
+    answered a.p.now a.q.now a.r.now a.s.now c.requires c.all.result
+    (cases_from_all _ _ c.all.result (Agree a.p.now a.q.now a.r.now a.s.now) (λ j. Agree a.p.now a.q.now a.r.now a.s.now j → ⊥) c.all.ensures.ran
+    (YieldsList-from_range 0 (length a.p.now) (length a.p.now) refl (omega arith)) (λ x q k. search (rules, tests)) (λ x q k. search (rules, tests)))
