@@ -1,5 +1,5 @@
 -- Stores that hold the axes so far, and have room for a word of one number in each plane behind the limit. Assumes nothing.
-use Rattle.std.specs.Prelude.{◌≡◌, refl, false, List, ℕ, ◌+◌, ◌*◌, ◌≤◌, length, Result, Ok}
+use Rattle.std.specs.Prelude.{◌≡◌, refl, false, List, ℕ, ◌+◌, ◌*◌, ◌≤◌, length, Option, None, Some, Result, Ok}
 use Rattle.std.proofs.Common.{sym, ◌∙◌, subst, arith}
 use Rattle.pauli.specs.Word.{width}
 use Rattle.model.specs.Words.{Store}
@@ -30,8 +30,9 @@ pub record Ready (z : Sizes) (peak : ℕ) (ws xs : List ℕ) : Type 0 where
   pub narrow : z.l ≡ 1
 
 -- so can the next, once one is
-pub record ReadyAfter (z : Sizes) (r : Result StoredAxis ExpansionLimit) (ws xs : List ℕ) : Type 0 where
-  pub next : (a : StoredAxis) → r ≡ Ok a → Ready (with_axes a.axes z) a.peak ws xs
+abbrev pub ReadyAfter : Sizes → Option StoredAxis → List ℕ → List ℕ → Type 0
+ReadyAfter z (Some a) ws xs = Ready (with_axes a.axes z) a.peak ws xs
+ReadyAfter z None ws xs = Unit {0}
 
 -- a word is laid
 pub ready_laid : {z : Sizes} {peak a : ℕ} {ws vs xs : List ℕ} → Ready z peak ws xs → OnlyWords z.limit a ws vs → Ready z peak vs xs
@@ -55,27 +56,21 @@ ready_intern h = record {
 }
 
 -- it is
-pub ready_after : {z : Sizes} {peak : ℕ} {ws xs ws' xs' : List ℕ} {r : Result StoredAxis ExpansionLimit} → Ready z peak ws xs
-    → Stores z 0 peak ws xs z.limit r ws' xs' → ReadyAfter z r ws' xs'
-ready_after {z} {peak} {ws} {xs} {ws'} {xs'} {r} h s = record {
-  next = λ a e.
-      let has = subst As e (interned_is z 0 ws xs z.limit st (ready_intern h) h.behind.held s) in
-      record {
-        behind = record { held = held_stored has.held; word_in = omega (arith, h.behind.word_in, has.kept.long) };
-        tested = has.fits;
-        narrow = h.narrow;
-      };
-}
+pub ready_after : {z : Sizes} {peak : ℕ} {ws xs ws' xs' : List ℕ} {r : Result StoredAxis ExpansionLimit} {a : StoredAxis} → Ready z peak ws xs
+    → Stores z 0 peak ws xs z.limit r ws' xs' → r ≡ Ok a → Ready (with_axes a.axes z) a.peak ws' xs'
+ready_after {z} {peak} {ws} {xs} {ws'} {xs'} h s e =
+    let has = subst As e (interned_is z 0 ws xs z.limit st (ready_intern h) h.behind.held s) in
+    record {
+      behind = record { held = held_stored has.held; word_in = omega (arith, h.behind.word_in, has.kept.long) };
+      tested = has.fits;
+      narrow = h.narrow;
+    }
   where
     st : Store
     st = store_with peak (stored_axes z ws)
 
     As : Result StoredAxis ExpansionLimit → Type 0
     As q = InternedAs z 0 ws xs st (word_at z.l ws z.limit) q ws' xs'
-
--- the same answer, taken apart
-pub ready_as : {z : Sizes} {r q : Result StoredAxis ExpansionLimit} {ws xs : List ℕ} → r ≡ q → ReadyAfter z r ws xs → ReadyAfter z q ws xs
-ready_as {z} {ws = ws} {xs} e h = subst (λ (x : Result StoredAxis ExpansionLimit). ReadyAfter z x ws xs) e h
 
 -- ---- before the first word: what refusal 3 asks for one node on 64 qubits and a limit of 64 words
 

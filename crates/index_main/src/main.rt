@@ -7,7 +7,7 @@ ghost use Rattle.index_main.specs.Ready.{WordBehind, Ready, ReadyAfter};
 
 use axes::Sizes;
 use interning::StoredAxis;
-use model::{Counts, ExpansionLimit};
+use model::Counts;
 use std::io;
 
 // A word of one number in each plane: x, then z.
@@ -64,11 +64,7 @@ fn show(rt: &impl Print, number: usize, end: &[u8]) -> io::Result<()> {
 // The end of a line: the id that a word is stored with, and 1 if chain and scan agreed before and after.
 fn show_stored(rt: &impl Print, id: usize, agreed: bool) -> io::Result<()> {
     show(rt, id, b" ")?;
-    if agreed {
-        rt.println("1")
-    } else {
-        rt.println("0")
-    }
+    show(rt, agreed as usize, b"\n")
 }
 
 // Whether chain and scan agree on the word behind the limit.
@@ -79,45 +75,40 @@ fn agree(words: &[u64], numbers: &[u32], sizes: Sizes) -> bool
     interning::agree(words, numbers, sizes, w)
 }
 
-// The start of a line: the word's id by its chain, and by the scan.
+// The start of a line: the word's id by its chain, and by the scan; the number of axes if it is none of them.
 fn show_ids(rt: &impl Print, words: &[u64], numbers: &[u32], sizes: Sizes) -> io::Result<()>
     requires { WordBehind sizes words.now numbers.now }
 {
     let w = axes::word_at(words, sizes.limit, sizes.l);
     let found = interning::find(words, numbers, sizes, w);
-    show(rt, found.id, b" ")?;
-    show(rt, interning::scan(words, sizes.l, sizes.axes, w), b" ")
+    show(rt, found.unwrap_or(sizes.axes), b" ")?;
+    let scanned = interning::scan(words, sizes.l, sizes.axes, w);
+    show(rt, scanned.unwrap_or(sizes.axes), b" ")
 }
 
-// The word behind the limit, looked for both ways, stored, and looked for again: a line.
+// The word behind the limit, looked for both ways, stored if the limit leaves room for it, and looked for again: a line.
 fn store(
     rt: &impl Print,
     words: &mut [u64],
     numbers: &mut [u32],
     sizes: Sizes,
     peak: usize,
-) -> io::Result<Interned>
+) -> io::Result<Option<StoredAxis>>
     requires { Ready sizes peak words.old numbers.old }
     ensures { IfOk result (λ stored. ReadyAfter sizes stored words.new numbers.new) }
 {
     show_ids(rt, &words[..], &numbers[..], sizes)?;
     let before = agree(&words[..], &numbers[..], sizes);
-    let stored = interning::intern(words, numbers, sizes, 0, peak, sizes.limit);
-    let Ok(a) = stored else {
-        return Ok(stored);
+    let Ok(a) = interning::intern(words, numbers, sizes, 0, peak, sizes.limit) else {
+        return Ok(None);
     };
-    let after = agree(
-        &words[..],
-        &numbers[..],
-        Sizes {
-            u: sizes.u,
-            l: sizes.l,
-            limit: sizes.limit,
-            axes: a.axes,
-        },
-    );
+    let with_it = Sizes {
+        axes: a.axes,
+        ..sizes
+    };
+    let after = agree(&words[..], &numbers[..], with_it);
     show_stored(rt, a.id, before & after)?;
-    Ok(stored)
+    Ok(Some(a))
 }
 
 // Word k, laid behind the limit and stored.
@@ -128,7 +119,7 @@ fn step(
     sizes: Sizes,
     peak: usize,
     k: usize,
-) -> io::Result<Interned>
+) -> io::Result<Option<StoredAxis>>
     requires { Ready sizes peak words.old numbers.old × (k < 22) }
     ensures { IfOk result (λ stored. ReadyAfter sizes stored words.new numbers.new) }
 {
@@ -144,8 +135,7 @@ fn run(rt: &impl Print, words: &mut [u64], numbers: &mut [u32], none: Sizes) -> 
     let mut sizes = none;
     let mut peak = 0;
     for k in 0..COUNT {
-        let stored = step(rt, words, numbers, sizes, peak, k)?;
-        let Ok(a) = stored else {
+        let Some(a) = step(rt, words, numbers, sizes, peak, k)? else {
             return Ok(());
         };
         sizes.axes = a.axes;

@@ -38,9 +38,7 @@ fn mark_down(nodes: &[u32], numbers: &mut [u32], u: usize, count: usize)
     requires { NodesPre nodes.now u count numbers.old }
     ensures { MarkedDown nodes.now u count numbers.old numbers.new }
 {
-    let mut n = count;
-    while 0 < n {
-        n -= 1;
+    for n in (0..count).rev() {
         mark_from(nodes, numbers, u, n);
     }
 }

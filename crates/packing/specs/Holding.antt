@@ -1,5 +1,6 @@
 -- What memory holds of the model's packing at each point, and how a turn ends. Assumes nothing.
 use Rattle.std.specs.Prelude.{◌≡◌, true, false, ◌≢◌, ◌⊎◌, List, ℕ, suc, ◌+◌, ◌*◌, ◌%◌, ◌≤◌, ◌<◌, length, get_or, Result, Ok, Err}
+use Rattle.std.proofs.Common.{arith}
 use Rattle.store.specs.Part.{part}
 use Rattle.store.specs.Row.{row}
 use Rattle.model.specs.Program.{Program}
@@ -15,6 +16,7 @@ use Rattle.records.specs.Records.{node_said}
 use Rattle.records.specs.Given.{program_in, Given}
 use Rattle.packing_states.specs.References.{reference_at, total, is_root_at, root_of}
 use Rattle.packing_states.specs.States.{node_at, value_of, before, slotted, within}
+use Rattle.packing_states.specs.StateLaws.{peak_within, refused_within}
 use Rattle.packing_states.specs.Live.{used_below}
 use Rattle.packing_states.specs.Linked.{Linked}
 use Rattle.packing_states.specs.InMemory.{OfShape}
@@ -94,11 +96,20 @@ holding_done f h = record {
   linked = h.linked;
 }
 
+-- what a refusal says of k, to which a turn has led
+abbrev pub RefusedAt : Shape → Pack → PackingRefusal → Type 0
+RefusedAt z k NonHermitianAxis = (k.refused ≡ true) × (k.store.peak ≤ z.limit)
+RefusedAt z k ExpansionLimit = z.limit < k.store.peak
+
 -- how a turn ends that leads to k
 abbrev pub Turned : Program → Shape → ℕ → ℕ → ℕ → Pack → Result Slots PackingRefusal → List ℕ → List ℕ → Type 0
 Turned p z b n i k (Ok st) ws xs = Holding p z b n i k st ws xs
-Turned p z b n i k (Err NonHermitianAxis) ws xs = (k.refused ≡ true) × (k.store.peak ≤ z.limit)
-Turned p z b n i k (Err ExpansionLimit) ws xs = z.limit < k.store.peak
+Turned p z b n i k (Err e) ws xs = RefusedAt z k e
+
+-- it stays a refusal later in the node's turn
+pub refused_later : (p : Program) (z : Shape) (n i j : ℕ) (e : PackingRefusal) → i ≤ j → RefusedAt z (within p n i) e → RefusedAt z (within p n j) e
+refused_later p z n i j NonHermitianAxis h (r, f) = let same = refused_within p n i j r h in (rw same r, rw same f)
+refused_later p z n i j ExpansionLimit h f = omega (arith, peak_within p n i j h)
 
 -- ---- what the turns demand
 

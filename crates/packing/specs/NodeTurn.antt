@@ -13,16 +13,15 @@ use Rattle.records.specs.Records.{node_record, operation_record, row_record, nod
 use Rattle.records.specs.Given.{program_in, Given}
 use Rattle.packing_states.specs.References.{reference_at, total, is_root_at}
 use Rattle.packing_states.specs.States.{before, slotted, within}
-use Rattle.packing_states.specs.StateLaws.{before_unused, before_used, peak_within, refused_within}
+use Rattle.packing_states.specs.StateLaws.{before_unused, before_used}
 use Rattle.packing_states.specs.Uses.{unused_no_roots}
 use Rattle.packing_states.specs.Live.{used_below_same}
 use Rattle.packing_states.specs.InMemory.{total_is, node_is, operation_reference, row_reference, OfShape, given_shape}
 use Rattle.packing.specs.declared.Slots.{Slots}
 use Rattle.packing_answer.specs.declared.PackingRefusal.{PackingRefusal}
-use Rattle.packing_answer.specs.declared.PackingRefusal.TheVariants.{NonHermitianAxis, ExpansionLimit}
 use Rattle.packing.specs.Phases.{phase_in, phase_operation, phase_row_lem}
 use Rattle.packing_states.specs.SomeProgram.{SomeProgram}
-use Rattle.packing.specs.Holding.{slots_among, SlotsHold, Done, Holding, holding_done, Turned, PlaceAt, RootsAt, NodeAt}
+use Rattle.packing.specs.Holding.{slots_among, SlotsHold, Done, Holding, holding_done, RefusedAt, Turned, refused_later, PlaceAt, RootsAt, NodeAt}
 use Rattle.packing.specs.Bounds.{nodes_in_lem}
 use Rattle.packing.specs.Release.{holding_slots, count_is}
 use Rattle.packing.specs.RestKept.{RestKept, rest_none, rest_then, rest_granted}
@@ -106,21 +105,15 @@ past_roots {p} {n = n} = holding_done earlier
 
 module _ (p : Program) (n : ℕ) (f : (before p n).refused ≡ false) (u : 0 < get_or (before p n).uses n 0) where
   -- a refusal before its roots ends its turn
-  after_odd : (z : Shape) → ((slotted p n).refused ≡ true) × ((slotted p n).store.peak ≤ z.limit)
-      → ((before p (suc n)).refused ≡ true) × ((before p (suc n)).store.peak ≤ z.limit)
+  after_refused : (z : Shape) (e : PackingRefusal) → RefusedAt z (slotted p n) e → RefusedAt z (before p (suc n)) e
   unfolding within
-  after_odd z h = rw (before_used p n f u, refused_within p n 0 (total p) h.0 (omega arith)) h
-
-  after_limit : (z : Shape) → z.limit < (slotted p n).store.peak → z.limit < (before p (suc n)).store.peak
-  unfolding within
-  after_limit z h = rw (before_used p n f u) (omega (arith, peak_within p n 0 (total p) (omega arith)))
+  after_refused z e h = rw (before_used p n f u) (refused_later p z n 0 (total p) e (omega arith) h)
 
   -- its roots end its turn
   after_roots : (z : Shape) (r : Result Slots PackingRefusal) (ws xs : List ℕ) → Turned p z (suc n) n (total p) (within p n (total p)) r ws xs
       → Turned p z (suc n) (suc n) 0 (before p (suc n)) r ws xs
   after_roots z (Ok st) ws xs t = past_roots (rw (before_used p n f u) t)
-  after_roots z (Err NonHermitianAxis) ws xs t = rw (before_used p n f u) t
-  after_roots z (Err ExpansionLimit) ws xs t = rw (before_used p n f u) t
+  after_roots z (Err e) ws xs t = rw (before_used p n f u) t
 
 -- ---- node n's turn, from what it demands
 
@@ -163,15 +156,10 @@ module _ {z : Shape} {st : Slots} {n : ℕ} {ns os rs ws xs : List ℕ} (a : Nod
     module _ {x : NodeRecord} {r : Result Slots PackingRefusal} {ws' xs' : List ℕ} (i : x ≡ node_record ns n) (k : RestKept z ws xs ws' xs')
         (t : (p : Program) → PlaceAt p z st n x ws xs → Turned p z (suc n) n 0 (slotted p n) r ws' xs') where
       -- refused
-      pub turn_odd : r ≡ Err NonHermitianAxis → RestKept z ws xs ws' xs'
-          × Turned (program_in z ns os rs) z (suc n) (suc n) 0 (before (program_in z ns os rs) (suc n)) (Err NonHermitianAxis) ws' xs'
-      turn_odd c =
-          (k, after_odd (program_in z ns os rs) n a.holding.going used z (rw c at (t (program_in z ns os rs) (place_at i))))
-
-      pub turn_limit : r ≡ Err ExpansionLimit → RestKept z ws xs ws' xs'
-          × Turned (program_in z ns os rs) z (suc n) (suc n) 0 (before (program_in z ns os rs) (suc n)) (Err ExpansionLimit) ws' xs'
-      turn_limit c =
-          (k, after_limit (program_in z ns os rs) n a.holding.going used z (rw c at (t (program_in z ns os rs) (place_at i))))
+      pub turn_refused : (refusal : PackingRefusal) → r ≡ Err refusal → RestKept z ws xs ws' xs'
+          × Turned (program_in z ns os rs) z (suc n) (suc n) 0 (before (program_in z ns os rs) (suc n)) (Err refusal) ws' xs'
+      turn_refused refusal c =
+          (k, after_refused (program_in z ns os rs) n a.holding.going used z refusal (rw c at (t (program_in z ns os rs) (place_at i))))
 
       module _ {s : Slots} (c : r ≡ Ok s) where
         roots_at : RootsAt (program_in z ns os rs) z s n os rs ws' xs'

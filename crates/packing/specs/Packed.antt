@@ -1,5 +1,5 @@
 -- What packing demands and leaves: the model's `packed`, read through views. Assumes nothing.
-use Rattle.std.specs.Prelude.{◌≡◌, List, ◌∷◌, ◌++◌, map, ℕ, ◌+◌, ◌*◌, get_or}
+use Rattle.std.specs.Prelude.{◌≡◌, List, ◌∷◌, ◌++◌, map, ℕ, ◌+◌, ◌*◌, get_or, Result}
 use Rattle.store.specs.Row.{row}
 use Rattle.model.specs.Lists.{when◌then◌else◌, numbers_from}
 use Rattle.model.specs.Program.{PauliRef, Program}
@@ -13,9 +13,9 @@ use Rattle.layout.specs.Only.{Only}
 use Rattle.layout.specs.Words.{KeptFrom}
 use Rattle.layout.specs.Shape.{Granted}
 use Rattle.records.specs.Given.{Given}
-use Rattle.packing_answer.specs.declared.Packed.{Packed}
-use Rattle.packing_answer.specs.declared.Packed.TheVariants.{Axes}
-use Rattle.packing_answer.specs.Answer.{packed_answer}
+use Rattle.packing_answer.specs.declared.PackedAxes.{PackedAxes}
+use Rattle.packing_answer.specs.declared.PackingRefusal.{PackingRefusal}
+use Rattle.packing_answer.specs.Answer.{packed_with, packed_answer}
 
 -- the work stores are long enough, and the program is one that Checking passed
 pub record PackPre (z : Shape) (ns os rs ws xs : List ℕ) : Type 0 where
@@ -49,9 +49,9 @@ pack_rows =
 -- model's too, within the limit, and each root's axis and sign; only packing's rows, and words below limit + 2l, are written. Free are,
 -- after acceptance, the words from axes × 2l to limit + 2l, and packRows but for the references' axis and sign; after a refusal, all words
 -- below limit + 2l and all of packRows
-pub record PackedAs (z : Shape) (p : Program) (r : Packed) (ws xs ws' xs' : List ℕ) : Type 0 where
+pub record PackedAs (z : Shape) (p : Program) (r : Result PackedAxes PackingRefusal) (ws xs ws' xs' : List ℕ) : Type 0 where
   pub answer : r ≡ packed_answer z.limit (packed p)
-  pub axes : (n q : ℕ) → r ≡ Axes n q → HoldsAxes (sizes_of z n) ws' xs' (packed p).store.axes
-  pub signs : (n q : ℕ) → r ≡ Axes n q → signs_in z xs' ≡ signs_of p
+  pub axes : (n q : ℕ) → r ≡ packed_with n q → HoldsAxes (sizes_of z n) ws' xs' (packed p).store.axes
+  pub signs : (n q : ℕ) → r ≡ packed_with n q → signs_in z xs' ≡ signs_of p
   pub words : KeptFrom (z.limit + 2 * z.l) ws ws'
   pub numbers : Only pack_rows z.u xs xs'

@@ -14,6 +14,7 @@ use Rattle.model.specs.Program.{Node, product, Program}
 use Rattle.model.specs.Words.{Value, Store}
 use Rattle.model.specs.Value.{node_value}
 use Rattle.model.specs.Packing.{one_use_less, Pack, use_node, use_children, take_slot}
+use Rattle.model.specs.Interface.{expansion_limit}
 use Rattle.theory.specs.ByNode.{OfChildren, children_before}
 use Rattle.theory.specs.Checked.{Fine}
 use Rattle.theory.specs.NodeValue.{node_value_same, node_value_length}
@@ -273,7 +274,7 @@ module _ {p : Program} {z : Shape} {st : Slots} {n : ℕ} {x : NodeRecord} {ws x
       rw words_are (kept_put (z.limit + 2 * z.l) ws z.limit word (omega (arith, value_long h)) (omega (arith, h.granted.words_long)))
 
   -- the limit refuses the slot
-  pub place_limit : taken z t st₁ ≡ Err ExpansionLimit → Turned p z (suc n) n 0 (slotted p n) (Err ExpansionLimit) ws' t
+  pub place_limit : taken z t st₁ ≡ Err expansion_limit → Turned p z (suc n) n 0 (slotted p n) (Err ExpansionLimit) ws' t
   place_limit f =
       rw is_slotted (took_none z n (value_of p) t ws' (row t z.u node_phase) st₁ k₁ slots_count slots₁.all axes_count f)
 

@@ -2,7 +2,6 @@
 use Rattle.std.specs.Prelude.{◌≡◌, true, false, List, ℕ, suc, ◌+◌, ◌*◌, ◌%◌, ◌<◌, Result, Ok, Err}
 use Rattle.std.proofs.Common.{sym, ap, ◌∙◌, subst, subst₂, arith, eq-eqb, ne_eqb}
 use Rattle.std.proofs.Math.Path.{ap₂}
-use Rattle.store.specs.Row.{row}
 use Rattle.model.specs.Lists.{is_odd}
 use Rattle.model.specs.Program.{Program}
 use Rattle.model.specs.Words.{Store, intern}

@@ -13,7 +13,7 @@ use Rattle.interning.specs.Intern.{Stores}
 use Rattle.interning.specs.declared.StoredAxis.{StoredAxis}
 use Rattle.model.specs.declared.ExpansionLimit.{ExpansionLimit}
 use Rattle.model.specs.Interface.{expansion_limit}
-use Rattle.packing_answer.specs.declared.PackingRefusal.TheVariants.{NonHermitianAxis, ExpansionLimit}
+use Rattle.packing_answer.specs.declared.PackingRefusal.TheVariants as refusals
 use Rattle.layout.specs.declared.Shape.{Shape}
 use Rattle.layout.specs.Rows.{row_count, root_axis, root_sign}
 use Rattle.layout.specs.Only.{only_of}
@@ -48,7 +48,7 @@ module _ {p : Program} {z : Shape} {st : Slots} {n j phase : ℕ} {ws xs : List 
   module _ {v : ValueHeld} (e : v ≡ held_at z xs n) where
     -- ---- 9
 
-    pub root_odd : ((v.phase + phase % 4) % 4) % 2 ≡ 1 → Turned p z (suc n) n (suc j) (within p n (suc j)) (Err NonHermitianAxis) ws xs
+    pub root_odd : ((v.phase + phase % 4) % 4) % 2 ≡ 1 → Turned p z (suc n) n (suc j) (within p n (suc j)) (Err refusals.NonHermitianAxis) ws xs
     root_odd o = rw (refused_next h (odd_root h e o)) (refl, h.holding.fits)
 
     module _ {sizes : Sizes} (f : sizes ≡ sizes_of z st.axes) {r : Result StoredAxis ExpansionLimit} {ws' xs' : List ℕ}
@@ -62,7 +62,7 @@ module _ {p : Program} {z : Shape} {st : Slots} {n j phase : ℕ} {ws xs : List 
           record { words = rw full.kept (kept_none _ ws); numbers = only_of turn_rows refl full.numbers }
 
       pub root_limit : (((v.phase + phase % 4) % 4) % 2 ≡ 1 → ⊥) → r ≡ Err expansion_limit
-          → Turned p z (suc n) n (suc j) (within p n (suc j)) (Err ExpansionLimit) ws' xs'
+          → Turned p z (suc n) n (suc j) (within p n (suc j)) (Err refusals.ExpansionLimit) ws' xs'
       unfolding use_node
       root_limit o q = rw (stored_next h (even_root h e o)) (root_no_room h e f s q).exceeds
 

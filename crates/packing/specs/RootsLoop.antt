@@ -1,6 +1,6 @@
 -- A node's roots, from link to link: what pack_roots' loop keeps. Assumes nothing.
-use Rattle.std.specs.Prelude.{◌≡◌, refl, true, false, List, ℕ, zero, suc, ◌+◌, ◌-◌, ◌*◌, ◌≤◌, ◌<◌, length, get_or, Result, Ok, Err}
-use Rattle.std.proofs.Common.{sym, ap, ◌∙◌, true≢false, inl, inr, arith}
+use Rattle.std.specs.Prelude.{◌≡◌, refl, true, false, List, ℕ, suc, ◌+◌, ◌-◌, ◌*◌, ◌≤◌, ◌<◌, length, get_or, Option, None, Some, Result, Ok, Err}
+use Rattle.std.proofs.Common.{sym, ap, ◌∙◌, true≢false, inl, inr, add-one, arith}
 use Rattle.std.proofs.Math.Decide.{dec_lt}
 use Rattle.store.specs.Row.{row}
 use Rattle.model.specs.Program.{Program}
@@ -10,14 +10,14 @@ use Rattle.layout.specs.Rows.{row_count, first_root, next_root}
 use Rattle.packing_states.specs.References.{reference_at, total, is_root_at, root_of, link_from}
 use Rattle.packing_states.specs.ReferenceLaws.{root_is, its_root, link_none, link_some}
 use Rattle.packing_states.specs.States.{within}
-use Rattle.packing_states.specs.StateLaws.{within_none, within_next, peak_within, refused_within}
+use Rattle.packing_states.specs.StateLaws.{within_none, within_next}
 use Rattle.packing_states.specs.Uses.{root_used}
 use Rattle.packing.specs.declared.Slots.{Slots}
+use Rattle.interning.specs.Find.{entry_of}
 use Rattle.packing_answer.specs.declared.PackingRefusal.{PackingRefusal}
-use Rattle.packing_answer.specs.declared.PackingRefusal.TheVariants.{NonHermitianAxis, ExpansionLimit}
 use Rattle.packing.specs.Phases.{PhasePre, phase_in}
 use Rattle.packing_states.specs.SomeProgram.{SomeProgram}
-use Rattle.packing.specs.Holding.{Done, Holding, holding_done, Turned, RootAt, RootsAt}
+use Rattle.packing.specs.Holding.{Done, Holding, holding_done, Turned, refused_later, RootAt, RootsAt}
 use Rattle.packing.specs.RestKept.{RestKept, rest_none, rest_then, rest_granted}
 
 -- ---- between two links
@@ -41,20 +41,20 @@ pub record BeforeRoot (p : Program) (z : Shape) (n r : ℕ) (st : Slots) (ws xs 
   pub root : root_of p n r ≡ true
   pub holding : Holding p z (suc n) n r (within p n r) st ws xs
 
--- the link is 0 at the end, else it names the next root
-pub record AtLink (p : Program) (z : Shape) (n link : ℕ) (st : Slots) (ws xs : List ℕ) : Type 0 where
-  pub end : link ≡ 0 → Holding p z (suc n) n (total p) (within p n (total p)) st ws xs
-  pub some : (r : ℕ) → link ≡ suc r → BeforeRoot p z n r st ws xs
+-- the link names the next root, and none at the end
+pub record AtLink (p : Program) (z : Shape) (n : ℕ) (link : Option ℕ) (st : Slots) (ws xs : List ℕ) : Type 0 where
+  pub end : link ≡ None → Holding p z (suc n) n (total p) (within p n (total p)) st ws xs
+  pub some : (r : ℕ) → link ≡ Some r → BeforeRoot p z n r st ws xs
 
 module _ {p : Program} {z : Shape} {n : ℕ} {st : Slots} {ws xs : List ℕ} where
-  at_link : (j link : ℕ) → j ≤ total p → link ≡ link_from p n j → Holding p z (suc n) n j (within p n j) st ws xs
+  at_link : (j : ℕ) (link : Option ℕ) → j ≤ total p → entry_of link ≡ link_from p n j → Holding p z (suc n) n j (within p n j) st ws xs
       → AtLink p z n link st ws xs
   at_link j link b e h = record {
     end = λ f.
-        let g : link_from p n j ≡ 0 = sym e ∙ f in
+        let g : link_from p n j ≡ 0 = sym e ∙ ap entry_of f in
         rw (within_none p n j g b) (past (total p) (link_none p n j g) h);
     some = λ r f.
-        let g : link_from p n j ≡ suc r = sym e ∙ f in
+        let g : link_from p n j ≡ suc r = sym e ∙ ap entry_of f ∙ add-one r in
         let s = link_some p n j r g in
         record { reference = s.1; root = s.2; holding = rw (within_next p n j r g) (past r s.3 h) };
   }
@@ -62,23 +62,23 @@ module _ {p : Program} {z : Shape} {n : ℕ} {st : Slots} {ws xs : List ℕ} whe
 -- ---- the loop
 
 -- what is left of both stores, and where the loop is for each program that they hold
-pub record Along (z : Shape) (placed : Slots) (n : ℕ) (os rs ws₀ xs₀ ws xs : List ℕ) (st : Slots) (link : ℕ) : Type 0 where
+pub record Along (z : Shape) (placed : Slots) (n : ℕ) (os rs ws₀ xs₀ ws xs : List ℕ) (st : Slots) (link : Option ℕ) : Type 0 where
   pub rest : RestKept z ws₀ xs₀ ws xs
   pub at : (p : Program) → RootsAt p z placed n os rs ws₀ xs₀ → AtLink p z n link st ws xs
 
 -- how many references stand from the linked one on
-unfoldable pub references_left : ℕ → ℕ → ℕ
-references_left t zero = 0
-references_left t (suc r) = t - r
+unfoldable pub references_left : ℕ → Option ℕ → ℕ
+references_left t None = 0
+references_left t (Some r) = t - r
 
-fall : (t r link : ℕ) → r < t → ((s : ℕ) → link ≡ suc s → r < s) → references_left t link < references_left t (suc r)
+fall : (t r : ℕ) (link : Option ℕ) → r < t → ((s : ℕ) → link ≡ Some s → r < s) → references_left t link < references_left t (Some r)
 unfolding references_left
-fall t r zero b h = omega arith
-fall t r (suc s) b h = omega (arith, h s refl)
+fall t r None b h = omega arith
+fall t r (Some s) b h = omega (arith, h s refl)
 
 module _ {z : Shape} {placed : Slots} {n : ℕ} {os rs ws₀ xs₀ : List ℕ} where
   -- it starts at the node's first link
-  pub along_first : (link : ℕ) → link ≡ get_or (row xs₀ z.u first_root) n 0 → Along z placed n os rs ws₀ xs₀ ws₀ xs₀ placed link
+  pub along_first : (link : Option ℕ) → entry_of link ≡ get_or (row xs₀ z.u first_root) n 0 → Along z placed n os rs ws₀ xs₀ ws₀ xs₀ placed link
   unfolding within
   along_first link e = record {
     rest = rest_none z ws₀ xs₀;
@@ -90,7 +90,7 @@ module _ {z : Shape} {placed : Slots} {n : ℕ} {os rs ws₀ xs₀ : List ℕ} w
       → (row_count * z.u ≤ length xs₀) × (first_root < row_count) × (n < z.u)
   first_there s = let g = s.it.granted in (g.numbers_long, omega arith, omega (arith, s.it.node, g.sized.row))
 
-  module _ {ws xs : List ℕ} {st : Slots} {link r : ℕ} (a : Along z placed n os rs ws₀ xs₀ ws xs st link) (l : link ≡ suc r) where
+  module _ {ws xs : List ℕ} {st : Slots} {link : Option ℕ} {r : ℕ} (a : Along z placed n os rs ws₀ xs₀ ws xs st link) (l : link ≡ Some r) where
     -- the linked root has its phase
     pub phase_there : SomeProgram (λ p. RootsAt p z placed n os rs ws₀ xs₀) → PhasePre z.operations os rs r
     phase_there s =
@@ -144,7 +144,7 @@ module _ {z : Shape} {placed : Slots} {n : ℕ} {os rs ws₀ xs₀ : List ℕ} w
           (next_holding p h st' f).linked.next r (omega arith) b.reference s.0 ∙ ap (λ (m : ℕ). link_from p m (suc r)) s.1
 
       -- the next link
-      pub along_next : (st' : Slots) (link' : ℕ) → step ≡ Ok st' → link' ≡ get_or (row xs' z.u next_root) r 0
+      pub along_next : (st' : Slots) (link' : Option ℕ) → step ≡ Ok st' → entry_of link' ≡ get_or (row xs' z.u next_root) r 0
           → Along z placed n os rs ws₀ xs₀ ws' xs' st' link'
       along_next st' link' f g = record {
         rest = rest_then a.rest k;
@@ -152,41 +152,27 @@ module _ {z : Shape} {placed : Slots} {n : ℕ} {os rs ws₀ xs₀ : List ℕ} w
       }
 
       -- it is a later one
-      pub next_later : SomeProgram (λ p. RootsAt p z placed n os rs ws₀ xs₀) → (st' : Slots) (link' : ℕ) → step ≡ Ok st'
-          → link' ≡ get_or (row xs' z.u next_root) r 0
+      pub next_later : SomeProgram (λ p. RootsAt p z placed n os rs ws₀ xs₀) → (st' : Slots) (link' : Option ℕ) → step ≡ Ok st'
+          → entry_of link' ≡ get_or (row xs' z.u next_root) r 0
           → references_left (z.operations + 2 * z.qubits) link' < references_left (z.operations + 2 * z.qubits) link
       next_later s st' link' f g =
           let p = s.program in
           let b = ((a.at p s.it).some r l).reference in
           let w = s.it.program.references in
           rw l (fall (z.operations + 2 * z.qubits) r link' (omega arith)
-          (λ m i. (link_some p n (suc r) m (sym (next_is p s.it st' f) ∙ sym g ∙ i)).0))
+          (λ m i. (link_some p n (suc r) m (sym (next_is p s.it st' f) ∙ sym g ∙ ap entry_of i ∙ add-one m)).0))
 
-      -- "refused" ends the node's turn
-      pub along_odd : step ≡ Err NonHermitianAxis → RestKept z ws₀ xs₀ ws' xs'
+      -- a refusal ends the node's turn
+      pub along_refused : (refusal : PackingRefusal) → step ≡ Err refusal → RestKept z ws₀ xs₀ ws' xs'
           × ((p : Program) → RootsAt p z placed n os rs ws₀ xs₀
-          → Turned p z (suc n) n (total p) (within p n (total p)) (Err NonHermitianAxis) ws' xs')
-      along_odd f = (
+          → Turned p z (suc n) n (total p) (within p n (total p)) (Err refusal) ws' xs')
+      along_refused refusal f = (
         rest_then a.rest k,
-        λ p h.
-            let o = rw f at (t p (root_at p phase h e)) in
-            let same = refused_within p n (suc r) (total p) o.0 ((a.at p h).some r l).reference in
-            (rw same o.0, rw same o.1),
-      )
-
-      -- and so does a sum above the limit
-      pub along_limit : step ≡ Err ExpansionLimit → RestKept z ws₀ xs₀ ws' xs'
-          × ((p : Program) → RootsAt p z placed n os rs ws₀ xs₀
-          → Turned p z (suc n) n (total p) (within p n (total p)) (Err ExpansionLimit) ws' xs')
-      along_limit f = (
-        rest_then a.rest k,
-        λ p h.
-            let o = rw f at (t p (root_at p phase h e)) in
-            omega (arith, o, peak_within p n (suc r) (total p) ((a.at p h).some r l).reference),
+        λ p h. refused_later p z n (suc r) (total p) refusal ((a.at p h).some r l).reference (rw f at (t p (root_at p phase h e))),
       )
 
   -- the last link
-  pub along_end : {ws xs : List ℕ} {st : Slots} {link : ℕ} → Along z placed n os rs ws₀ xs₀ ws xs st link → link ≡ 0
+  pub along_end : {ws xs : List ℕ} {st : Slots} {link : Option ℕ} → Along z placed n os rs ws₀ xs₀ ws xs st link → link ≡ None
       → RestKept z ws₀ xs₀ ws xs
       × ((p : Program) → RootsAt p z placed n os rs ws₀ xs₀ → Turned p z (suc n) n (total p) (within p n (total p)) (Ok st) ws xs)
   along_end a e = (a.rest, λ p h. (a.at p h).end e)

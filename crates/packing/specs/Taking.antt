@@ -11,8 +11,8 @@ use Rattle.theory.specs.Cases.{on_if, if_true, if_false}
 use Rattle.layout.specs.declared.Shape.{Shape}
 use Rattle.layout.specs.Rows.{node_slot, free_row}
 use Rattle.packing.specs.declared.Slots.{Slots}
-use Rattle.packing_answer.specs.declared.PackingRefusal.{PackingRefusal}
-use Rattle.packing_answer.specs.declared.PackingRefusal.TheVariants.{NonHermitianAxis, ExpansionLimit}
+use Rattle.model.specs.declared.ExpansionLimit.{ExpansionLimit}
+use Rattle.model.specs.Interface.{expansion_limit}
 use Rattle.packing.specs.Holding.{SlotsHold}
 use Rattle.packing.specs.Values.{slot_sum, free_taken, new_taken, taken}
 use Rattle.packing.specs.Keeping.{Takes, takes_free, takes_new}
@@ -28,10 +28,9 @@ abbrev New : Shape → Slots → Slots → Type 0
 New z st st' = (st.free ≡ 0) × ((slot_sum z st ≤ z.limit) × (new_taken z st ≡ st'))
 
 -- what the answer means; without a slot none is free, and a new one exceeds the limit
-abbrev TakenAs : Shape → List ℕ → Slots → Result Slots PackingRefusal → Type 0
+abbrev TakenAs : Shape → List ℕ → Slots → Result Slots ExpansionLimit → Type 0
 TakenAs z xs st (Ok st') = Freed z xs st st' ⊎ New z st st'
-TakenAs z xs st (Err NonHermitianAxis) = ⊥
-TakenAs z xs st (Err ExpansionLimit) = (st.free ≡ 0) × (z.limit < slot_sum z st)
+TakenAs z xs st (Err e) = (st.free ≡ 0) × (z.limit < slot_sum z st)
 
 taken_is : (z : Shape) (xs : List ℕ) (st : Slots) → TakenAs z xs st (taken z xs st)
 unfolding taken
@@ -40,10 +39,6 @@ taken_is z xs st =
     (λ e. let none = ltb-false 0 st.free e in
     on_if (TakenAs z xs st) _ _ _ (λ f. (omega arith, ltb-true z.limit (slot_sum z st) f))
     (λ f. inr (omega arith, (ltb-false z.limit (slot_sum z st) f, refl))))
-
--- 9 is no answer of it
-pub taken_even : (z : Shape) (xs : List ℕ) (st : Slots) → taken z xs st ≡ Err NonHermitianAxis → ⊥
-taken_even z xs st e = rw e at (taken_is z xs st)
 
 -- ---- the model
 
@@ -81,7 +76,7 @@ module _ (z : Shape) (n : ℕ) (value : ℕ → Value) (xs ws phase_row : List �
   same_sum = rw (← slots_are, ← axes_are, add-one k.slots) refl
 
   -- the limit refuses a new slot
-  pub took_none : taken z xs st ≡ Err ExpansionLimit → z.limit < (take_slot z.l k).store.peak
+  pub took_none : taken z xs st ≡ Err expansion_limit → z.limit < (take_slot z.l k).store.peak
   unfolding tested
   took_none e =
       let f = rw e at (taken_is z xs st) in
@@ -93,10 +88,10 @@ module _ (z : Shape) (n : ℕ) (value : ℕ → Value) (xs ws phase_row : List �
       (row xs z.u free_row) ws)
       (room : st.slots * (2 * z.l) + st.axes * (2 * z.l) ≤ z.limit) (peak : k.store.peak ≡ st.peak)
       (fits : k.store.peak ≤ z.limit) where
-    abbrev Result : Slots → Type 0
-    Result st' = Took z n st.axes st.slots st.free (row xs z.u node_slot) (row xs z.u free_row) k (take_slot z.l k) st'
+    abbrev TookTo : Slots → Type 0
+    TookTo st' = Took z n st.axes st.slots st.free (row xs z.u node_slot) (row xs z.u free_row) k (take_slot z.l k) st'
 
-    took_free : 0 < st.free → Result (free_taken z xs st)
+    took_free : 0 < st.free → TookTo (free_taken z xs st)
     took_free h = rw (model_free z.l k (omega arith)) (record {
       takes = takes_free held (st.free - 1) (omega arith);
       room = room;
@@ -111,7 +106,7 @@ module _ (z : Shape) (n : ℕ) (value : ℕ → Value) (xs ws phase_row : List �
       uses = refl;
     })
 
-    took_new : st.free ≡ 0 → slot_sum z st ≤ z.limit → Result (new_taken z st)
+    took_new : st.free ≡ 0 → slot_sum z st ≤ z.limit → TookTo (new_taken z st)
     unfolding tested
     took_new h f =
         rw (model_new z.l k (omega arith)) (record {
@@ -129,7 +124,7 @@ module _ (z : Shape) (n : ℕ) (value : ℕ → Value) (xs ws phase_row : List �
         })
 
     -- a slot is taken
-    pub took_slot : {st' : Slots} → taken z xs st ≡ Ok st' → Result st'
+    pub took_slot : {st' : Slots} → taken z xs st ≡ Ok st' → TookTo st'
     took_slot e =
-        ⊎_elim (λ a. subst Result a.1 (took_free a.0)) (λ a. subst Result a.1.1 (took_new a.0 a.1.0))
+        ⊎_elim (λ a. subst TookTo a.1 (took_free a.0)) (λ a. subst TookTo a.1.1 (took_new a.0 a.1.0))
         (rw e at (taken_is z xs st))

@@ -29,7 +29,7 @@ use Rattle.records.specs.declared.NodeRecord.{NodeRecord}
 use Rattle.records.specs.Records.{said_identity, said_letter, said_product}
 use Rattle.packing.specs.declared.Slots.{Slots}
 use Rattle.packing.specs.declared.ValueHeld.{ValueHeld}
-use Rattle.packing_answer.specs.declared.PackingRefusal.TheVariants.{ExpansionLimit}
+use Rattle.model.specs.Interface.{expansion_limit}
 use Rattle.packing.specs.Values.{slot_of, phase_of, HeldPre, held_at, held_value, EvaluatePre, value_of_record, Evaluated, uses_of}
 use Rattle.packing.specs.Values.{ReleasePre, Released, ChildrenPre, ChildrenReleased, taken, KeepPre, Kept}
 
@@ -233,7 +233,7 @@ module _ (z : Shape) (xs : List ℕ) (st : Slots) where
       ap (λ (i : ℕ). Ok (record { axes = st.axes; peak = st.peak; slots = st.slots; free = st.free - 1; taken = i })) e
       ∙ sym (if_true _ _ (lt-ltb 0 st.free h))
 
-  pub taken_limit : st.free ≤ 0 → z.limit < st.slots * (2 * z.l) + 2 * z.l + st.axes * (2 * z.l) → (Err ExpansionLimit) ≡ taken z xs st
+  pub taken_limit : st.free ≤ 0 → z.limit < st.slots * (2 * z.l) + 2 * z.l + st.axes * (2 * z.l) → Err expansion_limit ≡ taken z xs st
   unfolding taken
   taken_limit h k =
       sym (if_false _ _ (le-ltb 0 st.free h) ∙ if_true _ _ (lt-ltb z.limit _ (rw (sum_is z.l st.slots st.axes) k)))

@@ -14,8 +14,8 @@ use Rattle.records.specs.declared.NodeRecord.{NodeRecord}
 use Rattle.records.specs.Records.{node_said}
 use Rattle.packing.specs.declared.Slots.{Slots}
 use Rattle.packing.specs.declared.ValueHeld.{ValueHeld}
-use Rattle.packing_answer.specs.declared.PackingRefusal.{PackingRefusal}
-use Rattle.packing_answer.specs.declared.PackingRefusal.TheVariants.{ExpansionLimit}
+use Rattle.model.specs.declared.ExpansionLimit.{ExpansionLimit}
+use Rattle.model.specs.Interface.{expansion_limit}
 
 -- ---- what is held of a node
 
@@ -131,10 +131,10 @@ abbrev pub new_taken : Shape → Slots → Slots
 new_taken z st = record { axes = st.axes; peak = max st.peak (slot_sum z st); slots = st.slots + 1; free = 0; taken = st.slots }
 
 -- "a slot is freed after its last use and reused, last freed first"; for a new one the sum is tested
-unfoldable pub taken : Shape → List ℕ → Slots → Result Slots PackingRefusal
+unfoldable pub taken : Shape → List ℕ → Slots → Result Slots ExpansionLimit
 taken z xs st =
     when ltb 0 st.free then Ok (free_taken z xs st)
-    else when ltb z.limit (slot_sum z st) then (Err ExpansionLimit)
+    else when ltb z.limit (slot_sum z st) then Err expansion_limit
     else Ok (new_taken z st)
 
 -- ---- keeping a value

@@ -1,7 +1,8 @@
 // Packing: used nodes by rising index, each value in a slot, each root stored at its node's turn.
 #![tactic(auto)]
 
-ghost use Rattle.std.specs.Prelude.{◌≡◌, suc};
+ghost use Rattle.std.specs.Prelude.{◌≡◌, suc, ◌*◌, ◌<◌, ◌≤◌, length, get_or};
+ghost use Rattle.store.specs.Row.{row};
 ghost use Rattle.model.specs.Program.{Program};
 ghost use Rattle.packing_states.specs.References.{total};
 ghost use Rattle.packing_states.specs.States.{before, slotted, within};
@@ -12,16 +13,16 @@ ghost use Rattle.packing.specs.Phases.{PhasePre, phase_in};
 ghost use Rattle.packing.specs.Packed.{PackPre, PackedAs};
 ghost use Rattle.records.specs.Given.{program_in};
 ghost use Rattle.axes.specs.Held.{NoChains};
+ghost use Rattle.interning.specs.Find.{entry_of};
 
 mod values;
 
-use interning::Interned;
 use layout::{FIRST_ROOT, NEXT_ROOT, ROOT_AXIS, ROOT_SIGN, Shape, USES};
-use packing_answer::Packed;
+use packing_answer::{PackedAxes, PackingRefusal};
 use records::NodeRecord;
 
 // Axes stored, the largest word sum that was tested, slots allocated, slots on the free stack, and the slot taken last.
-#[derive(Clone, Copy)]
+#[derive(Clone, Copy, Default)]
 struct Slots {
     axes: usize,
     peak: usize,
@@ -35,14 +36,6 @@ struct Slots {
 struct ValueHeld {
     at: usize,
     phase: u32,
-}
-
-// How a step ends: the slots then, or a refusal.
-#[derive(Clone, Copy)]
-enum PackStep {
-    Next(Slots),
-    NonHermitianAxis,
-    ExpansionLimit,
 }
 
 // Works node n out, gives up its children's uses, and keeps its value in a slot.
@@ -61,22 +54,9 @@ fn place_node(
 {
     let phase = values::evaluate(words, &numbers[..], shape, x);
     let free = values::release_children(numbers, shape.u, st.free, x);
-    let freed = Slots {
-        axes: st.axes,
-        peak: st.peak,
-        slots: st.slots,
-        free,
-        taken: st.taken,
-    };
-    let step = values::take_slot(&numbers[..], shape, freed);
-    match step {
-        Ok(after) => {
-            values::keep(words, numbers, shape, n, after.taken, phase);
-            Ok(after)
-        }
-        Err(PackingRefusal::NonHermitianAxis) => Err(PackingRefusal::NonHermitianAxis),
-        Err(PackingRefusal::ExpansionLimit) => Err(PackingRefusal::ExpansionLimit),
-    }
+    let after = values::take_slot(&numbers[..], shape, Slots { free, ..st })?;
+    values::keep(words, numbers, shape, n, after.taken, phase);
+    Ok(after)
 }
 
 // The phase of a reference: operations first, then frame rows.
@@ -119,10 +99,17 @@ fn pack_root(
     Ok(Slots {
         axes: a.axes,
         peak: a.peak,
-        slots: st.slots,
         free,
-        taken: st.taken,
+        ..st
     })
+}
+
+// The root that an entry in a row of links names: the entry is 0, or a root's number and 1.
+fn linked_at(numbers: &[u32], u: usize, links: usize, i: usize) -> Option<usize>
+    requires { (24 * u ≤ length numbers.now) × (links < 24) × (i < u) }
+    ensures { entry_of result ≡ get_or (row numbers.now u links) i 0 }
+{
+    (store::read(numbers, u, links, i) as usize).checked_sub(1)
 }
 
 // Stores the roots of node n, in root order.
@@ -142,12 +129,11 @@ fn pack_roots(
         → Turned p shape (suc n) n (total p) (within p n (total p)) result words.new numbers.new) }
 {
     let mut st = placed;
-    let mut next = store::read(&numbers[..], shape.u, FIRST_ROOT, n) as usize;
-    while next != 0 {
-        let root = next - 1;
+    let mut next = linked_at(&numbers[..], shape.u, FIRST_ROOT, n);
+    while let Some(root) = next {
         let phase = reference_phase(operations, rows, shape.operations, root);
         st = pack_root(words, numbers, shape, st, n, root, phase)?;
-        next = store::read(&numbers[..], shape.u, NEXT_ROOT, root) as usize;
+        next = linked_at(&numbers[..], shape.u, NEXT_ROOT, root);
     }
     Ok(st)
 }
@@ -173,12 +159,8 @@ fn pack_node(
         return Ok(st);
     }
     let x = records::node_at(nodes, n);
-    let step = place_node(words, numbers, shape, st, n, x);
-    match step {
-        Ok(placed) => pack_roots(operations, rows, words, numbers, shape, placed, n),
-        Err(PackingRefusal::NonHermitianAxis) => Err(PackingRefusal::NonHermitianAxis),
-        Err(PackingRefusal::ExpansionLimit) => Err(PackingRefusal::ExpansionLimit),
-    }
+    let placed = place_node(words, numbers, shape, st, n, x)?;
+    pack_roots(operations, rows, words, numbers, shape, placed, n)
 }
 
 // Packs the program node by node, where every chain of the index is still empty.
@@ -189,27 +171,21 @@ fn pack_nodes(
     words: &mut [u64],
     numbers: &mut [u32],
     shape: Shape,
-) -> Packed
+) -> Result<PackedAxes, PackingRefusal>
     requires { PackPre shape nodes.now operations.now rows.now words.old numbers.old × NoChains shape.u numbers.old }
     ensures { PackedAs shape (program_in shape nodes.now operations.now rows.now) result
         words.old numbers.old words.new numbers.new }
 {
     mentions::relevance(nodes, operations, numbers, shape);
     roots::prepare(nodes, operations, rows, numbers, shape);
-    let mut st = Slots {
-        axes: 0,
-        peak: 0,
-        slots: 0,
-        free: 0,
-        taken: 0,
-    };
+    let mut st = Slots::default();
     for n in 0..shape.nodes {
         st = pack_node(nodes, operations, rows, words, numbers, shape, st, n)?;
     }
-    Packed::Axes {
+    Ok(PackedAxes {
         count: st.axes,
         peak: st.peak,
-    }
+    })
 }
 
 // Packs the program: every root's axis and sign, and the axes' words, or a refusal by 9 or 10. Whatever the lent memory held, the chains
@@ -221,7 +197,7 @@ pub fn pack(
     words: &mut [u64],
     numbers: &mut [u32],
     shape: Shape,
-) -> Packed
+) -> Result<PackedAxes, PackingRefusal>
     requires { PackPre shape nodes.now operations.now rows.now words.old numbers.old }
     ensures { PackedAs shape (program_in shape nodes.now operations.now rows.now) result
         words.old numbers.old words.new numbers.new }

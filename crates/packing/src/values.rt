@@ -3,9 +3,10 @@ ghost use Rattle.std.specs.Prelude.{◌≡◌};
 ghost use Rattle.packing.specs.Values.{HeldPre, held_at, EvaluatePre, Evaluated, ReleasePre, Released, ChildrenPre, ChildrenReleased};
 ghost use Rattle.packing.specs.Values.{TakePre, taken, KeepPre, Kept};
 
-use super::{PackStep, Slots, ValueHeld};
+use super::{Slots, ValueHeld};
 use angle::Phase;
 use layout::{FREE, NODE_PHASE, NODE_SLOT, Shape, USES};
+use model::ExpansionLimit;
 use records::NodeRecord;
 
 // What is held of node n.
@@ -78,32 +79,26 @@ pub fn release_children(numbers: &mut [u32], u: usize, free: usize, x: NodeRecor
 }
 
 // The slot freed last, or a new one within the limit.
-pub fn take_slot(numbers: &[u32], shape: Shape, st: Slots) -> Result<Slots, PackingRefusal>
+pub fn take_slot(numbers: &[u32], shape: Shape, st: Slots) -> Result<Slots, ExpansionLimit>
     requires { TakePre shape numbers.now st }
     ensures { result ≡ taken shape numbers.now st }
 {
     if 0 < st.free {
         let free = st.free - 1;
         let taken = store::read(numbers, shape.u, FREE, free) as usize;
-        return Ok(Slots {
-            axes: st.axes,
-            peak: st.peak,
-            slots: st.slots,
-            free,
-            taken,
-        });
+        return Ok(Slots { free, taken, ..st });
     }
     let n = 2 * shape.l;
     let sum = st.slots * n + n + st.axes * n;
     if shape.limit < sum {
-        return Err(PackingRefusal::ExpansionLimit);
+        return Err(ExpansionLimit);
     }
     Ok(Slots {
-        axes: st.axes,
-        peak: layout::peak_with(st.peak, sum),
+        peak: st.peak.max(sum),
         slots: st.slots + 1,
         free: 0,
         taken: st.slots,
+        ..st
     })
 }
 

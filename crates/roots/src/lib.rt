@@ -69,9 +69,7 @@ fn link_operations(operations: &[u32], numbers: &mut [u32], shape: Shape)
     requires { SomeProgram (λ (p : Program). OperationsPre p shape operations.now numbers.old) }
     ensures { OperationsLinked shape operations.now numbers.old numbers.new }
 {
-    let mut i = shape.operations;
-    while 0 < i {
-        i -= 1;
+    for i in (0..shape.operations).rev() {
         link_operation(operations, numbers, shape.u, i);
     }
 }
@@ -81,9 +79,7 @@ fn link_rows(rows: &[u32], numbers: &mut [u32], shape: Shape)
     requires { SomeProgram (λ (p : Program). RowsPre p shape rows.now numbers.old) }
     ensures { RowsLinked shape rows.now numbers.old numbers.new }
 {
-    let mut r = 2 * shape.qubits;
-    while 0 < r {
-        r -= 1;
+    for r in (0..2 * shape.qubits).rev() {
         link_row(rows, numbers, shape.u, shape.operations + r, r);
     }
 }
@@ -120,9 +116,7 @@ fn count_uses(nodes: &[u32], numbers: &mut [u32], u: usize, count: usize)
     requires { CountPre nodes.now numbers.old u count }
     ensures { UsesCounted nodes.now numbers.old u count numbers.new }
 {
-    let mut n = count;
-    while 0 < n {
-        n -= 1;
+    for n in (0..count).rev() {
         use_children(nodes, numbers, u, n);
     }
 }

@@ -8,6 +8,3 @@ use Rattle.mentions.proofs.mark_down.Given as goal
 abbrev pub invariant-loop-n : goal.invariant-loop-n
 invariant-loop-n l =
     (l.n ≤ l.count) × (length l.numbers ≡ length l.initial.numbers) × MarkingDown l.nodes l.u l.count l.n l.initial.numbers l.numbers
-
-abbrev pub decreases-loop-n : goal.decreases-loop-n
-decreases-loop-n l = l.n

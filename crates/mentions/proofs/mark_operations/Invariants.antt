@@ -1,6 +1,6 @@
 -- The loop's invariant: the nodes of the first i operations are marked. Assumes nothing.
 use mathlib.Core.Path.{◌≡◌}
-use Prim.Native.Nat.{◌-◌, ◌≤◌}
+use Prim.Native.Nat.{◌≤◌}
 use lib.ListN.{length}
 use Rattle.mentions.specs.Operations.{MarkedOperations}
 use Rattle.mentions.proofs.mark_operations.Given as goal
@@ -8,6 +8,3 @@ use Rattle.mentions.proofs.mark_operations.Given as goal
 abbrev pub invariant-loop-i : goal.invariant-loop-i
 invariant-loop-i l =
     (l.i ≤ l.count) × (length l.numbers ≡ length l.initial.numbers) × MarkedOperations l.operations l.u l.i l.initial.numbers l.numbers
-
-abbrev pub decreases-loop-i : goal.decreases-loop-i
-decreases-loop-i l = l.count - l.i

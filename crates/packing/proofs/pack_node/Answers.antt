@@ -1,6 +1,7 @@
 -- The node is not used, or it is placed and its roots are packed. Assumes nothing.
+use Rattle.std.proofs.lemmas.Result.{err_from_is_err_and}
 use Rattle.packing.specs.RestKept.{rest_then}
-use Rattle.packing.specs.NodeTurn.{uses_there, node_there, turn_unused, place_there, turn_odd, turn_limit, roots_there, turn_roots}
+use Rattle.packing.specs.NodeTurn.{uses_there, node_there, turn_unused, place_there, turn_refused, roots_there, turn_roots}
 use Rattle.packing.proofs.pack_node.Goals as goal
 
 pub read-requires : goal.read-requires
@@ -12,44 +13,34 @@ returns-then-read-eq0 c = turn_unused c.requires c.read.ensures c.if-read-eq0.tr
 pub node_at-x-requires : goal.node_at-x-requires
 node_at-x-requires c = node_there c.requires
 
-pub place_node-step-requires : goal.place_node-step-requires
-place_node-step-requires c = place_there c.requires c.read.ensures c.if-read-eq0.false c.node_at-x.ensures
+pub place_node-requires : goal.place_node-requires
+place_node-requires c = place_there c.requires c.read.ensures c.if-read-eq0.false c.node_at-x.ensures
 
 pub pack_roots-requires : goal.pack_roots-requires
 pack_roots-requires c =
-    roots_there c.requires c.read.ensures c.if-read-eq0.false c.node_at-x.ensures c.place_node-step.ensures.0
-    c.place_node-step.ensures.1 c.in-Next.is
+    roots_there c.requires c.read.ensures c.if-read-eq0.false c.node_at-x.ensures c.place_node.ensures.0
+    c.place_node.ensures.1 c.in_ok-placed.was
 
-pub shape_of-words-in-Next : goal.shape_of-words-in-Next
-shape_of-words-in-Next c = (rest_then c.place_node-step.ensures.0 c.pack_roots.ensures.0).words.long
+pub shape_of-words : goal.shape_of-words
+shape_of-words c = (rest_then c.place_node.ensures.0 c.pack_roots.ensures.0).words.long
 
-pub shape_of-numbers-in-Next : goal.shape_of-numbers-in-Next
-shape_of-numbers-in-Next c = (rest_then c.place_node-step.ensures.0 c.pack_roots.ensures.0).numbers.long
+pub shape_of-numbers : goal.shape_of-numbers
+shape_of-numbers c = (rest_then c.place_node.ensures.0 c.pack_roots.ensures.0).numbers.long
 
-pub returns-in-Next : goal.returns-in-Next
-returns-in-Next c =
-    turn_roots c.requires c.read.ensures c.if-read-eq0.false c.node_at-x.ensures c.place_node-step.ensures.0
-    c.place_node-step.ensures.1 c.in-Next.is c.pack_roots.result c.pack_roots.ensures.0
+pub returns : goal.returns
+returns c =
+    turn_roots c.requires c.read.ensures c.if-read-eq0.false c.node_at-x.ensures c.place_node.ensures.0
+    c.place_node.ensures.1 c.in_ok-placed.was c.pack_roots.result c.pack_roots.ensures.0
     c.pack_roots.ensures.1
 
-pub shape_of-words-in-NonHermitianAxis : goal.shape_of-words-in-NonHermitianAxis
-shape_of-words-in-NonHermitianAxis c = c.place_node-step.ensures.0.words.long
+pub shape_of-words-in_err-placed : goal.shape_of-words-in_err-placed
+shape_of-words-in_err-placed c = c.place_node.ensures.0.words.long
 
-pub shape_of-numbers-in-NonHermitianAxis : goal.shape_of-numbers-in-NonHermitianAxis
-shape_of-numbers-in-NonHermitianAxis c = c.place_node-step.ensures.0.numbers.long
+pub shape_of-numbers-in_err-placed : goal.shape_of-numbers-in_err-placed
+shape_of-numbers-in_err-placed c = c.place_node.ensures.0.numbers.long
 
-pub returns-in-NonHermitianAxis : goal.returns-in-NonHermitianAxis
-returns-in-NonHermitianAxis c =
-    turn_odd c.requires c.read.ensures c.if-read-eq0.false c.node_at-x.ensures c.place_node-step.ensures.0
-    c.place_node-step.ensures.1 c.in-NonHermitianAxis.is
-
-pub shape_of-words-in-ExpansionLimit : goal.shape_of-words-in-ExpansionLimit
-shape_of-words-in-ExpansionLimit c = c.place_node-step.ensures.0.words.long
-
-pub shape_of-numbers-in-ExpansionLimit : goal.shape_of-numbers-in-ExpansionLimit
-shape_of-numbers-in-ExpansionLimit c = c.place_node-step.ensures.0.numbers.long
-
-pub returns-in-ExpansionLimit : goal.returns-in-ExpansionLimit
-returns-in-ExpansionLimit c =
-    turn_limit c.requires c.read.ensures c.if-read-eq0.false c.node_at-x.ensures c.place_node-step.ensures.0
-    c.place_node-step.ensures.1 c.in-ExpansionLimit.is
+pub returns-in_err-placed : goal.returns-in_err-placed
+returns-in_err-placed c =
+    let refused = err_from_is_err_and c.from_residual.result c.from_residual.ensures.1 in
+    rw (refused.1, refused.2) (turn_refused c.requires c.read.ensures c.if-read-eq0.false c.node_at-x.ensures c.place_node.ensures.0
+    c.place_node.ensures.1 _ c.in_err-placed.was)

@@ -1,10 +1,12 @@
 -- The loop is before node n's turn. Assumes nothing.
-use mathlib.Core.Path.{◌∙◌}
+use mathlib.Core.Path.{◌≡◌, ◌∙◌}
 use Prim.Native.Nat.{◌<◌}
+use Rattle.std.proofs.lemmas.Result.{err_from_is_err_and}
 use Rattle.packing.specs.RestKept.{rest_then}
-use Rattle.packing.specs.Packing.{first_node, node_turn, next_node, prepared_rows_lem, granted_prepared, none_prepared}
-use Rattle.packing.specs.Packing.{pack_axes, pack_odd, pack_limit}
+use Rattle.packing.specs.Packing.{no_slots, first_node, node_turn, next_node, prepared_rows_lem, granted_prepared, none_prepared}
+use Rattle.packing.specs.Packing.{pack_axes, pack_refused}
 use native.Mathlib.Omega.{arith}
+use borrow.Author.Rules.{rules}
 use Rattle.packing.proofs.pack_nodes.Goals as goal
 
 pub relevance-requires : goal.relevance-requires
@@ -25,39 +27,28 @@ prepare-requires c =
 pub loop-n-init : goal.loop-n-init
 loop-n-init c =
     let written = prepared_rows_lem c.relevance.ensures.only c.prepare.ensures.only in
-    first_node (granted_prepared c.requires.0 written) (none_prepared c.requires.0 written c.requires.1)
-    c.prepare.ensures.linked c.prepare.ensures.uses
+    let none : c.default-st.result ≡ no_slots = search rules in
+    rw none (first_node (granted_prepared c.requires.0 written) (none_prepared c.requires.0 written c.requires.1)
+    c.prepare.ensures.linked c.prepare.ensures.uses)
 
-pub pack_node-step-requires : goal.pack_node-step-requires
-pack_node-step-requires c =
+pub pack_node-requires : goal.pack_node-requires
+pack_node-requires c =
     let p = c.requires.0 in
     node_turn c.loop-n.invariant (granted_prepared p (prepared_rows_lem c.relevance.ensures.only c.prepare.ensures.only)) p.given (omega arith)
 
-pub shape_of-words-in-NonHermitianAxis : goal.shape_of-words-in-NonHermitianAxis
-shape_of-words-in-NonHermitianAxis c = (rest_then c.loop-n.invariant.rest c.pack_node-step.ensures.0).words.long
+pub shape_of-words-in_err-st : goal.shape_of-words-in_err-st
+shape_of-words-in_err-st c = (rest_then c.loop-n.invariant.rest c.pack_node.ensures.0).words.long
 
-pub shape_of-numbers-in-NonHermitianAxis : goal.shape_of-numbers-in-NonHermitianAxis
-shape_of-numbers-in-NonHermitianAxis c =
-    (rest_then c.loop-n.invariant.rest c.pack_node-step.ensures.0).numbers.long
+pub shape_of-numbers-in_err-st : goal.shape_of-numbers-in_err-st
+shape_of-numbers-in_err-st c =
+    (rest_then c.loop-n.invariant.rest c.pack_node.ensures.0).numbers.long
     ∙ (prepared_rows_lem c.relevance.ensures.only c.prepare.ensures.only).long
 
-pub returns-in-NonHermitianAxis : goal.returns-in-NonHermitianAxis
-returns-in-NonHermitianAxis c =
-    pack_odd c.requires.0 (prepared_rows_lem c.relevance.ensures.only c.prepare.ensures.only) c.loop-n.invariant (omega arith)
-    c.pack_node-step.ensures.0 (rw c.in-NonHermitianAxis.is at c.pack_node-step.ensures.1)
-
-pub shape_of-words-in-ExpansionLimit : goal.shape_of-words-in-ExpansionLimit
-shape_of-words-in-ExpansionLimit c = (rest_then c.loop-n.invariant.rest c.pack_node-step.ensures.0).words.long
-
-pub shape_of-numbers-in-ExpansionLimit : goal.shape_of-numbers-in-ExpansionLimit
-shape_of-numbers-in-ExpansionLimit c =
-    (rest_then c.loop-n.invariant.rest c.pack_node-step.ensures.0).numbers.long
-    ∙ (prepared_rows_lem c.relevance.ensures.only c.prepare.ensures.only).long
-
-pub returns-in-ExpansionLimit : goal.returns-in-ExpansionLimit
-returns-in-ExpansionLimit c =
-    pack_limit c.requires.0 (prepared_rows_lem c.relevance.ensures.only c.prepare.ensures.only) c.loop-n.invariant (omega arith)
-    c.pack_node-step.ensures.0 (rw c.in-ExpansionLimit.is at c.pack_node-step.ensures.1)
+pub returns-in_err-st : goal.returns-in_err-st
+returns-in_err-st c =
+    let refused = err_from_is_err_and c.from_residual.result c.from_residual.ensures.1 in
+    rw (refused.1, refused.2) (pack_refused c.requires.0 (prepared_rows_lem c.relevance.ensures.only c.prepare.ensures.only)
+    c.loop-n.invariant (omega arith) c.pack_node.ensures.0 _ (rw c.in_err-st.was at c.pack_node.ensures.1))
 
 pub overflow_step-n : goal.overflow_step-n
 overflow_step-n c =
@@ -66,7 +57,7 @@ overflow_step-n c =
 
 pub loop-n-preserved : goal.loop-n-preserved
 loop-n-preserved c =
-    next_node c.loop-n.invariant (omega arith) c.pack_node-step.ensures.0 (rw c.in-Next.is at c.pack_node-step.ensures.1)
+    next_node c.loop-n.invariant (omega arith) c.pack_node.ensures.0 (rw c.in_ok-st.was at c.pack_node.ensures.1)
 
 pub shape_of-words : goal.shape_of-words
 shape_of-words c = c.loop-n.invariant.rest.words.long

@@ -4,6 +4,7 @@ use Rattle.packing.specs.RestKept.{rest_none}
 use Rattle.packing.specs.RootTurn.{l_small, slots_small, id_small, stored_long}
 use Rattle.packing.specs.RootTurn.{root_odd, rest_limit, root_limit, root_release, root_rest, root_next}
 use native.Mathlib.Omega.{arith}
+use Rattle.std.proofs.lemmas.Result.{err_from_is_err_and}
 use Rattle.packing.proofs.pack_root.Goals as goal
 
 pub held-v-requires : goal.held-v-requires
@@ -21,22 +22,23 @@ overflow_mul-counted c = omega (arith, l_small c.requires.it)
 pub overflow_mul-counted-2 : goal.overflow_mul-counted-2
 overflow_mul-counted-2 c = omega (arith, slots_small c.requires.it)
 
-pub intern-i-requires : goal.intern-i-requires
-intern-i-requires c = intern_pre c.requires.it c.held-v.ensures c.sizes_of-sizes.ensures
+pub intern-requires : goal.intern-requires
+intern-requires c = intern_pre c.requires.it c.held-v.ensures c.sizes_of-sizes.ensures
 
-pub returns-in_default : goal.returns-in_default
-returns-in_default c = (
-  rest_limit c.requires.it c.held-v.ensures c.sizes_of-sizes.ensures c.intern-i.ensures c.in_default.is,
-  λ p h. root_limit h c.held-v.ensures c.sizes_of-sizes.ensures c.intern-i.ensures c.if-total-eq1.false
-      c.in_default.is,
-)
+pub returns-in_err-a : goal.returns-in_err-a
+returns-in_err-a c =
+    let full = err_from_is_err_and c.from_residual.result c.from_residual.ensures.1 in
+    rw (full.1, full.2) (
+      rest_limit c.requires.it c.held-v.ensures c.sizes_of-sizes.ensures c.intern.ensures c.in_err-a.was,
+      λ p h. root_limit h c.held-v.ensures c.sizes_of-sizes.ensures c.intern.ensures c.if-total-eq1.false c.in_err-a.was,
+    )
 
 pub overflow_cast-a : goal.overflow_cast-a
-overflow_cast-a c = omega (arith, id_small c.requires.it c.held-v.ensures c.sizes_of-sizes.ensures c.intern-i.ensures c.in-Axis.is)
+overflow_cast-a c = omega (arith, id_small c.requires.it c.held-v.ensures c.sizes_of-sizes.ensures c.intern.ensures c.in_ok-a.was)
 
 pub write-requires : goal.write-requires
 write-requires c = (
-  stored_long c.requires.it c.held-v.ensures c.sizes_of-sizes.ensures c.intern-i.ensures c.in-Axis.is,
+  stored_long c.requires.it c.held-v.ensures c.sizes_of-sizes.ensures c.intern.ensures c.in_ok-a.was,
   omega arith,
   reference_in c.requires.it,
 )
@@ -45,8 +47,8 @@ pub write-requires-2 : goal.write-requires-2
 write-requires-2 c = (
   omega (
     arith,
-    stored_long c.requires.it c.held-v.ensures c.sizes_of-sizes.ensures c.intern-i.ensures
-        c.in-Axis.is,
+    stored_long c.requires.it c.held-v.ensures c.sizes_of-sizes.ensures c.intern.ensures
+        c.in_ok-a.was,
     c.write.ensures.long,
   ),
   omega arith,
@@ -55,14 +57,14 @@ write-requires-2 c = (
 
 pub release-free-requires : goal.release-free-requires
 release-free-requires c =
-    root_release c.requires.it c.held-v.ensures c.sizes_of-sizes.ensures c.intern-i.ensures c.in-Axis.is
+    root_release c.requires.it c.held-v.ensures c.sizes_of-sizes.ensures c.intern.ensures c.in_ok-a.was
     c.write.ensures c.write-2.ensures
 
 pub returns : goal.returns
 returns c = (
-  root_rest c.requires.it c.held-v.ensures c.sizes_of-sizes.ensures c.intern-i.ensures c.in-Axis.is
+  root_rest c.requires.it c.held-v.ensures c.sizes_of-sizes.ensures c.intern.ensures c.in_ok-a.was
       c.write.ensures c.write-2.ensures c.release-free.ensures,
   λ p h. root_next h c.held-v.ensures
-      c.sizes_of-sizes.ensures c.intern-i.ensures c.in-Axis.is c.write.ensures c.write-2.ensures
+      c.sizes_of-sizes.ensures c.intern.ensures c.in_ok-a.was c.write.ensures c.write-2.ensures
       c.release-free.ensures c.if-total-eq1.false,
 )

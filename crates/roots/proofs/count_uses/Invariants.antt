@@ -4,6 +4,3 @@ use Rattle.roots.proofs.count_uses.Given as goal
 
 abbrev pub invariant-loop-n : goal.invariant-loop-n
 invariant-loop-n l = UsesAt l.nodes l.initial.numbers l.u l.count l.n l.numbers
-
-abbrev pub decreases-loop-n : goal.decreases-loop-n
-decreases-loop-n l = l.n

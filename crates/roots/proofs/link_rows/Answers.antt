@@ -4,9 +4,6 @@ use Rattle.roots.specs.Linking.{rows_start, rows_need, rows_turn, rows_end}
 use native.Mathlib.Omega.{arith}
 use Rattle.roots.proofs.link_rows.Goals as goal
 
-pub overflow_mul-r : goal.overflow_mul-r
-overflow_mul-r c = omega (arith, c.requires.it.sizes.sized.qubits)
-
 pub loop-r-init : goal.loop-r-init
 loop-r-init c = rows_start _ _ _
 

@@ -4,6 +4,3 @@ use Rattle.roots.proofs.link_rows.Given as goal
 
 abbrev pub invariant-loop-r : goal.invariant-loop-r
 invariant-loop-r l = RowsAt l.shape l.rows l.initial.numbers l.r l.numbers
-
-abbrev pub decreases-loop-r : goal.decreases-loop-r
-decreases-loop-r l = l.r

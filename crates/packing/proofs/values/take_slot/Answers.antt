@@ -9,4 +9,4 @@ pub returns-then-shape-sum : goal.returns-then-shape-sum
 returns-then-shape-sum c = taken_limit _ _ _ c.if-st-gt0.false c.if-shape-sum.true
 
 pub returns : goal.returns
-returns c = taken_new _ _ _ c.if-st-gt0.false c.if-shape-sum.false _ c.peak_with.ensures
+returns c = taken_new _ _ _ c.if-st-gt0.false c.if-shape-sum.false _ c.max.ensures
