@@ -1,5 +1,5 @@
 -- The counters of the program that was handed in. Assumes nothing.
-use Rattle.std.specs.Prelude.{◌≡◌, refl, Bool, not, ◌&&◌, List, ℕ, zero, suc, ◌+◌, ◌%◌, ◌<◌, eqb, ltb}
+use Rattle.std.specs.Prelude.{◌≡◌, refl, Bool, true, false, not, ◌&&◌, List, ℕ, zero, suc, ◌+◌, ◌%◌, ◌<◌, eqb, ltb}
 use Rattle.std.proofs.Common.{sym, ap, ◌∙◌, arith, ext_get_or, ne_eqb, le-ltb}
 use Rattle.store.specs.From.{list_from, from_length, from_at}
 use Rattle.model.specs.Lists.{count_of, is_odd}
@@ -33,6 +33,13 @@ rotate_test zero = refl
 rotate_test (suc zero) = refl
 rotate_test (suc (suc zero)) = refl
 rotate_test (suc (suc (suc k))) = le-ltb (suc (suc (suc k))) 2 (omega arith)
+
+-- what two tests answer, by the first
+pub and_yes : {a : Bool} (b : Bool) → a ≡ true → b ≡ a && b
+and_yes b e = rw e refl
+
+pub and_no : {a : Bool} (b : Bool) → a ≡ false → a ≡ a && b
+and_no b e = rw e refl
 
 -- ---- T-count: odd rotations, plain and conditional
 

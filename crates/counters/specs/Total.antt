@@ -1,5 +1,6 @@
 -- Sums over places, counted up in a loop. Assumes nothing.
-use Rattle.std.specs.Prelude.{◌≡◌, refl, Bool, ℕ, zero, suc, ◌+◌, ◌-◌, ◌≤◌, ◌<◌}
+use Rattle.std.specs.Prelude.{◌≡◌, refl, Bool, true, false, cond, List, ◌∷◌, length, filter, ℕ, zero, suc, ◌+◌, ◌-◌, ◌≤◌, ◌<◌}
+use Rattle.std.specs.List.{range_with_len}
 use Rattle.std.proofs.Common.{ap, ap₂, ◌∙◌, add-one, arith}
 use Rattle.model.specs.Lists.{when◌then◌else◌, count_of, sum_of}
 use Rattle.store.specs.From.{list_from}
@@ -48,6 +49,21 @@ pub count_from : {A : Type 0} (f : A → Bool) (h : ℕ → A) (i n : ℕ) → c
 unfolding count_of list_from total
 count_from f h i zero = refl
 count_from f h i (suc n) = ap (λ (m : ℕ). one_if (f (h i)) + m) (count_from f h (suc i) n)
+
+-- the places that pass a test
+pub count_places : (test : ℕ → Bool) (i n : ℕ) → length (filter test (range_with_len i n)) ≡ total (λ j. one_if (test j)) i n
+unfolding total when◌then◌else◌
+count_places test i zero = refl
+count_places test i (suc n) =
+    go (test i) (ap (λ (j : ℕ). length (filter test (range_with_len j n))) (add-one i) ∙ count_places test (suc i) n)
+  where
+    rest : List ℕ
+    rest = filter test (range_with_len (i + 1) n)
+
+    go : (b : Bool) → length rest ≡ total (λ j. one_if (test j)) (suc i) n
+        → length (cond b (i ∷ rest) rest) ≡ one_if b + total (λ j. one_if (test j)) (suc i) n
+    go true e = omega arith
+    go false e = omega arith
 
 -- equal place by place
 pub total_same : (f g : ℕ → ℕ) (i n : ℕ) → ((j : ℕ) → i ≤ j → j < i + n → f j ≡ g j) → total f i n ≡ total g i n

@@ -15,28 +15,17 @@ ghost use Rattle.counters.specs.Weight.{AxisPre, AxisWeight, ItemAxisPre, ItemWe
 ghost use Rattle.counters.specs.SourceWeight.{OperationPre, OperationWeight, SourcePre, WeightBefore};
 ghost use Rattle.counters.specs.Source.{is_odd_source};
 ghost use Rattle.counters.specs.Summary.{SummaryPre, Summed};
-ghost use Rattle.counters.specs.Total.{one_if};
 
 use layout::{ITEMS, Shape};
 use model::Counters;
 
-// 1 where b holds.
-fn one_if(b: bool) -> usize
-    ensures { (result ≡ one_if b) × (result ≤ 1) }
-{
-    if b {
-        return 1;
-    }
-    0
-}
-
-// 1 for an odd rotation, plain or conditional, among the operations handed in.
-fn odd_source(operations: &[u32], i: usize) -> usize
+// Whether operation i of those handed in is an odd rotation, plain or conditional.
+fn is_odd_source(operations: &[u32], i: usize) -> bool
     requires { i * 6 + 6 ≤ length operations.now }
-    ensures { (result ≡ one_if (is_odd_source (operation_here operations.now i))) × (result ≤ 1) }
+    ensures { result ≡ is_odd_source (operation_here operations.now i) }
 {
     let o = records::operation_at(operations, i);
-    one_if((o.kind != 2) & (o.angle % 2 == 1))
+    o.kind != 2 && o.angle % 2 == 1
 }
 
 // The source's T-count.
@@ -44,20 +33,15 @@ fn t_before(operations: &[u32], count: usize) -> usize
     requires { count * 6 ≤ length operations.now }
     ensures { result ≡ source_t_count (operations_in count operations.now) }
 {
-    let mut n: usize = 0;
-    for i in 0..count {
-        n += odd_source(operations, i);
-    }
-    n
+    (0..count).filter(|i| is_odd_source(operations, *i)).count()
 }
 
-// 1 for a plain rotation among the operations handed in.
-fn rotate_source(operations: &[u32], i: usize) -> usize
+// Whether operation i of those handed in is a plain rotation.
+fn is_rotate_source(operations: &[u32], i: usize) -> bool
     requires { i * 6 + 6 ≤ length operations.now }
-    ensures { (result ≡ one_if (is_rotate (operation_here operations.now i).kind)) × (result ≤ 1) }
+    ensures { result ≡ is_rotate (operation_here operations.now i).kind }
 {
-    let o = records::operation_at(operations, i);
-    one_if(o.kind < 2)
+    records::operation_at(operations, i).kind < 2
 }
 
 // The source's plain rotations.
@@ -65,21 +49,19 @@ fn rotations_before(operations: &[u32], count: usize) -> usize
     requires { count * 6 ≤ length operations.now }
     ensures { result ≡ source_rotations (operations_in count operations.now) }
 {
-    let mut n: usize = 0;
-    for i in 0..count {
-        n += rotate_source(operations, i);
-    }
-    n
+    (0..count)
+        .filter(|i| is_rotate_source(operations, *i))
+        .count()
 }
 
-// 1 if item i comes out as an odd rotation, plain or conditional.
-fn odd_item(operations: &[u32], numbers: &[u32], u: usize, i: usize) -> usize
+// Whether item i comes out as an odd rotation, plain or conditional.
+fn is_odd_item(operations: &[u32], numbers: &[u32], u: usize, i: usize) -> bool
     requires { ItemPre operations.now numbers.now u i }
     ensures { OddItem operations.now (tagged_at numbers.now u items_row i) result }
 {
     let x = items::item_at(numbers, u, ITEMS, i);
     let r = results::record_of(operations, x);
-    one_if((r.kind != 2) & (r.angle % 2 == 1))
+    r.kind != 2 && r.angle % 2 == 1
 }
 
 // The T-count of what comes out.
@@ -87,11 +69,9 @@ fn t_after(operations: &[u32], numbers: &[u32], u: usize, k: usize) -> usize
     requires { ItemsPre operations.now numbers.now u k }
     ensures { TCountAfter operations.now numbers.now u k result }
 {
-    let mut n: usize = 0;
-    for i in 0..k {
-        n += odd_item(operations, numbers, u, i);
-    }
-    n
+    (0..k)
+        .filter(|i| is_odd_item(operations, numbers, u, *i))
+        .count()
 }
 
 // The plain rotations that come out.
@@ -99,11 +79,9 @@ fn rotations_after(numbers: &[u32], u: usize, k: usize) -> usize
     requires { (row_count * u ≤ length numbers.now) × (k ≤ u) }
     ensures { result ≡ count_of is_rotation (items_in numbers.now u items_row 0 k) }
 {
-    let mut n: usize = 0;
-    for i in 0..k {
-        n += one_if(items::is_rotation(numbers, u, ITEMS, i));
-    }
-    n
+    (0..k)
+        .filter(|i| items::is_rotation(numbers, u, ITEMS, *i))
+        .count()
 }
 
 // An axis's letters other than I.

@@ -1,5 +1,5 @@
 -- Barriers are measurements and conditional rotations of the program. Assumes nothing.
-use Rattle.std.specs.Prelude.{◌≡◌, true, false, List, [], ◌∷◌, ℕ, zero, suc, ◌+◌, ◌≤◌, ◌<◌, length, get_or}
+use Rattle.std.specs.Prelude.{◌≡◌, false, List, [], ◌∷◌, ℕ, zero, suc, ◌+◌, ◌≤◌, ◌<◌, length, get_or}
 use Rattle.std.proofs.Common.{ap, subst, true≢false, add-zero, zero-add, arith}
 use Rattle.model.specs.Program.{Kind, rotate, measure, conditional, kind_of, is_rotate, Operation, Program}
 use Rattle.model.specs.Words.{Value}

@@ -1,6 +1,6 @@
 -- The frame rows that come out, written one behind the other. Assumes nothing.
-use Rattle.std.specs.Prelude.{◌≡◌, refl, Bool, true, false, not, ◌&&◌, ℕ, suc, ◌+◌, ◌*◌, ◌/◌, ◌%◌, ◌≤◌, ◌<◌, eqb, length}
-use Rattle.std.proofs.Common.{sym, ap₂, ◌∙◌, subst, true≢false, length-append}
+use Rattle.std.specs.Prelude.{◌≡◌, ◌⊎◌, refl, Bool, true, false, not, ◌&&◌, ℕ, suc, ◌+◌, ◌*◌, ◌/◌, ◌%◌, ◌≤◌, ◌<◌, eqb, length}
+use Rattle.std.proofs.Common.{sym, inl, inr, eq-eqb, ap₂, ◌∙◌, subst, true≢false, length-append}
 use Rattle.std.proofs.Math.Path.{ap}
 use mathlib.Core.List.{List, [], ◌∷◌, ◌++◌, map, flatten}
 use native.Mathlib.Omega.{arith}
@@ -43,6 +43,11 @@ pub row_kept : (changed : Bool) (f : SignedAxis) (i : ℕ) (r : RowResult) → c
     → r.qubit ≡ i / 2 → r.half ≡ i % 2 → r.axis ≡ no_axis → r.sign ≡ 0 → row_fields r ≡ row_here changed f i
 unfolding row_here is_given kept_row
 row_kept changed f i r t a b c d = rw (a, b, c, d) (sym (if_false _ _ t))
+
+-- the code's two ways to the same
+pub not_given : (changed : Bool) (a : ℕ) → ((changed ≡ true) × (a ≡ no_axis)) ⊎ (changed ≡ false) → changed && not (eqb a no_axis) ≡ false
+not_given changed a (inl e) = rw e.0 (ap not (eq-eqb a no_axis e.1))
+not_given changed a (inr e) = rw e refl
 
 row_four : (changed : Bool) (f : SignedAxis) (i : ℕ) → length (row_here changed f i) ≡ 4
 unfolding row_here given_row kept_row

@@ -38,6 +38,22 @@ pub struct OperationResult {
     pub target: u32,
 }
 
+impl OperationResult {
+    // As they stand in memory.
+    fn fields(self) -> [u32; 6]
+        ensures { result ≡ operation_fields self }
+    {
+        [
+            self.kind,
+            self.axis,
+            self.sign,
+            self.angle,
+            self.outcome,
+            self.target,
+        ]
+    }
+}
+
 // A frame row that comes out: qubit, 0 x or 1 z, axis by id, sign; kept is -1, 0.
 #[derive(Clone, Copy)]
 pub struct RowResult {
@@ -45,6 +61,15 @@ pub struct RowResult {
     pub half: u32,
     pub axis: u32,
     pub sign: u32,
+}
+
+impl RowResult {
+    // As they stand in memory.
+    fn fields(self) -> [u32; 4]
+        ensures { result ≡ row_fields self }
+    {
+        [self.qubit, self.half, self.axis, self.sign]
+    }
 }
 
 // 1 or -1, for 0 or 2 quarter turns.
@@ -87,7 +112,7 @@ pub fn record_of(operations: &[u32], x: Tagged) -> OperationResult
     requires { RecordPre operations.now x }
     ensures { RecordMade operations.now x result }
 {
-    if x.tag == 0 {
+    if x.is_rotation() {
         return OperationResult {
             kind: 1,
             axis: x.axis,
@@ -101,17 +126,12 @@ pub fn record_of(operations: &[u32], x: Tagged) -> OperationResult
     barrier_record(o, x)
 }
 
-// The six fields of a record, from a place on.
-fn put_operation(to: &mut [u32], at: usize, r: OperationResult)
-    requires { at + 6 ≤ length to.old }
-    ensures { to.new ≡ put to.old at (operation_fields r) }
+// A record's fields, from a place on.
+fn put_fields(to: &mut [u32], at: usize, fields: &[u32])
+    requires { at + length fields.now ≤ length to.old }
+    ensures { to.new ≡ put to.old at fields.now }
 {
-    to[at] = r.kind;
-    to[at + 1] = r.axis;
-    to[at + 2] = r.sign;
-    to[at + 3] = r.angle;
-    to[at + 4] = r.outcome;
-    to[at + 5] = r.target;
+    to[at..at + fields.len()].copy_from_slice(fields);
 }
 
 // Item i as record i.
@@ -122,7 +142,7 @@ fn write_operation(operations: &[u32], numbers: &[u32], u: usize, i: usize, to: 
 {
     let x = items::item_at(numbers, u, ITEMS, i);
     let r = record_of(operations, x);
-    put_operation(to, 6 * i, r);
+    put_fields(to, 6 * i, &r.fields());
 }
 
 // The k items as records.
@@ -135,31 +155,13 @@ fn write_operations(operations: &[u32], numbers: &[u32], u: usize, k: usize, to:
     }
 }
 
-// Zeros from a place to the end.
-fn zero_numbers_from(s: &mut [u32], from: usize)
-    requires { from ≤ length s.old }
-    ensures { s.new ≡ zeroed_from s.old from }
-{
-    let n = s.len();
-    store::zero_numbers(&mut s[from..n]);
-}
-
-// The same for words.
-fn zero_words_from(s: &mut [u64], from: usize)
-    requires { from ≤ length s.old }
-    ensures { s.new ≡ zeroed_from s.old from }
-{
-    let n = s.len();
-    store::zero_words(&mut s[from..n]);
-}
-
 // The operations that come out, then zeros.
 fn operation_results(operations: &[u32], numbers: &[u32], u: usize, k: usize, to: &mut [u32])
     requires { WritePre operations.now numbers.now u k to.old }
     ensures { ResultsWritten operations.now numbers.now u k to.old to.new }
 {
     write_operations(operations, numbers, u, k, to);
-    zero_numbers_from(to, 6 * k);
+    store::zero_numbers(&mut to[6 * k..]);
 }
 
 // Row i, whose axis and sign are these: kept where it has none or nothing changed.
@@ -169,7 +171,7 @@ fn row_record(changed: bool, f: Root, i: usize) -> RowResult
 {
     let qubit = (i / 2) as u32;
     let half = (i % 2) as u32;
-    if changed & (f.axis != NO_AXIS) {
+    if changed && f.axis != NO_AXIS {
         return RowResult {
             qubit,
             half,
@@ -185,17 +187,6 @@ fn row_record(changed: bool, f: Root, i: usize) -> RowResult
     }
 }
 
-// The four fields of a row, from a place on.
-fn put_row(to: &mut [u32], at: usize, r: RowResult)
-    requires { at + 4 ≤ length to.old }
-    ensures { to.new ≡ put to.old at (row_fields r) }
-{
-    to[at] = r.qubit;
-    to[at + 1] = r.half;
-    to[at + 2] = r.axis;
-    to[at + 3] = r.sign;
-}
-
 // Frame row i as row i.
 fn write_row(numbers: &[u32], shape: Shape, changed: bool, i: usize, to: &mut [u32])
     requires { RowPre shape numbers.now i to.old }
@@ -203,7 +194,7 @@ fn write_row(numbers: &[u32], shape: Shape, changed: bool, i: usize, to: &mut [u
 {
     let f = work::root_at(numbers, shape.u, shape.operations + i);
     let r = row_record(changed, f, i);
-    put_row(to, 4 * i, r);
+    put_fields(to, 4 * i, &r.fields());
 }
 
 // All frame rows.
@@ -222,7 +213,7 @@ fn row_results(numbers: &[u32], shape: Shape, changed: bool, to: &mut [u32])
     ensures { to.new ≡ then_zeros to.old (rows_to changed shape numbers.now (2 * shape.qubits)) }
 {
     write_rows(numbers, shape, changed, to);
-    zero_numbers_from(to, 8 * shape.qubits);
+    store::zero_numbers(&mut to[8 * shape.qubits..]);
 }
 
 // Zeros in the words from a place on, and in all numbers.
@@ -230,7 +221,7 @@ pub fn clean(words: &mut [u64], numbers: &mut [u32], from: usize)
     requires { from ≤ length words.old }
     ensures { (words.new ≡ zeroed_from words.old from) × (numbers.new ≡ zeros numbers.old) }
 {
-    zero_words_from(words, from);
+    store::zero_words(&mut words[from..]);
     store::zero_numbers(numbers);
 }
 

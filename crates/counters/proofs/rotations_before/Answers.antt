@@ -1,23 +1,20 @@
--- The loop's invariant: n is the number among the first i operations. Assumes nothing.
+-- The test at each place is the test of its operation. Assumes nothing.
 use native.Mathlib.Omega.{arith}
 use mathlib.Core.Path.{◌∙◌}
+use borrow.Author.Rules.{rules}
+use Rattle.std.proofs.Common.{tests}
+use Rattle.std.proofs.lemmas.Iterator.{YieldsList-from_range}
+use Rattle.std.proofs.lemmas.Iterator.Consumers.{YieldsList-from_filter, count_from_yields_List}
+use Rattle.model.specs.Program.{is_rotate}
+use Rattle.records.specs.Operations.{operation_here}
+use Rattle.counters.specs.Total.{count_places}
 use Rattle.counters.specs.Source.{source_rotations_lem}
-use Rattle.counters.specs.Total.{total_none, total_more, total_all}
 use Rattle.counters.proofs.rotations_before.Goals as goal
 
-pub loop-i-init : goal.loop-i-init
-loop-i-init c = (omega arith, omega arith, total_none _ _)
-
-pub rotate_source-n-requires : goal.rotate_source-n-requires
-rotate_source-n-requires c = let p = c.requires in omega arith
-
-pub overflow_add-n : goal.overflow_add-n
-overflow_add-n c = let z = c.rotate_source-n.ensures.1 in omega arith
-
-pub loop-i-preserved : goal.loop-i-preserved
-loop-i-preserved c =
-    let z = c.rotate_source-n.ensures.1 in
-    (omega arith, omega arith, total_more _ _ _ _ _ (omega arith) c.rotate_source-n.ensures.0 c.loop-i.invariant.2)
-
 pub returns : goal.returns
-returns c = total_all _ _ _ _ (omega arith) c.loop-i.invariant.2 ∙ source_rotations_lem _ _
+returns c =
+    count_from_yields_List _ _ c.count.ensures.ran
+    (YieldsList-from_filter _ (λ j. is_rotate (operation_here c.args.operations.now j).kind)
+    (YieldsList-from_range 0 c.args.count c.args.count c.filter.ensures.source (omega arith)) c.filter.ensures.closure
+    (λ x b q k. search (rules, tests)))
+    ∙ count_places _ _ _ ∙ source_rotations_lem _ _

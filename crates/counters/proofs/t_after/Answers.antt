@@ -1,20 +1,26 @@
--- The loop's invariant: n is the number among the first i items. Assumes nothing.
+-- The test at each place is the test of its item's record. Assumes nothing.
+use mathlib.Core.Path.{ap, ◌∙◌}
+use borrow.Author.Rules.{rules}
+use Rattle.std.proofs.Common.{tests}
+use Rattle.std.proofs.lemmas.Iterator.{YieldsList-from_range}
+use Rattle.std.proofs.lemmas.Iterator.Consumers.{YieldsList-from_filter, count_from_yields_List}
+use Prim.Native.Nat.{ℕ, max}
 use native.Mathlib.Omega.{arith}
-use Rattle.results.specs.Record.{items_item}
-use Rattle.counters.specs.After.{odd_none, odd_more, odd_all}
+use Rattle.layout.specs.Rows.{items_row}
+use Rattle.items.specs.View.{tagged_at}
+use Rattle.counters.specs.Total.{one_if, count_places, total_same}
+use Rattle.counters.specs.After.{odd_here, odd_all}
 use Rattle.counters.proofs.t_after.Goals as goal
 
-pub loop-i-init : goal.loop-i-init
-loop-i-init c = (omega arith, odd_none _ _ _ _)
-
-pub odd_item-n-requires : goal.odd_item-n-requires
-odd_item-n-requires c = items_item c.requires _ (omega arith)
-
-pub overflow_add-n : goal.overflow_add-n
-overflow_add-n c = let a = c.odd_item-n.ensures.small in let b = c.loop-i.invariant.1.small in omega arith
-
-pub loop-i-preserved : goal.loop-i-preserved
-loop-i-preserved c = (omega arith, odd_more (omega arith) c.odd_item-n.ensures c.loop-i.invariant.1)
-
+-- a test of every place needs a count that serves there
 pub returns : goal.returns
-returns c = odd_all (omega arith) c.loop-i.invariant.1
+returns c count h =
+    let a = c.args in
+    let tag : ℕ → ℕ = λ j. (tagged_at a.numbers.now a.u items_row j).tag in
+    count_from_yields_List _ _ c.count.ensures.ran
+    (YieldsList-from_filter _ (λ j. odd_here (max count (tag j)) a.operations.now a.numbers.now a.u j)
+    (YieldsList-from_range 0 c.args.k c.args.k c.filter.ensures.source (omega arith)) c.filter.ensures.closure
+    (λ x b q k. search (rules, tests)))
+    ∙ count_places _ _ _
+    ∙ total_same _ _ 0 a.k (λ j b l. ap (λ (n : ℕ). one_if (odd_here n a.operations.now a.numbers.now a.u j)) (omega (arith, h j (omega arith))))
+    ∙ odd_all _ _ _ _ _

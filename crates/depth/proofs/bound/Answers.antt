@@ -15,7 +15,7 @@ pub loop-rest-smaller : goal.loop-rest-smaller
 loop-rest-smaller c = clear_lt _ (omega arith)
 
 pub loop-rest-preserved : goal.loop-rest-preserved
-loop-rest-preserved c = bound_turn _ _ (omega arith) c.loop-rest.invariant c.top_of.ensures c.higher-most.ensures
+loop-rest-preserved c = bound_turn _ _ (omega arith) c.loop-rest.invariant c.top_of-top.ensures c.max-most.ensures
 
 pub returns : goal.returns
-returns c = bound_end _ _ (omega arith) c.loop-rest.invariant c.lower.ensures
+returns c = bound_end _ _ (omega arith) c.loop-rest.invariant c.min.ensures

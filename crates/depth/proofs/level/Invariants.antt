@@ -4,6 +4,3 @@ use Rattle.depth.proofs.level.Given as goal
 
 abbrev pub invariant-loop-v : goal.invariant-loop-v
 invariant-loop-v l = LookedTo l.z l.words l.numbers l.st l.i l.axis l.v
-
-abbrev pub decreases-loop-v : goal.decreases-loop-v
-decreases-loop-v l = l.v

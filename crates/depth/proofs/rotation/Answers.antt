@@ -25,4 +25,4 @@ shape_of-numbers c = c.enter.ensures.only.long
 pub returns : goal.returns
 returns c =
     rotation_put c.requires c.level.ensures refl c.signature_of-sig.ensures c.if-v-st.false c.enter.ensures
-    c.higher.ensures
+    c.max.ensures

@@ -2,6 +2,7 @@
 use mathlib.Core.Path.{ap}
 use Prim.Native.Nat.{◌%◌}
 use Rattle.items.specs.declared.Tagged.{Tagged}
+use Rattle.items.specs.View.{rotation_tag, barrier_tag}
 use Rattle.depth.specs.Turns.{turn_barrier, turn_rotation}
 use native.Mathlib.Omega.{arith}
 use Rattle.depth.proofs.turn.Goals as goal
@@ -9,8 +10,8 @@ use Rattle.depth.proofs.turn.Goals as goal
 pub overflow_add-result : goal.overflow_add-result
 overflow_add-result c = omega (arith, c.requires.here, c.requires.short)
 
-pub returns-then-item-ne0 : goal.returns-then-item-ne0
-returns-then-item-ne0 c = turn_barrier c.requires c.item_at-item.ensures c.if-item-ne0.true
+pub returns-then-not-is_rotation : goal.returns-then-not-is_rotation
+returns-then-not-is_rotation c = turn_barrier c.requires c.item_at-item.ensures (barrier_tag _ c.is_rotation.ensures c.if-not-is_rotation.true)
 
 pub rotation-reached-requires : goal.rotation-reached-requires
 rotation-reached-requires c = record {
@@ -24,4 +25,4 @@ pub shape_of-numbers : goal.shape_of-numbers
 shape_of-numbers c = c.rotation-reached.ensures.only.long
 
 pub returns : goal.returns
-returns c = turn_rotation c.requires c.item_at-item.ensures c.if-item-ne0.false c.rotation-reached.ensures
+returns c = turn_rotation c.requires c.item_at-item.ensures (rotation_tag _ c.is_rotation.ensures c.if-not-is_rotation.false) c.rotation-reached.ensures

@@ -1,26 +1,16 @@
--- The loop's invariant: no item before i is an even rotation. Assumes nothing.
-use native.Mathlib.Omega.{arith}
-use mathlib.Core.Path.{sym, ◌∙◌}
-use Rattle.item_lists.specs.Count.{none_yet, none_more, some_here, none_all}
+-- The test at each place is the test of its item. Assumes nothing.
+use mathlib.Core.Path.{◌∙◌, refl}
+use borrow.Author.Rules.{rules}
+use Rattle.std.proofs.Common.{tests}
+use Rattle.std.proofs.lemmas.Iterator.{YieldsList-from_range}
+use Rattle.std.proofs.lemmas.Iterator.Search.{any_from_yields_List}
+use Rattle.model.specs.Items.{is_even_rotation}
+use Rattle.items.specs.View.{item_said, item_at, view_any}
 use Rattle.item_lists.proofs.any_even.Goals as goal
 
-pub loop-i-init : goal.loop-i-init
-loop-i-init c = (omega arith, none_yet _ _ _ _ _ _ _)
-
-pub even_at-requires : goal.even_at-requires
-even_at-requires c =
-    let p = c.requires in
-    record { long = p.long; rows = p.rows; here = let f = p.fits in omega arith }
-
-pub returns-then-even_at : goal.returns-then-even_at
-returns-then-even_at c = some_here _ _ _ _ _ _ _ _ (omega arith) (sym c.even_at.ensures ∙ c.if-even_at.true) c.loop-i.invariant.1
-
-pub loop-i-preserved : goal.loop-i-preserved
-loop-i-preserved c = (
-  omega arith,
-  none_more _ _ _ _ _ _ _ _ (omega arith) (sym c.even_at.ensures ∙ c.if-even_at.false)
-      c.loop-i.invariant.1,
-)
-
 pub returns : goal.returns
-returns c = none_all _ _ _ _ _ _ _ _ (omega arith) c.loop-i.invariant.1
+returns c =
+    let a = c.args in
+    any_from_yields_List (λ j. is_even_rotation (item_at a.numbers.now a.u a.b j)) _ _ _ c.any.ensures.ran
+    (YieldsList-from_range a.from a.end _ refl refl) (λ x b q k. search (rules, tests))
+    ∙ view_any item_said _ _ _ is_even_rotation _ _

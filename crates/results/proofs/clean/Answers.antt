@@ -1,7 +1,9 @@
 -- Words from a place on, and all numbers. Assumes nothing.
+use mathlib.Core.Path.{refl}
 use Rattle.model.specs.Rewriting.{zeros}
+use Rattle.results.specs.Zeros.{zeroed_lent}
 use Rattle.results.proofs.clean.Goals as goal
 
 pub returns : goal.returns
 unfolding zeros
-returns c = (c.zero_words_from.ensures, c.zero_numbers.ensures)
+returns c = (zeroed_lent _ _ _ _ refl c.requires c.zero_words.ensures, c.zero_numbers.ensures)

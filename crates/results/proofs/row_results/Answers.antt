@@ -1,6 +1,10 @@
 -- The rows, then zeros. Assumes nothing.
+use native.Mathlib.Omega.{arith}
+use mathlib.Core.Path.{refl}
+use Rattle.results.specs.Zeros.{zeroed_lent}
 use Rattle.results.specs.Rows.{rows_written}
 use Rattle.results.proofs.row_results.Goals as goal
 
 pub returns : goal.returns
-returns c = rows_written _ _ _ c.requires c.write_rows.ensures c.zero_numbers_from.ensures
+returns c =
+    rows_written _ _ _ c.requires c.write_rows.ensures (zeroed_lent _ _ _ _ refl (omega arith) c.zero_numbers.ensures)

@@ -7,5 +7,5 @@ record_of-r-requires c = rw c.item_at-x.ensures c.requires.item.barrier
 
 pub returns : goal.returns
 returns c =
-    let s = c.requires in
-    operation_laid _ _ _ _ _ _ (rw c.item_at-x.ensures at c.record_of-r.ensures) s.room c.put_operation.ensures
+    operation_laid _ _ _ _ _ _ (rw c.item_at-x.ensures at c.record_of-r.ensures) c.requires.room
+    (rw c.fields.ensures at c.put_fields.ensures)

@@ -10,11 +10,11 @@ axis-requires c = held_axis c.requires.axes _ c.requires.stored
 
 pub returns-then-is_identity : goal.returns-then-is_identity
 returns-then-is_identity c =
-    rotation_identity _ _ _ _
-    (sym (ap is_identity (c.axis.ensures _ c.requires.stored)) ∙ sym c.is_identity.ensures ∙ c.if-is_identity.true) refl refl
+    rw c.rotation.ensures (rotation_identity _ _ _ _
+    (sym (ap is_identity (c.axis.ensures _ c.requires.stored)) ∙ sym c.is_identity.ensures ∙ c.if-is_identity.true) refl refl)
 
 pub returns : goal.returns
 returns c =
-    rotation_other _ _ _ _
+    rw c.rotation-2.ensures (rotation_other _ _ _ _
     (sym (ap is_identity (c.axis.ensures _ c.requires.stored)) ∙ sym c.is_identity.ensures ∙ c.if-is_identity.false) refl refl
-    c.with_sign.ensures
+    c.with_sign.ensures)

@@ -3,12 +3,10 @@ use mathlib.Core.Path.{ap, ◌∙◌}
 use Rattle.model.specs.Program.{is_rotate}
 use Rattle.records.specs.declared.OperationRecord.{OperationRecord}
 use Rattle.records.specs.Records.{operation_said}
-use Rattle.counters.specs.Total.{one_if}
 use Rattle.counters.specs.Source.{rotate_source}
-use Rattle.counters.proofs.rotate_source.Goals as goal
+use Rattle.counters.proofs.is_rotate_source.Goals as goal
 
 pub returns : goal.returns
 returns c =
-    let o = c.operation_at-o in
-    let e = ap (λ (x : OperationRecord). is_rotate (operation_said x).kind) o.ensures in
-    (c.one_if.ensures.0 ∙ ap one_if (rotate_source o.result ∙ e), c.one_if.ensures.1)
+    let o = c.operation_at in
+    rotate_source o.result ∙ ap (λ (x : OperationRecord). is_rotate (operation_said x).kind) o.ensures
