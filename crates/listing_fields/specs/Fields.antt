@@ -105,12 +105,6 @@ fields_end n i line to x e f l p =
 
 -- ---- what an answer says
 
-pub said_yes : {r : Result Unit BadText} (vs : List ℕ) {done : Unit} {x : Option (List ℕ)} → values_of r vs ≡ x → r ≡ Ok done → some vs ≡ x
-said_yes vs e t = ap (λ (a : Result Unit BadText). values_of a vs) (sym t) ∙ e
-
-pub said_no : {r : Result Unit BadText} (vs : List ℕ) {b : BadText} {x : Option (List ℕ)} → values_of r vs ≡ x → r ≡ Err b → none ≡ x
-said_no vs e t = ap (λ (a : Result Unit BadText). values_of a vs) (sym t) ∙ e
-
 -- a refusal that is handed on
 pub refused : (r : Result Unit BadText) (vs : List ℕ) {x : Option (List ℕ)} → IsErr r → none ≡ x → values_of r vs ≡ x
 refused (Ok done) vs e p = absurd (let z : ◌≡◌ {A = Bool} false true = e in cc)
