@@ -1,13 +1,15 @@
 -- The fields of a line, one step of the loop over them. Assumes nothing.
-use Rattle.std.specs.Prelude.{◌≡◌, refl, Bool, true, false, List, [], ◌∷◌, ◌++◌, ℕ, zero, suc, ◌+◌, ◌-◌, ◌*◌, ◌/◌, ◌%◌, ◌<◌, ltb, length, drop, set}
+use Rattle.std.specs.Prelude.{◌≡◌, refl, Bool, true, false, List, [], ◌∷◌, ◌++◌, ℕ, zero, suc, ◌+◌, ◌-◌, ◌*◌, ◌/◌, ◌%◌, ◌<◌, ltb, length, drop, set, Result, Ok, Err}
 use Rattle.std.proofs.Math.Path.{sym, ap}
 use Rattle.std.proofs.Common.{ap₂, ◌∙◌, append_assoc, append-nil, arith, length-drop, drop_of_length-le, drop-drop, take-suc-set, take_all, ltb-false, le-ltb}
 use Rattle.std.proofs.Math.Option.{Option, none, some, bind, map}
 use Rattle.std.proofs.Math.Numerals.{add-one}
 use Rattle.std.proofs.Math.ListN.{take}
+use Rattle.std.specs.Result.{IsErr}
 use Rattle.model.specs.Lists.{when◌then◌else◌, is_empty}
 use Rattle.model.specs.Listing.{columns, numeral, unpadded, fields_from}
 use Rattle.theory.specs.Cases.{on_if, if_false}
+use Rattle.listing_fields.specs.declared.BadText.{BadText}
 use Rattle.listing_fields.specs.Views.{values_of}
 
 none_mapped : {A B : Type 0} (f : A → B) (x : Option A) → x ≡ none → map f x ≡ none
@@ -103,11 +105,10 @@ fields_end n i line to x e f l p =
 
 -- ---- what an answer says
 
-pub said_yes : (b : Bool) (vs : List ℕ) {x : Option (List ℕ)} → values_of b vs ≡ x → b ≡ true → some vs ≡ x
-said_yes b vs e t = ap (λ (c : Bool). values_of c vs) (sym t) ∙ e
-
-pub said_no : (b : Bool) (vs : List ℕ) {x : Option (List ℕ)} → values_of b vs ≡ x → b ≡ false → none ≡ x
-said_no b vs e t = ap (λ (c : Bool). values_of c vs) (sym t) ∙ e
+-- a refusal that is handed on
+pub refused : (r : Result Unit BadText) (vs : List ℕ) {x : Option (List ℕ)} → IsErr r → none ≡ x → values_of r vs ≡ x
+refused (Ok done) vs e p = absurd (let z : ◌≡◌ {A = Bool} false true = e in cc)
+refused (Err b) vs e p = p
 
 pub none_bound : {x : Option (List ℕ)} (f : List ℕ → Option (List ℕ)) → none ≡ x → none ≡ bind x f
 unfolding bind

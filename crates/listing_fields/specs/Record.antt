@@ -1,7 +1,7 @@
 -- A line as a record: where -1 stands, outcome and target. Assumes nothing.
-use Rattle.std.specs.Prelude.{◌≡◌, Bool, ◌&&◌, ◌||◌, List, [], ◌∷◌, ◌++◌, ℕ, ◌+◌, ◌≤◌, ◌<◌, eqb, length, get_or, set}
+use Rattle.std.specs.Prelude.{◌≡◌, Bool, ◌&&◌, ◌||◌, List, [], ◌∷◌, ◌++◌, ℕ, eqb, length, set}
 use Rattle.std.proofs.Math.Path.{refl, sym, ap, ap₂}
-use Rattle.std.proofs.Common.{◌∙◌, arith, eq-eqb, ne_eqb}
+use Rattle.std.proofs.Common.{◌∙◌, arith}
 use Rattle.std.proofs.Math.Bool.{true, false, not}
 use Rattle.std.proofs.Math.Option.{Option, none, some, bind}
 use Rattle.std.proofs.Math.ListN.{take}
@@ -9,35 +9,27 @@ use Rattle.model.specs.Lists.{when◌then◌else◌, any_of}
 use Rattle.model.specs.Program.{field_of, minus_one}
 use Rattle.model.specs.Listing.{plain_line, operation_line, to16, fits16}
 use Rattle.theory.specs.Cases.{if_true, if_false}
-use Rattle.listing_fields.specs.Views.{values_of, outcome_and_target, fits_of}
-use Rattle.listing_fields.specs.Field.{past, past_next, past_end}
+use Rattle.std.specs.List.{list_any}
+use Rattle.std.proofs.lemmas.Bool.Decides.{nat_tests}
+use Rattle.listing_fields.specs.Views.{outcome_and_target, fits_of}
 
 -- ---- -1 among them
 
-pub minus_here : (r : List ℕ) (i : ℕ) → i < length r → get_or r i 0 ≡ minus_one → any_of (eqb minus_one) (past r i) ≡ true
+pub any_is : (v : ℕ) (r : List ℕ) → list_any (λ x. eqb x v) r ≡ any_of (eqb v) r
 unfolding any_of
-minus_here r i l e =
-    ap (any_of (eqb minus_one)) (past_next r i l) ∙ ap (λ (b : Bool). b || any_of (eqb minus_one) (past r (i + 1)))
-    (eq-eqb minus_one (get_or r i 0) (sym e))
-
-pub minus_later : (r : List ℕ) (i : ℕ) → i < length r → (get_or r i 0 ≡ minus_one → ⊥)
-    → any_of (eqb minus_one) (past r i) ≡ any_of (eqb minus_one) (past r (i + 1))
-unfolding any_of
-minus_later r i l e =
-    ap (any_of (eqb minus_one)) (past_next r i l)
-    ∙ ap (λ (b : Bool). b || any_of (eqb minus_one) (past r (i + 1))) (ne_eqb minus_one (get_or r i 0) (λ f. e (sym f)))
-
-pub minus_end : (r : List ℕ) (i : ℕ) → length r ≤ i → any_of (eqb minus_one) (past r i) ≡ false
-unfolding any_of
-minus_end r i l = ap (any_of (eqb minus_one)) (past_end r i l)
+any_is v [] = refl
+any_is v (x ∷ r) = ap₂ (λ (a b : Bool). a || b) (let e : eqb x v ≡ eqb v x = grind (arith, nat_tests) in e) (any_is v r)
 
 -- ---- a line as a record
 
 module _ (r : List ℕ) (x : Option (List ℕ)) (read : some r ≡ x) where
-  pub plain_is : (b : Bool) → b ≡ any_of (eqb minus_one) r → values_of (not b) r ≡ bind x plain_line
+  pub plain_minus : (b : Bool) → b ≡ any_of (eqb minus_one) r → b ≡ true → none ≡ bind x plain_line
   unfolding bind plain_line
-  plain_is true e = sym (if_true none (some r) (sym e)) ∙ ap (λ y. bind y plain_line) read
-  plain_is false e = sym (if_false none (some r) (sym e)) ∙ ap (λ y. bind y plain_line) read
+  plain_minus b e t = sym (if_true none (some r) (sym e ∙ t)) ∙ ap (λ y. bind y plain_line) read
+
+  pub plain_is : (b : Bool) → b ≡ any_of (eqb minus_one) r → b ≡ false → some r ≡ bind x plain_line
+  unfolding bind plain_line
+  plain_is b e t = sym (if_false none (some r) (sym e ∙ t)) ∙ ap (λ y. bind y plain_line) read
 
   operation_is : operation_line r ≡ (when any_of (eqb minus_one) (take 4 r) then none else outcome_and_target r)
   unfolding operation_line outcome_and_target when◌then◌else◌

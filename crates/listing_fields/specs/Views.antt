@@ -1,21 +1,20 @@
 -- What an answer about a field or a line says in the model's words. Assumes nothing.
-use Rattle.std.specs.Prelude.{Bool, true, false, not, ◌&&◌, ◌||◌, List, [], ◌∷◌, ◌++◌, ℕ, eqb, take}
+use Rattle.std.specs.Prelude.{Bool, true, false, not, ◌&&◌, ◌||◌, List, [], ◌∷◌, ◌++◌, ℕ, eqb, take, Result, Ok, Err}
 use Rattle.std.proofs.Math.Option.{Option, none, some}
 use Rattle.model.specs.Lists.{when◌then◌else◌}
 use Rattle.model.specs.Program.{field_of, minus_one}
 use Rattle.model.specs.Listing.{plain_line, operation_line, to16, fits16}
-use Rattle.listing_fields.specs.declared.Number.{Number}
-use Rattle.listing_fields.specs.declared.Number.TheVariants as Numbers
+use Rattle.listing_fields.specs.declared.BadText.{BadText}
 
 -- what a field holds, if it is a number
-abbrev pub value_of : Number → Option ℕ
-value_of (Numbers.Value v) = some v
-value_of Numbers.Bad = none
+abbrev pub value_of : Result ℕ BadText → Option ℕ
+value_of (Ok v) = some v
+value_of (Err e) = none
 
 -- whether it went well, and what the slice holds then; a slice after a refusal says nothing
-abbrev pub values_of : Bool → List ℕ → Option (List ℕ)
-values_of true vs = some vs
-values_of false vs = none
+abbrev pub values_of : Result Unit BadText → List ℕ → Option (List ℕ)
+values_of (Ok done) vs = some vs
+values_of (Err e) vs = none
 
 -- what a record's fields must be: an operation's, or any other's
 abbrev pub fits_of : Bool → List ℕ → Option (List ℕ)

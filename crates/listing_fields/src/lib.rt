@@ -14,31 +14,25 @@ pub use record::line;
 // -1, as the model has it.
 const MINUS: u32 = 4294967295;
 
-// What a field holds.
-#[derive(Clone, Copy)]
-pub enum Number {
-    Value(u32),
-    Bad,
-}
+// Refusal 11: a text that says no program.
+#[derive(Clone, Copy, Debug, PartialEq, Eq)]
+pub struct BadText;
 
 // The fields of a line, as many as `to` has room for, no more and no fewer.
-pub fn fields(line: &[u8], to: &mut [u32]) -> bool
+pub fn fields(line: &[u8], to: &mut [u32]) -> Result<(), BadText>
     ensures { values_of result to.new ≡ fields_from (length to.old) line.now }
 {
     if line.len() % COLUMNS != 0 {
-        return false;
+        return Err(BadText);
     }
     if line.len() / COLUMNS != to.len() {
-        return false;
+        return Err(BadText);
     }
     for i in 0..to.len() {
         let a = i * COLUMNS;
         let e = a + COLUMNS;
-        let v = field::field(&line[a..e]);
-        let Number::Value(x) = v else {
-            return false;
-        };
-        to[i] = x;
+        let v = field::field(&line[a..e])?;
+        to[i] = v;
     }
-    true
+    Ok(())
 }

@@ -6,7 +6,7 @@ ghost use Rattle.model.specs.Program.{minus_one};
 ghost use Rattle.model.specs.Listing.{fields_from, plain_line, operation_line, to16, fits16};
 ghost use Rattle.listing_fields.specs.Views.{values_of, outcome_and_target, fits_of};
 
-use crate::{MINUS, fields};
+use crate::{BadText, MINUS, fields};
 
 const LARGEST_OUTCOME: u32 = 65534;
 
@@ -16,22 +16,18 @@ const NO_OUTCOME: u32 = 65535;
 fn has_minus(r: &[u32]) -> bool
     ensures { result ≡ any_of (eqb minus_one) r.now }
 {
-    for i in 0..r.len() {
-        if r[i] == MINUS {
-            return true;
-        }
-    }
-    false
+    r.contains(&MINUS)
 }
 
 // A line without -1.
-fn plain_line(line: &[u8], r: &mut [u32]) -> bool
+fn plain_line(line: &[u8], r: &mut [u32]) -> Result<(), BadText>
     ensures { values_of result r.new ≡ bind (fields_from (length r.old) line.now) plain_line }
 {
-    if fields(line, r) {
-        return !has_minus(&r[..]);
+    fields(line, r)?;
+    if has_minus(&r[..]) {
+        return Err(BadText);
     }
-    false
+    Ok(())
 }
 
 // An outcome or a target, or -1.
@@ -49,36 +45,34 @@ fn in_record(v: u32) -> u32
 }
 
 // Outcome and target of an operation's fields.
-fn outcome_and_target(r: &mut [u32]) -> bool
+fn outcome_and_target(r: &mut [u32]) -> Result<(), BadText>
     requires { length r.old ≡ 6 }
     ensures { values_of result r.new ≡ outcome_and_target r.old }
 {
     let outcome = r[4];
     let target = r[5];
     if !fits(outcome) | !fits(target) | ((outcome == MINUS) & (r[0] != 1)) {
-        return false;
+        return Err(BadText);
     }
     r[4] = in_record(outcome);
     r[5] = in_record(target);
-    true
+    Ok(())
 }
 
 // An operation's line: -1 only in a plain rotation's outcome or in a target.
-fn operation_line(line: &[u8], r: &mut [u32]) -> bool
+fn operation_line(line: &[u8], r: &mut [u32]) -> Result<(), BadText>
     requires { length r.old ≡ 6 }
     ensures { values_of result r.new ≡ bind (fields_from (length r.old) line.now) operation_line }
 {
-    if !fields(line, r) {
-        return false;
-    }
+    fields(line, r)?;
     if has_minus(&r[..4]) {
-        return false;
+        return Err(BadText);
     }
     outcome_and_target(r)
 }
 
 // A line of a record: an operation's, or one without -1.
-pub fn line(line: &[u8], operation: bool, r: &mut [u32]) -> bool
+pub fn line(line: &[u8], operation: bool, r: &mut [u32]) -> Result<(), BadText>
     requires { operation ≡ true → length r.old ≡ 6 }
     ensures { values_of result r.new ≡
         bind (fields_from (length r.old) line.now) (fits_of operation) }

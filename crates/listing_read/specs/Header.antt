@@ -1,18 +1,16 @@
 -- A text's first line. Assumes nothing.
-use Rattle.std.specs.Prelude.{◌≡◌, refl, Bool, true, false, ◌||◌, List, [], ◌∷◌, ℕ, ◌≤◌, ltb, length, get_or, drop}
-use Rattle.std.proofs.Common.{sym, ap, ◌∙◌, subst, arith, ltb-false}
+use Rattle.std.specs.Prelude.{◌≡◌, refl, Bool, true, false, ◌||◌, List, [], ◌∷◌, ℕ, ◌≤◌, ltb, length, get_or, Result, Ok, Err}
+use Rattle.std.specs.Result.{IsErr}
+use Rattle.std.proofs.Common.{sym, ap, ◌∙◌, arith, ltb-false, Bor}
 use Rattle.std.proofs.Math.Option.{Option, none, some, bind}
-use Rattle.model.specs.declared.Counts.{Counts}
 use Rattle.model.specs.Program.{field_of}
 use Rattle.model.specs.Listing.{Read, too_large, read}
 use Rattle.theory.specs.Cases.{if_true, if_false, neither}
-use Rattle.listing_read.specs.declared.Place.TheVariants.{Bad}
-use Rattle.listing_read.specs.declared.FirstLine.{FirstLine}
-use Rattle.listing_read.specs.declared.FirstLine.TheVariants.{Fields}
-use Rattle.listing_read.specs.declared.FirstLine.TheVariants as FirstLines
+use Rattle.listing_fields.specs.declared.BadText.{BadText}
+use Rattle.listing_read.specs.declared.Text.{Text}
 use Rattle.listing_read.specs.Records.{Taken, taken, one_record, allowed, records_of, read_bytes}
 use Rattle.listing_read.specs.LineByLine.{read_is}
-use Rattle.listing_read.specs.Views.{fields_of, headed_at, HeaderIn}
+use Rattle.listing_read.specs.Views.{Headed}
 
 -- ---- the first line's four fields
 
@@ -57,17 +55,10 @@ header_refused h x p e t = sym (if_true none (some h) (sym e ∙ t)) ∙ ap (λ 
 
 -- ---- the first line, and what is read behind it
 
-pub header_in : (text : List ℕ) {r : FirstLine} {c : Counts} {limit next : ℕ} → HeaderIn text r → r ≡ Fields c limit next
-    → HeaderIn text (Fields c limit next)
-header_in text h e = subst (HeaderIn text) e h
-
-pub header_at : (text : List ℕ) {r : FirstLine} {c : Counts} {limit next : ℕ} {x : Option Taken} → headed_at r text ≡ x
-    → r ≡ Fields c limit next
-    → some (taken (fields_of c limit) (drop next text)) ≡ x
-header_at text e f = ap (λ (r : FirstLine). headed_at r text) (sym f) ∙ e
-
-pub header_bad : (text : List ℕ) {r : FirstLine} {x : Option Taken} → headed_at r text ≡ x → r ≡ FirstLines.Bad → none ≡ x
-header_bad text e f = ap (λ (r : FirstLine). headed_at r text) (sym f) ∙ e
+-- a first line that is refused
+pub not_headed : (r : Result (Text × Bor (List ℕ)) BadText) {x : Option Taken} → IsErr r → none ≡ x → Headed r x
+not_headed (Ok p) e q = absurd (let z : ◌≡◌ {A = Bool} false true = e in cc)
+not_headed (Err b) e q = record { read = q; small = tt }
 
 pub read_header : (text : List ℕ) (x : Option Read) (h s : List ℕ) → some (taken h s) ≡ one_record 4 allowed text → x ≡ records_of h s
     → x ≡ read text

@@ -1,86 +1,77 @@
--- Where a line ends, one step of the search for it, and the record that the line is. Assumes nothing.
-use Rattle.std.specs.Prelude.{◌≡◌, refl, List, [], ◌∷◌, ◌++◌, ℕ, suc, ◌+◌, ◌-◌, ◌≤◌, ◌<◌, length, get_or, take, drop}
+-- Where the first line ends, and the record that it is. Assumes nothing.
+use Rattle.std.specs.Prelude.{◌≡◌, refl, ◌==◌, Bool, true, false, not, cond, List, [], ◌∷◌, ℕ, suc, ◌+◌, eqb, ltb, length, take, drop, position}
+use Rattle.std.specs.Prelude as Std
+use Rattle.std.specs.List.{position_or_len}
 use Rattle.std.proofs.Math.Path.{sym, ap}
-use Rattle.std.proofs.Common.{◌∙◌, append_assoc, append-nil, add-one, arith, length-drop, drop_of_length-le, drop-cons, take-suc, get_or-drop, eq-eqb, ne_eqb, lt-ltb, le-ltb}
+use Rattle.std.proofs.Common.{◌∙◌, ap₂, arith, lt-ltb}
+use Rattle.std.proofs.lemmas.Option.{cond_some}
+use Rattle.std.proofs.lemmas.Bool.Decides.{nat_tests}
+use Rattle.model.specs.Lists.{when◌then◌else◌}
 use Rattle.std.proofs.Math.Option.{Option, none, some, bind, map}
 use Rattle.model.specs.Listing.{fields_from}
 use Rattle.theory.specs.Cases.{if_true, if_false}
 use Rattle.listing_read.specs.Lines.{Cut, cut, longer, cut_line}
 use Rattle.listing_read.specs.Records.{Taken, taken, one_record}
-use Rattle.listing_read.specs.Views.{cut_at, EndOfLine}
 
 -- ---- the end of a line
 
--- no newline from `at` to e
-unfoldable pub cut_from : List ℕ → ℕ → ℕ → Option Cut
-cut_from text at e = map (longer (take (e - at) (drop at text))) (cut_line (drop e text))
+abbrev newline : ℕ → Bool
+newline b = b == 10
 
-pub cut_first : (text : List ℕ) (at : ℕ) → cut_line (drop at text) ≡ cut_from text at at
-unfolding cut_from
-cut_first text at =
-    go (cut_line (drop at text)) ∙ ap (λ (k : ℕ). map (longer (take k (drop at text))) (cut_line (drop at text)))
-    (let p : 0 ≡ at - at = omega arith in p)
+abbrev cut_at : List ℕ → ℕ → Option Cut
+cut_at text e = cond (ltb e (length text)) (some (cut (take e text) (drop (e + 1) text))) none
+
+longer_test : (e n : ℕ) → ltb (suc e) (suc n) ≡ ltb e n
+longer_test e n = grind (arith, nat_tests)
+
+line_cut : (text : List ℕ) → cut_line text ≡ cut_at text (position_or_len newline text)
+unfolding cut_line
+line_cut [] = refl
+line_cut (b ∷ s) =
+    let e = position_or_len newline s in
+    let next : 1 + e ≡ suc e = omega arith in
+    elim (eqb b 10) as (λ t. (when t then some (cut [] s) else map (longer (b ∷ [])) (cut_line s))
+    ≡ cut_at (b ∷ s) (cond (not t) (1 + e) 0)) [
+      | true ↦ if_true (some (cut [] s)) (map (longer (b ∷ [])) (cut_line s)) refl ∙ sym (first_test s)
+      | false ↦ if_false (some (cut [] s)) (map (longer (b ∷ [])) (cut_line s)) refl ∙ ap (map (longer (b ∷ []))) (line_cut s)
+          ∙ behind b s e ∙ ap (cut_at (b ∷ s)) (sym next)
+    ]
   where
-    go : (x : Option Cut) → x ≡ map (longer []) x
-    go none = refl
-    go (some c) = refl
+    first_test : (s : List ℕ) → cond (ltb 0 (suc (length s))) (some (cut [] s)) none ≡ some (cut [] s)
+    first_test s = ap (λ (t : Bool). cond t (some (cut [] s)) none) (lt-ltb 0 (suc (length s)) (omega arith))
 
-next_byte : (text : List ℕ) (e : ℕ) → e < length text → drop e text ≡ get_or text e 0 ∷ drop (e + 1) text
-next_byte text e l = rw add-one (drop-cons text e 0 l)
+    behind : (b : ℕ) (s : List ℕ) (e : ℕ) → map (longer (b ∷ [])) (cut_at s e) ≡ cut_at (b ∷ s) (suc e)
+    behind b s e =
+        go (ltb e (length s)) ∙ sym (ap₂ (λ (t : Bool) (k : ℕ). cond t (some (cut (b ∷ take e s) (drop k (b ∷ s)))) none) (longer_test e (length s))
+        (let k : suc e + 1 ≡ suc (e + 1) = omega arith in k))
+      where
+        go : (t : Bool) → map (longer (b ∷ [])) (cond t (some (cut (take e s) (drop (e + 1) s))) none) ≡ cond t (some (cut (b ∷ take e s) (drop (e + 1) s))) none
+        go true = refl
+        go false = refl
 
-one_more : (text : List ℕ) (at e : ℕ) → at ≤ e → e < length text
-    → take (e + 1 - at) (drop at text) ≡ take (e - at) (drop at text) ++ (get_or text e 0 ∷ [])
-one_more text at e h l =
-    let d = length-drop at text in
-    ap (λ (k : ℕ). take k (drop at text)) (let p : e + 1 - at ≡ suc (e - at) = omega arith in p)
-    ∙ take-suc (drop at text) (e - at) 0 (omega arith)
-    ∙ ap (λ (b : ℕ). take (e - at) (drop at text) ++ (b ∷ []))
-    (get_or-drop at text (e - at) 0 ∙ ap (λ (k : ℕ). get_or text k 0) (let p : at + (e - at) ≡ e = omega arith in p))
+pub cut_found : (text : List ℕ) (e : ℕ) → position newline text ≡ Std.Some e → some (cut (take e text) (drop (e + 1) text)) ≡ cut_line text
+cut_found text e p =
+    let c = cond_some (ltb (position_or_len newline text) (length text)) (position_or_len newline text) e p in
+    sym (line_cut text ∙ rw (c.0, c.1) refl)
 
-pub cut_more : (text : List ℕ) (at e : ℕ) (x : Option Cut) → at ≤ e → e < length text → (get_or text e 0 ≡ 10 → ⊥)
-    → x ≡ cut_from text at e → x ≡ cut_from text at (e + 1)
-unfolding cut_from cut_line
-cut_more text at e x h l n p =
-    p ∙ ap (λ (s : List ℕ). map (longer (take (e - at) (drop at text))) (cut_line s)) (next_byte text e l)
-    ∙ ap (map (longer (take (e - at) (drop at text)))) (if_false _ _ (ne_eqb (get_or text e 0) 10 n))
-    ∙ go (cut_line (drop (e + 1) text))
-    ∙ ap (λ (s : List ℕ). map (longer s) (cut_line (drop (e + 1) text))) (sym (one_more text at e h l))
+pub cut_missing : (text : List ℕ) → position newline text ≡ Std.None → none ≡ cut_line text
+cut_missing text p = sym (line_cut text ∙ go (ltb (position_or_len newline text) (length text)) refl p)
   where
-    go : (y : Option Cut) → map (longer (take (e - at) (drop at text))) (map (longer (get_or text e 0 ∷ [])) y)
-        ≡ map (longer (take (e - at) (drop at text) ++ (get_or text e 0 ∷ []))) y
-    go none = refl
-    go (some c) = ap (λ (s : List ℕ). some (cut s c.rest))
-        (sym (append_assoc (take (e - at) (drop at text)) (get_or text e 0 ∷ []) c.line))
-
-pub cut_here : (text : List ℕ) (at e : ℕ) (x : Option Cut) → e < length text → get_or text e 0 ≡ 10 → x ≡ cut_from text at e
-    → x ≡ cut_at text at e
-unfolding cut_from cut_line cut_at
-cut_here text at e x l n p =
-    p ∙ ap (λ (s : List ℕ). map (longer (take (e - at) (drop at text))) (cut_line s)) (next_byte text e l)
-    ∙ ap (map (longer (take (e - at) (drop at text)))) (if_true _ _ (eq-eqb (get_or text e 0) 10 n))
-    ∙ ap (λ (s : List ℕ). some (cut s (drop (e + 1) text))) (append-nil (take (e - at) (drop at text)))
-    ∙ sym (if_true _ _ (lt-ltb e (length text) l))
-
-pub cut_end : (text : List ℕ) (at e : ℕ) (x : Option Cut) → length text ≤ e → x ≡ cut_from text at e → x ≡ cut_at text at e
-unfolding cut_from cut_line cut_at
-cut_end text at e x l p =
-    p ∙ ap (λ (s : List ℕ). map (longer (take (e - at) (drop at text))) (cut_line s)) (drop_of_length-le text l)
-    ∙ sym (if_false _ _ (le-ltb e (length text) l))
+    go : (t : Bool) → ltb (position_or_len newline text) (length text) ≡ t → cond t (Std.Some (position_or_len newline text)) Std.None ≡ Std.None → cut_at text (position_or_len newline text) ≡ none
+    go true e q = absurd (cc)
+    go false e q = rw e refl
 
 -- ---- a record's line
 
-module _ (n : ℕ) (fits : List ℕ → Option (List ℕ)) (text : List ℕ) (at e : ℕ) (ends : EndOfLine text at e) where
+module _ (n : ℕ) (fits : List ℕ → Option (List ℕ)) (text : List ℕ) where
   abbrev record_of : Option Cut → Option Taken
   record_of x = bind x (λ c. map (λ r. taken r c.rest) (bind (fields_from n c.line) fits))
 
-  pub no_newline : e ≡ length text → none ≡ one_record n fits (drop at text)
-  unfolding one_record bind cut_at
-  no_newline h = sym (ap record_of (ends.cuts ∙ if_false _ _ (le-ltb e (length text) (omega arith))))
+  pub no_line : none ≡ cut_line text → none ≡ one_record n fits text
+  unfolding one_record bind
+  no_line e = ap record_of e
 
-  pub line_read : (x : Option (List ℕ)) → (e ≡ length text → ⊥) → x ≡ bind (fields_from n (take (e - at) (drop at text))) fits
-      → map (λ r. taken r (drop (e + 1) text)) x ≡ one_record n fits (drop at text)
-  unfolding one_record bind cut_at
-  line_read x h p =
-      let w = ends.within in
-      ap (map (λ r. taken r (drop (e + 1) text))) p
-      ∙ sym (ap record_of (ends.cuts ∙ if_true _ _ (lt-ltb e (length text) (omega arith))))
+  pub line_read : (line rest : List ℕ) (x : Option (List ℕ)) → some (cut line rest) ≡ cut_line text → x ≡ bind (fields_from n line) fits
+      → map (λ r. taken r rest) x ≡ one_record n fits text
+  unfolding one_record bind
+  line_read line rest x e p = ap (map (λ r. taken r rest)) p ∙ ap record_of e

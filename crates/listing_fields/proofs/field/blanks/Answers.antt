@@ -1,18 +1,18 @@
--- The loop's invariant: the bytes before i are blanks. Assumes nothing.
-use mathlib.Core.Path.{ap, ◌∙◌}
-use Rattle.model.specs.Listing.{unpadded}
-use native.Mathlib.Omega.{arith}
-use Rattle.listing_fields.specs.Field.{past_none, blank_more, blank_none, blank_end}
+-- The first byte that is no blank, or the end. Assumes nothing.
+use Rattle.std.proofs.Common.{rules, tests, ◌≡◌, ◌∙◌, sym, ap, drop}
+use Rattle.std.proofs.lemmas.Iterator.{YieldsList-from_slice}
+use Rattle.std.proofs.lemmas.Iterator.Search.{position_from_yields_List}
+use Rattle.std.proofs.lemmas.List.Sums.{prefix_len-le-length}
+use Rattle.std.specs.List.{position, position_or_len}
+use Rattle.listing_fields.specs.Field.{no_blank, blanks_end, position_end}
 use Rattle.listing_fields.proofs.field.blanks.Goals as goal
 
-pub loop-i-init : goal.loop-i-init
-loop-i-init c = (omega arith, ap unpadded (past_none _))
-
-pub returns-then-f-i-ne32 : goal.returns-then-f-i-ne32
-returns-then-f-i-ne32 c = (omega arith, c.loop-i.invariant.1 ∙ blank_none _ _ (omega arith) c.if-f-i-ne32.true)
-
-pub loop-i-preserved : goal.loop-i-preserved
-loop-i-preserved c = (omega arith, c.loop-i.invariant.1 ∙ blank_more _ _ (omega arith) c.if-f-i-ne32.false)
-
 pub returns : goal.returns
-returns c = (omega arith, c.loop-i.invariant.1 ∙ blank_end _ _ (omega arith))
+returns c =
+    let f = c.args.f.now in
+    let e : c.position.result ≡ position no_blank f =
+    position_from_yields_List no_blank _ _ _ c.position.ensures.ran (YieldsList-from_slice f cc) (λ x b q k. search (rules, tests)) in
+    let end : c.unwrap_or.result ≡ position_or_len no_blank f = c.unwrap_or.ensures ∙ position_end no_blank f e in (
+      rw end (prefix_len-le-length _ f),
+      blanks_end f ∙ ap (λ n. drop n f) (sym end),
+    )

@@ -1,39 +1,24 @@
 -- The loop's invariant: what is left from byte i on, with the number so far, gives the whole; i digits are below 10 ^ i. Assumes nothing.
-use mathlib.Core.Path.{refl, sym, ap, ◌∙◌}
+use Rattle.std.proofs.Common.{arith, sym, ap, ◌∙◌, ◌+◌, ◌*◌, ℕ}
 use Rattle.model.specs.Listing.{digits_from}
-use native.Mathlib.Omega.{arith}
-use Rattle.listing_fields.specs.Field.{past_none, digits_more, digits_bad, digits_end, digits_below}
-use Rattle.listing_fields.specs.Field.{digit_low, digit_fits, product_fits, sum_fits, value_fits}
+use Rattle.listing_fields.specs.Field.{past, past_none, digits_more, digits_bad, digits_end, digits_below}
 use Rattle.listing_fields.proofs.field.digits.Goals as goal
 
-pub loop-i-init : goal.loop-i-init
-loop-i-init c = (omega arith, refl, ap (digits_from 0) (past_none _), omega arith)
+pub loop-b-init : goal.loop-b-init
+loop-b-init c = (ap (digits_from 0) (past_none _), omega arith)
 
-pub returns-then-b : goal.returns-then-b
-returns-then-b c = sym (c.loop-i.invariant.2 ∙ digits_bad _ _ _ (omega arith) c.if-b.true)
+pub returns-then-not-is_ascii_digit : goal.returns-then-not-is_ascii_digit
+returns-then-not-is_ascii_digit c =
+    sym (c.loop-b.invariant.0 ∙ digits_bad _ _ _ c.loop-b-test.true (sym c.is_ascii_digit.ensures.value ∙ c.if-not-is_ascii_digit.true))
 
-pub overflow_mul-v : goal.overflow_mul-v
-overflow_mul-v c = omega (arith, product_fits _ _ (omega arith) c.loop-i.invariant.3)
-
-pub overflow_sub-v : goal.overflow_sub-v
-overflow_sub-v c = digit_low _ c.if-b.false
-
-pub overflow_cast-v : goal.overflow_cast-v
-overflow_cast-v c = record { fits = digit_fits _ c.if-b.false }
-
-pub overflow_add-v : goal.overflow_add-v
-overflow_add-v c = record { fits = sum_fits _ _ _ (omega arith) c.loop-i.invariant.3 c.if-b.false }
-
-pub loop-i-preserved : goal.loop-i-preserved
-loop-i-preserved c = (
-  omega arith,
-  omega arith,
-  c.loop-i.invariant.2 ∙ digits_more _ _ _ (omega arith) c.if-b.false,
-  digits_below _ _ _ c.loop-i.invariant.3 c.if-b.false,
-)
-
-pub overflow_cast-result : goal.overflow_cast-result
-overflow_cast-result c = record { fits = value_fits _ _ (omega arith) c.loop-i.invariant.3 }
+pub loop-b-preserved : goal.loop-b-preserved
+loop-b-preserved c =
+    let is = sym c.is_ascii_digit.ensures.value ∙ c.if-not-is_ascii_digit.false in
+    let digit = λ (d : ℕ). c.loop-b.v * 10 + d in (
+      c.loop-b.invariant.0 ∙ digits_more _ _ _ c.loop-b-test.true is
+          ∙ ap (λ d. digits_from (digit d) (past c.args.f.now (c.loop-b.b-index + 1))) (sym c.from.ensures),
+      rw c.from.ensures (digits_below c.loop-b.b-index c.loop-b.v _ c.loop-b.invariant.1 is),
+    )
 
 pub returns : goal.returns
-returns c = sym (c.loop-i.invariant.2 ∙ digits_end _ _ _ (omega arith))
+returns c = sym (c.loop-b.invariant.0 ∙ digits_end _ _ _ c.loop-b-test.false)
