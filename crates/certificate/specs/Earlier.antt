@@ -113,12 +113,12 @@ module _ {z : Sizes} {ws xs : List ℕ} {x from e pa qa : ℕ} (h : HasPre z ws 
   pub has_entry : EntryPre xs z.u items_row q
   has_entry = let n = h.rots.end_in in record { long = h.stores.held.numbers_long; rows = omega arith; here = omega arith }
 
-  pub has_axes : {y : ℕ} → y ≡ axis_at z xs q → AxesPre z ws x y × AxesPre z ws pa qa
+  pub has_item : (y : ℕ) → y ≡ axis_at z xs q → AxesPre z ws x y
   unfolding rot_said
-  has_axes d = (
-    record { axes_in_lem = axes_within h.stores; a_in = h.x_in; b_in = rw d (h.rots.good q f k).axis_in },
-    record { axes_in_lem = axes_within h.stores; a_in = h.p_in; b_in = h.q_in },
-  )
+  has_item y d = record { axes_in_lem = axes_within h.stores; a_in = h.x_in; b_in = rw d (h.rots.good q f k).axis_in }
+
+  pub has_pair : AxesPre z ws pa qa
+  has_pair = record { axes_in_lem = axes_within h.stores; a_in = h.p_in; b_in = h.q_in }
 
   pub has_found : {y : ℕ} {r : Bool} → y ≡ axis_at z xs q → r ≡ same_list (product_of z ws x y) (product_of z ws pa qa) → r ≡ true
       → HasWord z ws xs x from e pa qa
