@@ -19,7 +19,7 @@ use Rattle.axes.specs.Held.{Stored, stored_axes}
 use Rattle.certificate.specs.declared.Group.{Group}
 use Rattle.certificate.specs.Groups.{StoresFit, axes_within, RotsGood, GroupGood, GroupsPre, group_in}
 use Rattle.certificate.specs.Terms.{AxesPre, product_of}
-use Rattle.certificate.specs.Meets.{meets_word, MeetsPre, own_product}
+use Rattle.certificate.specs.Meets.{meets_word, own_product}
 use Rattle.certificate.specs.Turns.{SumPre, sum_to, sum_at, pair_vanishes, row_from, row_turn, axis_at}
 
 -- ---- which pair has a word
@@ -113,38 +113,12 @@ module _ {z : Sizes} {ws xs : List ℕ} {x from e pa qa : ℕ} (h : HasPre z ws 
   pub has_entry : EntryPre xs z.u items_row q
   has_entry = let n = h.rots.end_in in record { long = h.stores.held.numbers_long; rows = omega arith; here = omega arith }
 
-  pub has_axes : {y : ℕ} → y ≡ axis_at z xs q → AxesPre z ws x y × AxesPre z ws pa qa
+  pub has_item : (y : ℕ) → y ≡ axis_at z xs q → AxesPre z ws x y
   unfolding rot_said
-  has_axes d = (
-    record { axes_in_lem = axes_within h.stores; a_in = h.x_in; b_in = rw d (h.rots.good q f k).axis_in },
-    record { axes_in_lem = axes_within h.stores; a_in = h.p_in; b_in = h.q_in },
-  )
+  has_item y d = record { axes_in_lem = axes_within h.stores; a_in = h.x_in; b_in = rw d (h.rots.good q f k).axis_in }
 
-  pub has_found : {y : ℕ} {r : Bool} → y ≡ axis_at z xs q → r ≡ same_list (product_of z ws x y) (product_of z ws pa qa) → r ≡ true
-      → HasWord z ws xs x from e pa qa
-  has_found d s t = record {
-    place = q;
-    low = f;
-    high = k;
-    same = ap (λ (y : ℕ). same_list (product_of z ws x y) (product_of z ws pa qa)) (sym d) ∙ sym s ∙ t;
-  }
-
-module _ {z : Sizes} {ws xs : List ℕ} {p : ℕ} {b : Group} {pa qa : ℕ} (h : RowHasPre z ws xs p b pa qa) where
-  pub row_entry : EntryPre xs z.u items_row p
-  row_entry = record { long = h.stores.held.numbers_long; rows = omega arith; here = h.here }
-
-  module _ {x : ℕ} (d : x ≡ axis_at z xs p) where
-    pub row_meets : MeetsPre z ws xs x pa qa
-    row_meets = record { held = h.stores.held; x_in = rw d h.axis_in; p_in = h.p_in; q_in = h.q_in }
-
-    pub row_pre : HasPre z ws xs x b.from b.end pa qa
-    row_pre = record { stores = h.stores; rots = h.second; x_in = rw d h.axis_in; p_in = h.p_in; q_in = h.q_in }
-
-    pub row_found : {m : Bool} → m ≡ meets_word z ws x pa qa → m ≡ true → HasWord z ws xs x b.from b.end pa qa → RowHas z ws xs p b pa qa
-    row_found s t w = record {
-      meets = ap (λ (y : ℕ). meets_word z ws y pa qa) (sym d) ∙ sym s ∙ t;
-      has = subst (λ (y : ℕ). HasWord z ws xs y b.from b.end pa qa) d w;
-    }
+  pub has_pair : AxesPre z ws pa qa
+  has_pair = record { axes_in_lem = axes_within h.stores; a_in = h.p_in; b_in = h.q_in }
 
 module _ {z : Sizes} {ws xs : List ℕ} {from e : ℕ} {b : Group} {pa qa : ℕ} (h : RowsHavePre z ws xs from e b pa qa) (p : ℕ) (f : from ≤ p)
     (k : p < e) where
@@ -160,9 +134,6 @@ module _ {z : Sizes} {ws xs : List ℕ} {from e : ℕ} {b : Group} {pa qa : ℕ}
         p_in = h.p_in;
         q_in = h.q_in;
       }
-
-  pub rows_found : RowHas z ws xs p b pa qa → RowsHave z ws xs from e b pa qa
-  rows_found r = record { item = p; low = f; high = k; has = r }
 
 module _ {z : Sizes} {ws xs : List ℕ} {a b : Group} {p q pa qa : ℕ} (h : WordPre z ws xs a b p q pa qa) where
   pub word_has : HasPre z ws xs pa b.from q pa qa
@@ -274,18 +245,6 @@ one_row {z} {ws} {xs} {a} {b} {p} h e t = record { row = λ i f k. go i f k (dec
 -- ---- what testing a pair demands
 
 module _ {z : Sizes} {ws xs : List ℕ} {a b : Group} {p q : ℕ} (h : PairPre z ws xs a b p q) where
-  pub first_entry : EntryPre xs z.u items_row p
-  first_entry =
-      let n = h.row.groups.first.end_in in
-      let k = h.row.end_in in
-      record { long = h.row.groups.stores.held.numbers_long; rows = omega arith; here = omega arith }
-
-  pub second_entry : EntryPre xs z.u items_row q
-  second_entry =
-      let n = h.row.groups.second.end_in in
-      let k = h.high in
-      record { long = h.row.groups.stores.held.numbers_long; rows = omega arith; here = omega arith }
-
   module _ {pa qa : ℕ} (first : pa ≡ axis_at z xs p) (second : qa ≡ axis_at z xs q) where
     pair_sums : SumPre z ws xs a b pa qa
     unfolding rot_said

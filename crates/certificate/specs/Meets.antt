@@ -1,5 +1,6 @@
 -- A word that commutes with a product word is no factor of it, so its row adds nothing to that word's sum. Assumes nothing.
 use Rattle.std.specs.Prelude.{◌≡◌, refl, Bool, true, false, not, List, ℕ, ◌<◌, ℤ, pos}
+use Rattle.std.specs.Bool.{beq}
 use Rattle.std.proofs.Common.{sym, ap, ◌∙◌, arith}
 use Rattle.std.proofs.lemmas.Bool.{false≢true}
 use Rattle.store.specs.Equal.{same_list, same_true}
@@ -32,40 +33,38 @@ pub record MeetsPre (z : Sizes) (ws xs : List ℕ) (x pa qa : ℕ) : Type 0 wher
 
 -- ---- words
 
-module _ (l : ℕ) (w p q : List ℕ) where
-  -- w anticommutes with p: with the product exactly if not with q
-  meets_odd : anticommutes l w p ≡ true → (b : Bool) → anticommutes l w q ≡ b → not b ≡ anticommutes l w (xor_words p q)
-  meets_odd e true f =
-      sym (anticommutes_none l w (xor_words p q)
-      (omega (arith, symplectic_xor l w p q, anticommutes_true l w p e, anticommutes_true l w q f)))
-  meets_odd e false f =
-      sym (anticommutes_one l w (xor_words p q)
-      (omega (arith, symplectic_xor l w p q, anticommutes_true l w p e, anticommutes_false l w q f)))
-
-  -- it commutes with p: as with q
-  meets_even : anticommutes l w p ≡ false → (b : Bool) → anticommutes l w q ≡ b → b ≡ anticommutes l w (xor_words p q)
-  meets_even e true f =
-      sym (anticommutes_one l w (xor_words p q)
-      (omega (arith, symplectic_xor l w p q, anticommutes_false l w p e, anticommutes_true l w q f)))
-  meets_even e false f =
-      sym (anticommutes_none l w (xor_words p q)
-      (omega (arith, symplectic_xor l w p q, anticommutes_false l w p e, anticommutes_false l w q f)))
+-- w anticommutes with a product exactly if with one of both and not with the other
+meets_both : (l : ℕ) (w p q : List ℕ) (a b : Bool) → anticommutes l w p ≡ a → anticommutes l w q ≡ b
+    → not (beq a b) ≡ anticommutes l w (xor_words p q)
+meets_both l w p q true true e f =
+    sym (anticommutes_none l w (xor_words p q)
+    (omega (arith, symplectic_xor l w p q, anticommutes_true l w p e, anticommutes_true l w q f)))
+meets_both l w p q true false e f =
+    sym (anticommutes_one l w (xor_words p q)
+    (omega (arith, symplectic_xor l w p q, anticommutes_true l w p e, anticommutes_false l w q f)))
+meets_both l w p q false true e f =
+    sym (anticommutes_one l w (xor_words p q)
+    (omega (arith, symplectic_xor l w p q, anticommutes_false l w p e, anticommutes_true l w q f)))
+meets_both l w p q false false e f =
+    sym (anticommutes_none l w (xor_words p q)
+    (omega (arith, symplectic_xor l w p q, anticommutes_false l w p e, anticommutes_false l w q f)))
 
 -- a word anticommutes with its product with q exactly if with q
 pub own_product : (l : ℕ) (p q : List ℕ) → anticommutes l p (xor_words p q) ≡ anticommutes l p q
-own_product l p q = sym (meets_even l p p q (anticommutes_none l p p (symplectic_self l p)) (anticommutes l p q) refl)
+own_product l p q =
+    sym (meets_both l p p q false (anticommutes l p q) (anticommutes_none l p p (symplectic_self l p)) refl) ∙ same (anticommutes l p q)
+  where
+    same : (b : Bool) → not (beq false b) ≡ b
+    same true = refl
+    same false = refl
 
 -- ---- axes
 
-module _ (z : Sizes) (ws : List ℕ) (x pa qa : ℕ) {r s : Bool} (first : r ≡ anticommute z.l (stored_axes z ws) x pa)
-    (second : s ≡ anticommute z.l (stored_axes z ws) x qa) where
-  pub word_odd : r ≡ true → not s ≡ meets_word z ws x pa qa
-  unfolding anticommute
-  word_odd e = meets_odd z.l (word_of (stored_axes z ws) x) (word_of (stored_axes z ws) pa) (word_of (stored_axes z ws) qa) (sym first ∙ e) s (sym second)
-
-  pub word_even : r ≡ false → s ≡ meets_word z ws x pa qa
-  unfolding anticommute
-  word_even e = meets_even z.l (word_of (stored_axes z ws) x) (word_of (stored_axes z ws) pa) (word_of (stored_axes z ws) qa) (sym first ∙ e) s (sym second)
+pub word_meets : (z : Sizes) (ws : List ℕ) (x pa qa : ℕ) {r s : Bool} → r ≡ anticommute z.l (stored_axes z ws) x pa
+    → s ≡ anticommute z.l (stored_axes z ws) x qa → not (beq r s) ≡ meets_word z ws x pa qa
+unfolding anticommute
+word_meets z ws x pa qa {r} {s} first second =
+    meets_both z.l (word_of (stored_axes z ws) x) (word_of (stored_axes z ws) pa) (word_of (stored_axes z ws) qa) r s (sym first) (sym second)
 
 -- ---- rows
 

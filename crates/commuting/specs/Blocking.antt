@@ -1,6 +1,7 @@
 -- A rotation that anticommutes with an axis blocks it. Assumes nothing.
-use Rattle.std.specs.Prelude.{◌≡◌, refl, Bool, true, false, List, ℕ, zero, suc, ◌+◌, ◌-◌, ◌≤◌, ◌<◌, leb}
-use Rattle.std.proofs.Common.{sym, ap, ◌∙◌, arith, leb-true, leb-false}
+use Rattle.std.specs.Prelude.{◌≡◌, refl, Bool, true, false, List, ℕ, zero, suc, ◌+◌, ◌-◌, ◌≤◌, ◌<◌, eqb, Option, Some, None, MatchOption, unwrap_or}
+use Rattle.std.proofs.Common.{sym, ap, ◌∙◌, arith, eq-eqb, ne_eqb}
+use Rattle.std.proofs.Math.Decide.{ℕ_discrete}
 use Rattle.model.specs.Words.{anticommute}
 use Rattle.model.specs.Items.{rot}
 use Rattle.model.specs.Layering.{commutes_with_all}
@@ -17,16 +18,16 @@ pub record Blocking (z : Sizes) (ws s : List ℕ) (b from end axis r : ℕ) : Ty
 
 -- so whether all commute
 pub commutes_by : {z : Sizes} {ws s : List ℕ} {b from end axis r : ℕ} → Blocking z ws s b from end axis r
-    → leb end r ≡ commutes_with_all z.l (stored_axes z ws) (rots_in s z.u b from (end - from)) (rot axis 0)
-commutes_by {z} {ws} {s} {b} {from} {end} {axis} {r} h = go (leb end r) refl ∙ sym (commutes_is z ws s b end axis from)
+    → eqb r end ≡ commutes_with_all z.l (stored_axes z ws) (rots_in s z.u b from (end - from)) (rot axis 0)
+commutes_by {z} {ws} {s} {b} {from} {end} {axis} {r} h = go (ℕ_discrete r end) ∙ sym (commutes_is z ws s b end axis from)
   where
-    go : (t : Bool) → leb end r ≡ t → leb end r ≡ commutes_from z ws s b end axis from
-    go true e = e ∙ sym (h.none (leb-true end r e))
-    go false e = e ∙ sym (h.some (leb-false end r e)).1
+    go : Dec (r ≡ end) → eqb r end ≡ commutes_from z ws s b end axis from
+    go (yes e) = eq-eqb r end e ∙ sym (h.none (omega arith))
+    go (no e) = ne_eqb r end e ∙ sym (h.some (omega (arith, h.high))).1
 
 module _ (z : Sizes) (ws s : List ℕ) (b end axis : ℕ) where
   -- whether the rotation at a place anticommutes
-  abbrev blocks : ℕ → Bool
+  abbrev pub blocks : ℕ → Bool
   blocks i = anticommute z.l (stored_axes z ws) (tagged_at s z.u b i).axis axis
 
   -- one behind place i blocks
@@ -41,6 +42,13 @@ module _ (z : Sizes) (ws s : List ℕ) (b end axis : ℕ) where
       go : (r : Bool) → blocks i ≡ r → commutes_from z ws s b end axis (i + 1) ≡ false → commutes_from z ws s b end axis i ≡ false
       go true t rest = commutes_not z ws s b end axis {i = i} (omega arith) refl refl t
       go false f rest = commutes_more z ws s b end axis {i = i} (omega arith) refl refl f ∙ rest
+
+  -- none from place i on does
+  passed : (d i : ℕ) → end - i ≡ d → ((k : ℕ) → i ≤ k → k < end → blocks k ≡ false) → commutes_from z ws s b end axis i ≡ true
+  passed zero i h f = commutes_end z ws s b end axis i (omega arith)
+  passed (suc d) i h f =
+      commutes_more z ws s b end axis {i = i} (omega arith) refl refl (f i (omega arith) (omega arith))
+      ∙ passed d (i + 1) (omega arith) (λ k m n. f k (omega arith) n)
 
 module _ {z : Sizes} {ws s : List ℕ} {b from end axis : ℕ} where
   -- the rotation at a place does
@@ -59,10 +67,17 @@ module _ {z : Sizes} {ws s : List ℕ} {b from end axis : ℕ} where
       }
 
   -- none does
-  pub blocking_none : {i : ℕ} → end ≤ i
-      → commutes_from z ws s b end axis from ≡ commutes_from z ws s b end axis i → Blocking z ws s b from end axis end
-  blocking_none {i} h e = record {
+  pub blocking_none : ((k : ℕ) → from ≤ k → k < end → blocks z ws s b end axis k ≡ false) → Blocking z ws s b from end axis end
+  blocking_none f = record {
     high = omega arith;
-    none = λ _. e ∙ commutes_end z ws s b end axis i h;
-    some = λ b. absurd (omega arith);
+    none = λ _. passed z ws s b end axis (end - from) from refl f;
+    some = λ h. absurd (omega arith);
   }
+
+  -- the first that does, or none
+  pub blocking_first : (o : Option ℕ) → MatchOption o ((k : ℕ) → from ≤ k → k < end → blocks z ws s b end axis k ≡ false)
+      (λ i. (from ≤ i) × (i < end) × (blocks z ws s b end axis i ≡ true)
+      × ((k : ℕ) → from ≤ k → k < i → blocks z ws s b end axis k ≡ false))
+      → Blocking z ws s b from end axis (unwrap_or o end)
+  blocking_first None f = blocking_none f
+  blocking_first (Some i) f = blocking_at f.0 f.1 refl refl f.2

@@ -83,3 +83,7 @@ module _ {z : Sizes} {ws xs : List ℕ} {b from end axis : ℕ} (h : CommutesPre
   pub axes_stored : {i other : ℕ} → from ≤ i → i < end → other ≡ (tagged_at xs z.u b i).axis
       → Stored z ws xs × (other < z.axes) × (axis < z.axes)
   axes_stored {i} low high e = (h.held, rw e (h.axes_in_lem i low high), h.axis_in)
+
+  pub axes_given : (i : ℕ) → from ≤ i → i < end → (other : ℕ) → other ≡ (tagged_at xs z.u b i).axis
+      → Stored z ws xs × (other < z.axes) × (axis < z.axes)
+  axes_given i low high other e = axes_stored low high e

@@ -25,13 +25,12 @@ pub fn first_blocking(
     requires { CommutesPre z words.now numbers.now b from end axis }
     ensures { Blocking z words.now numbers.now b from end axis result }
 {
-    for i in from..end {
-        let other = items::axis_at(numbers, z.u, b, i) as usize;
-        if axes::anticommute(words, numbers, z, other, axis) {
-            return i;
-        }
-    }
-    end
+    (from..end)
+        .find(|&i| {
+            let other = items::axis_at(numbers, z.u, b, i) as usize;
+            axes::anticommute(words, numbers, z, other, axis)
+        })
+        .unwrap_or(end)
 }
 
 // Whether an axis commutes with all of them.
@@ -48,5 +47,5 @@ pub fn commutes_with_all(
     ensures { result ≡ commutes_with_all z.l (stored_axes z words.now)
         (rots_in numbers.now z.u b from (end - from)) (rot axis 0) }
 {
-    first_blocking(words, numbers, z, b, from, end, axis) >= end
+    first_blocking(words, numbers, z, b, from, end, axis) == end
 }

@@ -1,29 +1,29 @@
--- The loop's invariant: what is left of the test decides, and the rows before p have passed. Assumes nothing.
-use mathlib.Core.Path.{refl, sym, ◌∙◌}
-use Rattle.certificate.specs.Turns.{rows_all, rows_pass, rows_fail, rows_done}
-use Rattle.certificate.specs.Earlier.{no_rows, one_row}
-use native.Mathlib.Omega.{arith}
+-- The rows in turn: each is tested where those before it have passed. Assumes nothing.
+use Rattle.std.proofs.Common.{◌≡◌, refl, sym, ◌∙◌, true, ◌≤◌, arith, rules, tests}
+use Rattle.layout.specs.Rows.{items_row}
+use Rattle.items.specs.View.{rot_at}
+use Rattle.certificate.specs.Ranges.{all_over, serves_in_turn}
+use Rattle.certificate.specs.Turns.{row_from, rows_from, rows_turn, rows_done, rows_all}
+use Rattle.certificate.specs.Earlier.{RowVanishPre, RowsPassed, no_rows, one_row}
 use Rattle.certificate.proofs.generators_commute.Goals as goal
 
-pub loop-p-init : goal.loop-p-init
-loop-p-init c = (omega arith, c.requires.first.order, refl, no_rows _ _ _ _ _)
-
-pub row_vanishes-requires : goal.row_vanishes-requires
-row_vanishes-requires c = record { groups = c.requires; from_in = c.loop-p.invariant.0; end_in = c.loop-p-test.true; rows = c.loop-p.invariant.3 }
-
-pub returns-then-not-row_vanishes : goal.returns-then-not-row_vanishes
-returns-then-not-row_vanishes c =
-    sym (rows_all c.args.z _ _ _ _ ∙ c.loop-p.invariant.2 ∙ rows_fail _ _ _ _ _ _ c.loop-p-test.true
-    c.row_vanishes.ensures c.if-not-row_vanishes.true)
-
-pub loop-p-preserved : goal.loop-p-preserved
-loop-p-preserved c = (
-  omega arith,
-  omega arith,
-  c.loop-p.invariant.2 ∙ rows_pass _ _ _ _ _ _ c.loop-p-test.true c.row_vanishes.ensures
-      c.if-not-row_vanishes.false,
-  one_row c.loop-p.invariant.3 c.row_vanishes.ensures c.if-not-row_vanishes.false,
-)
+pub all-requires-clause-callable : goal.all-requires-clause-callable
+all-requires-clause-callable c =
+    let a = c.args in
+    serves_in_turn (λ p. (a.a.from ≤ p) × RowsPassed a.z a.words.now a.numbers.now a.a a.b p) (λ p s k. search (rules, tests))
+    (λ p s high past k.
+    let e : true ≡ row_from a.z a.words.now a.numbers.now a.a a.b (rot_at a.numbers.now a.z.u items_row p) a.b.from = search (rules, tests) in
+    (omega (arith, past.0), one_row past.1 e refl))
+    (λ p high past.
+    let row : RowVanishPre a.z a.words.now a.numbers.now a.a a.b p =
+    record { groups = c.requires; from_in = past.0; end_in = high; rows = past.1 } in
+    search (rules, row))
+    (omega arith, no_rows _ _ _ _ _)
 
 pub returns : goal.returns
-returns c = sym (rows_all c.args.z _ _ _ _ ∙ c.loop-p.invariant.2 ∙ rows_done _ _ _ _ _ _ c.loop-p-test.false)
+returns c =
+    let a = c.args in
+    all_over _ _ _ (λ p. row_from a.z a.words.now a.numbers.now a.a a.b (rot_at a.numbers.now a.z.u items_row p) a.b.from)
+    (rows_from a.z a.words.now a.numbers.now a.a a.b) c.all.ensures.ran
+    (λ p b s k. search (rules, tests)) (λ p high. rows_turn _ _ _ _ _ _ high) (λ p over. rows_done _ _ _ _ _ _ over)
+    ∙ sym (rows_all _ _ _ _ _)

@@ -7,7 +7,7 @@ use Rattle.certificate.proofs.row_sum.Given as goal
 
 abbrev pub invariant-loop-q : goal.invariant-loop-q
 invariant-loop-q l =
-    (l.from ≤ l.q) × (l.q ≤ l.end) × (l.sum ≡ row_to l.z l.words l.numbers (rot_said l.x) l.from l.q l.pa l.qa)
+    (l.fn.b.from ≤ l.q) × (l.q ≤ l.fn.b.end) × (l.sum ≡ row_to l.z l.words l.numbers (rot_said l.x) l.fn.b.from l.q l.pa l.qa)
 
 abbrev pub decreases-loop-q : goal.decreases-loop-q
-decreases-loop-q l = l.end - l.q
+decreases-loop-q l = l.fn.b.end - l.q

@@ -1,29 +1,30 @@
--- The loop's invariant: what is left of the row's test decides, and the pairs before q have passed. Assumes nothing.
-use mathlib.Core.Path.{refl, sym, ◌∙◌}
-use Rattle.certificate.specs.Turns.{row_pass, row_fail, row_done}
-use Rattle.certificate.specs.Earlier.{none_passed, one_passed}
-use native.Mathlib.Omega.{arith}
+-- The pairs in turn: each is tested where those before it have passed. Assumes nothing.
+use Rattle.std.proofs.Common.{◌≡◌, refl, true, ◌≤◌, arith, rules, tests}
+use Rattle.layout.specs.Rows.{items_row}
+use Rattle.items.specs.View.{rot_at}
+use Rattle.certificate.specs.Ranges.{all_over, serves_in_turn}
+use Rattle.certificate.specs.Turns.{axis_at, pair_vanishes, row_from, row_next, row_done}
+use Rattle.certificate.specs.Earlier.{PairPre, Passed, none_passed, one_passed}
 use Rattle.certificate.proofs.row_vanishes.Goals as goal
 
-pub loop-q-init : goal.loop-q-init
-loop-q-init c = (omega arith, c.requires.groups.second.order, refl, none_passed _ _ _ _ _ _ _)
-
-pub pair_vanishes-requires : goal.pair_vanishes-requires
-pair_vanishes-requires c = record { row = c.requires; low = c.loop-q.invariant.0; high = c.loop-q-test.true; earlier = c.loop-q.invariant.3 }
-
-pub returns-then-not-pair_vanishes : goal.returns-then-not-pair_vanishes
-returns-then-not-pair_vanishes c =
-    sym (c.loop-q.invariant.2 ∙ row_fail _ _ _ _ _ _ _ c.loop-q-test.true c.pair_vanishes.ensures
-    c.if-not-pair_vanishes.true)
-
-pub loop-q-preserved : goal.loop-q-preserved
-loop-q-preserved c = (
-  omega arith,
-  omega arith,
-  c.loop-q.invariant.2 ∙ row_pass _ _ _ _ _ _ _ c.loop-q-test.true c.pair_vanishes.ensures
-      c.if-not-pair_vanishes.false,
-  one_passed c.loop-q.invariant.3 c.pair_vanishes.ensures c.if-not-pair_vanishes.false,
-)
+pub all-requires-clause-callable : goal.all-requires-clause-callable
+all-requires-clause-callable c =
+    let a = c.args in
+    let x = axis_at a.z a.numbers.now a.p in
+    serves_in_turn (λ q. (a.b.from ≤ q) × Passed a.z a.words.now a.numbers.now a.a a.b x a.b.from q) (λ q s k. search (rules, tests))
+    (λ q s high past k.
+    let e : true ≡ pair_vanishes a.z a.words.now a.numbers.now a.a a.b x (axis_at a.z a.numbers.now q) = search (rules, tests) in
+    (omega (arith, past.0), one_passed past.1 e refl))
+    (λ q high past.
+    let pair : PairPre a.z a.words.now a.numbers.now a.a a.b a.p q =
+    record { row = c.requires; low = past.0; high = high; earlier = past.1 } in
+    search (rules, pair))
+    (omega arith, none_passed _ _ _ _ _ _ _)
 
 pub returns : goal.returns
-returns c = sym (c.loop-q.invariant.2 ∙ row_done _ _ _ _ _ _ _ c.loop-q-test.false)
+returns c =
+    let a = c.args in
+    all_over _ _ _
+    (λ q. pair_vanishes a.z a.words.now a.numbers.now a.a a.b (axis_at a.z a.numbers.now a.p) (axis_at a.z a.numbers.now q))
+    (row_from a.z a.words.now a.numbers.now a.a a.b (rot_at a.numbers.now a.z.u items_row a.p)) c.all.ensures.ran
+    (λ q b s k. search (rules, tests)) (λ q high. row_next _ _ _ _ _ _ _ high) (λ q over. row_done _ _ _ _ _ _ _ over)

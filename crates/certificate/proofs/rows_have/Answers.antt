@@ -1,20 +1,9 @@
--- The loop's invariant: the item lies between. Assumes nothing.
-use mathlib.Core.Bool.{false≢true}
-use Rattle.certificate.specs.Earlier.{rows_row, rows_found}
-use native.Mathlib.Omega.{arith}
+-- An item that has the word with one of the group. Assumes nothing.
+use Rattle.std.proofs.Common.{rules, tests}
+use Rattle.std.proofs.lemmas.Iterator.{serves_from_Range}
+use Rattle.certificate.specs.Earlier.{rows_row}
 use Rattle.certificate.proofs.rows_have.Goals as goal
 
-pub loop-p-init : goal.loop-p-init
-loop-p-init c = (omega arith, c.requires.rots.order)
-
-pub row_has-requires : goal.row_has-requires
-row_has-requires c = rows_row c.requires _ c.loop-p.invariant.0 c.loop-p-test.true
-
-pub returns-then-row_has : goal.returns-then-row_has
-returns-then-row_has c = λ e. rows_found c.requires _ c.loop-p.invariant.0 c.loop-p-test.true (c.row_has.ensures c.if-row_has.true)
-
-pub loop-p-preserved : goal.loop-p-preserved
-loop-p-preserved c = (omega arith, omega arith)
-
-pub returns : goal.returns
-returns c = λ e. absurd (false≢true e)
+pub any-requires-clause-callable : goal.any-requires-clause-callable
+any-requires-clause-callable c =
+    serves_from_Range (λ x q k. search (rules, tests)) (λ x low high. search (rules, rows_row c.requires x low high))

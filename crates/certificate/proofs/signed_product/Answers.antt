@@ -34,12 +34,12 @@ overflow_mul-v c = fits_as 16 (omega arith) (times _ _ c.signed.ensures c.signed
 pub returns-then-e-eq1 : goal.returns-then-e-eq1
 returns-then-e-eq1 c =
     read_as 16 (omega arith) (times _ _ c.signed.ensures c.signed-2.ensures) (angles_small _ _)
-    ∙ product_one _ _ c.in-Anticommute.is c.if-e-eq1.true
+    ∙ product_one _ _ c.in-Some.is c.if-e-eq1.true
 
 pub overflow_sub-result : goal.overflow_sub-result
 overflow_sub-result c = fits_as 16 (omega arith) (opposite _ _ c.signed.ensures c.signed-2.ensures) (opposite-small _ _)
 
-pub returns : goal.returns
-returns c =
+pub returns-else-e-eq1 : goal.returns-else-e-eq1
+returns-else-e-eq1 c =
     read_as 16 (omega arith) (opposite _ _ c.signed.ensures c.signed-2.ensures) (opposite-small _ _)
-    ∙ product_three _ _ c.in-Anticommute.is c.if-e-eq1.false
+    ∙ product_three _ _ c.in-Some.is c.if-e-eq1.false

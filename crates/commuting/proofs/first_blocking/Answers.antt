@@ -1,30 +1,23 @@
--- The loop's invariant: what is left from place i on decides. Assumes nothing.
-use mathlib.Core.Path.{refl, ◌∙◌}
-use Rattle.commuting.specs.Commuting.{commutes_more, entry_in, axes_stored}
-use Rattle.commuting.specs.Blocking.{blocking_at, blocking_none}
-use native.Mathlib.Omega.{arith}
+-- The first that anticommutes, found by its axis. Assumes nothing.
+use Rattle.std.proofs.Common.{◌≡◌, true, false, rules, tests}
+use Rattle.std.proofs.lemmas.Iterator.{first_from_Range, serves_from_Range}
+use Rattle.commuting.specs.Commuting.{entry_in, axes_given}
+use Rattle.commuting.specs.Blocking.{blocks, blocking_first}
 use Rattle.commuting.proofs.first_blocking.Goals as goal
 
-pub loop-i-init : goal.loop-i-init
-loop-i-init c = (omega arith, refl)
-
-pub axis_at-other-requires : goal.axis_at-other-requires
-axis_at-other-requires c = entry_in c.requires _ c.loop-i-test.true
-
-pub anticommute-requires : goal.anticommute-requires
-anticommute-requires c = axes_stored c.requires c.loop-i.invariant.0 c.loop-i-test.true c.axis_at-other.ensures
-
-pub returns-then-anticommute : goal.returns-then-anticommute
-returns-then-anticommute c =
-    blocking_at c.loop-i.invariant.0 c.loop-i-test.true c.axis_at-other.ensures c.anticommute.ensures
-    c.if-anticommute.true
-
-pub loop-i-preserved : goal.loop-i-preserved
-loop-i-preserved c = (
-  omega (arith, c.loop-i.invariant.0),
-  c.loop-i.invariant.1 ∙ commutes_more _ _ _ _ _ _ c.loop-i-test.true c.axis_at-other.ensures
-      c.anticommute.ensures c.if-anticommute.false,
-)
+pub find-requires : goal.find-requires
+find-requires c = record {
+  can = tt;
+  finite = tt;
+  callable = serves_from_Range (λ x q k. search (rules, tests))
+      (λ x low high. search (rules, entry_in c.requires x high, axes_given c.requires x low high));
+}
 
 pub returns : goal.returns
-returns c = blocking_none c.loop-i-test.false c.loop-i.invariant.1
+returns c =
+    let a = c.args in
+    rw c.unwrap_or.ensures
+    (blocking_first _
+    (first_from_Range _ _ _ _ (λ i. blocks a.z a.words.now a.numbers.now a.b a.end a.axis i ≡ true)
+    (λ i. blocks a.z a.words.now a.numbers.now a.b a.end a.axis i ≡ false) c.find.ensures.ran
+    (λ x q k. search (rules, tests)) (λ x q k. search (rules, tests))))
