@@ -6,8 +6,7 @@ use mathlib.Core.List.{List, []}
 use Rattle.std.proofs.Math.Dec.{eqb}
 use Rattle.std.proofs.lemmas.List.{length-replicate}
 use Rattle.store.specs.Part.{part, part_cut}
-use Rattle.model.specs.declared.Answer.{Answer}
-use Rattle.model.specs.declared.Answer.TheVariants.{Accepted, BadReference, BadOperation, BadOutcome}
+use Rattle.model.specs.Answers.{Answer, Accepted, BadReference, BadOperation, BadOutcome}
 use Rattle.model.specs.Lists.{any_of, member}
 use Rattle.model.specs.Interface.{number_of}
 use Rattle.model.specs.Program.{field_of, largest_outcome, no_outcome}

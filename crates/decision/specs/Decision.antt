@@ -3,8 +3,8 @@ use Rattle.std.specs.Prelude.{◌≡◌, refl, List, ℕ, ◌<◌, Result, Ok, E
 use Rattle.std.proofs.Common.{sym, ap, ◌∙◌, subst, arith}
 use Rattle.pauli.specs.Word.{width}
 use Rattle.model.specs.declared.Options.{Options}
-use Rattle.model.specs.declared.Answer.{Answer}
-use Rattle.model.specs.declared.Answer.TheVariants as answers
+use Rattle.model.specs.Answers.{Answer}
+use Rattle.model.specs.Answers as answers
 use Rattle.model.specs.Interface.{number_of}
 use Rattle.model.specs.Program.{Program}
 use Rattle.model.specs.Packing.{packed}

@@ -8,8 +8,7 @@ use mathlib.Core.List.{List}
 use Rattle.std.proofs.Math.ListN.{length}
 use Rattle.store.specs.Part.{put}
 use Rattle.model.specs.declared.Counts.{Counts}
-use Rattle.model.specs.declared.Answer.{Answer}
-use Rattle.model.specs.declared.Answer.TheVariants.{Accepted, SliceShort, BadText}
+use Rattle.model.specs.Answers.{Answer, Accepted, SliceShort, BadText}
 use Rattle.model.specs.Interface.{accepts}
 use Rattle.model.specs.Program.{Job}
 use Rattle.model.specs.Checking.{Lent}

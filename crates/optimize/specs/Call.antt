@@ -4,8 +4,7 @@ use Rattle.std.proofs.Math.Path.{sym, subst}
 use Rattle.std.proofs.Common.{ap, ◌∙◌, ltb-false, eq-eqb, ne_eqb}
 use Rattle.model.specs.declared.Options.{Options}
 use Rattle.model.specs.declared.Counts.{Counts}
-use Rattle.model.specs.declared.Answer.{Answer}
-use Rattle.model.specs.declared.Answer.TheVariants.{Accepted}
+use Rattle.model.specs.Answers.{Answer, Accepted}
 use Rattle.model.specs.Interface.{accepts, number_of}
 use Rattle.model.specs.Program.{Job}
 use Rattle.model.specs.Checking.{Lent, bad_count, bad_option, checking}

@@ -7,8 +7,7 @@ use mathlib.Core.List.{List, flatten}
 use Rattle.std.proofs.Math.Dec.{ltb}
 use Rattle.std.proofs.Math.ListN.{length}
 use Rattle.model.specs.declared.Options.{Options}
-use Rattle.model.specs.declared.Answer.{Answer}
-use Rattle.model.specs.declared.Answer.TheVariants.{Accepted, NonHermitianAxis, ExpansionLimit}
+use Rattle.model.specs.Answers.{Answer, Accepted, NonHermitianAxis, ExpansionLimit}
 use Rattle.model.specs.Lists.{when◌then◌else◌}
 use Rattle.model.specs.Program.{Program}
 use Rattle.model.specs.Rules.{Rules, rules_of}

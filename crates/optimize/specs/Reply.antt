@@ -1,7 +1,7 @@
 -- A reply of the model as the code hands it back. Assumes nothing.
 use Rattle.std.specs.Prelude.{◌≡◌, refl, List, ℕ}
 use Rattle.std.proofs.Common.{ap}
-use Rattle.model.specs.declared.Answer.{Answer}
+use Rattle.model.specs.Answers.{Answer}
 use Rattle.model.specs.declared.Counters.{Counters}
 use Rattle.model.specs.Interface.{no_counters}
 use Rattle.model.specs.Checking.{Lent}

@@ -1,7 +1,7 @@
 -- Packing refuses where the run does: with the run's answer, whatever the passes would do after it. Assumes nothing.
 use Rattle.std.specs.Prelude.{◌≡◌, refl, Bool, true, false, ℕ, ltb}
 use Rattle.std.proofs.Common.{sym, ap, ◌∙◌, lt_of_lt_of_le, ltb-true, ltb-false}
-use Rattle.model.specs.declared.Answer.TheVariants.{Accepted}
+use Rattle.model.specs.Answers.{Accepted}
 use Rattle.model.specs.Program.{Program}
 use Rattle.model.specs.Rules.{Rules}
 use Rattle.model.specs.Run.{non_hermitian, run, answer_of}

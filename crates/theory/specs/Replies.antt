@@ -7,10 +7,8 @@ use borrow.Author.Tests.{lt-ltb, le-ltb, le-leb, leb-true, eqb-true, ne_eqb}
 use Rattle.model.specs.declared.Lazy.{Lazy}
 use Rattle.model.specs.declared.Lazy.TheVariants.{Off, On, From}
 use Rattle.model.specs.declared.Options.{Options}
-use Rattle.model.specs.declared.Answer.{Answer}
-use Rattle.model.specs.declared.Answer.TheVariants.{Accepted, CountOutside, OptionOutside, SliceShort, BadNode, BadQubit, BadReference}
-use Rattle.model.specs.declared.Answer.TheVariants.{BadOperation}
-use Rattle.model.specs.declared.Answer.TheVariants.{BadOutcome, NonHermitianAxis, ExpansionLimit, BadPlace}
+use Rattle.model.specs.Answers.{Answer, Accepted, CountOutside, OptionOutside, SliceShort, BadNode, BadQubit, BadReference, BadOperation, BadOutcome}
+use Rattle.model.specs.Answers.{NonHermitianAxis, ExpansionLimit, BadPlace}
 use Rattle.model.specs.Lists.{when◌then◌else◌}
 use Rattle.model.specs.Interface.{number_of, accepts, of_checking}
 use Rattle.model.specs.Program.{field_of, Job, operation_records, Program, program_of}

@@ -1,7 +1,7 @@
 -- What the exported functions are handed, answer and leave, by the model. Assumes nothing.
 use Rattle.std.specs.Prelude.{◌≡◌, refl, Bool, true, false, List, [], ◌∷◌, ℕ}
 use Rattle.std.proofs.Common.{sym, ap, ap₂, ◌∙◌}
-use Rattle.model.specs.declared.Answer.{Answer}
+use Rattle.model.specs.Answers.{Answer}
 use Rattle.model.specs.declared.Counters.{Counters}
 use Rattle.model.specs.declared.Counts.{Counts}
 use Rattle.model.specs.declared.Lazy.{Lazy}
