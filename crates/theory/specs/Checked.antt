@@ -1,6 +1,6 @@
 -- What a Checking that passes says of the program. Assumes nothing.
 use Rattle.std.specs.Prelude.{◌≡◌, refl, Bool, true, false, not, ◌||◌, List, [], ◌∷◌, map, ℕ, zero, suc, ◌/◌, ◌%◌, ◌≤◌, ◌<◌, eqb, ltb, leb, length, get_or, Ok, Err}
-use Rattle.std.proofs.Common.{sym, ap, ◌∙◌, true≢false, arith, eqb-true, ltb-false, leb-false}
+use Rattle.std.proofs.Common.{sym, ap, ◌∙◌, true≢false, arith, eqb-true, ne_eqb, ltb-false, leb-false}
 use Rattle.std.proofs.lemmas.List.{length-map}
 use Rattle.store.specs.Chunk.{chunks, chunks_length}
 use Rattle.model.specs.declared.Lazy.TheVariants.{Off}
@@ -52,6 +52,10 @@ numbered (Err r) = go r
 -- no two have one number
 pub same_number : (a b : Answer) → number_of a ≡ number_of b → a ≡ b
 same_number a b e = sym (numbered a) ∙ ap (λ (n : ℕ). get_or answers n Accepted) e ∙ numbered b
+
+-- 0 is the number of no refusal
+pub refuses : (r : Refusal) → accepts (Err r) ≡ false
+refuses r = ne_eqb (refusal_number r) 0 (λ e. let f : Err r ≡ Accepted = same_number (Err r) Accepted e in cc)
 
 -- the work goes on only after 0
 pub accepts_only : (a : Answer) → accepts a ≡ true → a ≡ Accepted

@@ -7,16 +7,11 @@ use Rattle.checking.proofs.check_nodes.Goals as goal
 pub loop-i-init : goal.loop-i-init
 loop-i-init c = all_left (nodes_walk _ _)
 
-pub check_node-a-requires : goal.check_node-a-requires
-check_node-a-requires c = simp (length-take, length-drop) (omega arith)
-
-pub returns-then-number_of-ne0 : goal.returns-then-number_of-ne0
-returns-then-number_of-ne0 c =
-    refused (nodes_walk _ _) c.loop-i.invariant (omega arith) c.check_node-a.ensures c.number_of.ensures
-    c.if-number_of-ne0.true
+pub check_node-requires : goal.check_node-requires
+check_node-requires c = simp (length-take, length-drop) (omega arith)
 
 pub loop-i-preserved : goal.loop-i-preserved
-loop-i-preserved c = passes (nodes_walk _ _) c.loop-i.invariant (omega arith) c.check_node-a.ensures c.number_of.ensures c.if-number_of-ne0.false
+loop-i-preserved c = passes (nodes_walk _ _) c.loop-i.invariant (omega arith) c.check_node.ensures c.in_ok-check_node.was
 
 pub returns : goal.returns
 returns c = none_left (nodes_walk _ _) c.loop-i.invariant (omega arith)
