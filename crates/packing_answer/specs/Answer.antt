@@ -1,54 +1,34 @@
 -- How packing ends, by the model's packed program. Assumes nothing.
-use Rattle.std.specs.Prelude.{◌≡◌, Bool, ℕ, ◌≤◌, ◌<◌, length}
+use Rattle.std.specs.Prelude.{◌≡◌, Bool, ℕ, ◌≤◌, ◌<◌, length, Result, Ok, Err}
 use Rattle.std.proofs.Math.Path.{refl, sym, ap₂}
-use Rattle.std.proofs.Common.{ap, ◌∙◌, arith}
+use Rattle.std.proofs.Common.{ap, ◌∙◌}
 use Rattle.std.proofs.Math.Bool.{true, false}
 use Rattle.std.proofs.Math.Dec.{ltb}
 use borrow.Author.Tests.{lt-ltb, le-ltb, ltb-false}
 use Rattle.model.specs.Answers.{Answer}
 use Rattle.model.specs.Answers as answers
 use Rattle.model.specs.Lists.{when◌then◌else◌}
-use Rattle.model.specs.Interface.{number_of}
 use Rattle.model.specs.Packing.{Pack}
 use Rattle.theory.specs.Cases.{if_true, if_false}
-use Rattle.packing_answer.specs.declared.Packed.{Packed}
-use Rattle.packing_answer.specs.declared.Packed.TheVariants.{Axes, NonHermitianAxis, ExpansionLimit}
+use Rattle.packing_answer.specs.declared.PackedAxes.{PackedAxes}
+use Rattle.packing_answer.specs.declared.PackingRefusal.{PackingRefusal}
+use Rattle.packing_answer.specs.declared.PackingRefusal.TheVariants.{NonHermitianAxis, ExpansionLimit}
+
+-- packing is accepted with so many axes, the largest sum that was tested beside
+abbrev pub packed_with : ℕ → ℕ → Result PackedAxes PackingRefusal
+packed_with n q = Ok (record { count = n; peak = q })
 
 -- "9 a root's total phase is odd; 10 a tested word sum exceeds the limit": the first sum above the limit ends the work
-unfoldable pub packed_answer : ℕ → Pack → Packed
+unfoldable pub packed_answer : ℕ → Pack → Result PackedAxes PackingRefusal
 packed_answer limit k =
-    when ltb limit k.store.peak then ExpansionLimit
-    else when k.refused then NonHermitianAxis else Axes (length k.store.axes) k.store.peak
+    when ltb limit k.store.peak then Err ExpansionLimit
+    else when k.refused then Err NonHermitianAxis else packed_with (length k.store.axes) k.store.peak
 
 -- 01's answer
-abbrev pub packing_answer : Packed → Answer
-packing_answer (Axes n q) = answers.Accepted
-packing_answer NonHermitianAxis = answers.NonHermitianAxis
-packing_answer ExpansionLimit = answers.ExpansionLimit
-
--- how many axes there are where packing is accepted, else the number before
-unfoldable pub axes_after : ℕ → Packed → ℕ
-axes_after before (Axes n q) = n
-axes_after before NonHermitianAxis = before
-axes_after before ExpansionLimit = before
-
--- the largest sum that was tested by then
-unfoldable peak_after : Packed → ℕ
-peak_after (Axes n q) = q
-peak_after NonHermitianAxis = 0
-peak_after ExpansionLimit = 0
-
--- ---- the ends differ
-
-pub same_axes : {m n p q : ℕ} → Axes m p ≡ Axes n q → m ≡ n
-unfolding axes_after
-same_axes e = ap (axes_after 0) e
-
-pub odd_no_axes : {n q : ℕ} → NonHermitianAxis ≡ Axes n q → ⊥
-odd_no_axes e = let z : ◌≡◌ {A = ℕ} 9 0 = ap (λ (r : Packed). number_of (packing_answer r)) e in omega arith
-
-pub limit_no_axes : {n q : ℕ} → ExpansionLimit ≡ Axes n q → ⊥
-limit_no_axes e = let z : ◌≡◌ {A = ℕ} 10 0 = ap (λ (r : Packed). number_of (packing_answer r)) e in omega arith
+abbrev pub packing_answer : Result PackedAxes PackingRefusal → Answer
+packing_answer (Ok a) = answers.Accepted
+packing_answer (Err NonHermitianAxis) = answers.NonHermitianAxis
+packing_answer (Err ExpansionLimit) = answers.ExpansionLimit
 
 -- ---- the end, by what the packed program is
 
@@ -59,29 +39,28 @@ pub record AcceptedSo (limit : ℕ) (k : Pack) (q : ℕ) : Type 0 where
   pub peak_is : k.store.peak ≡ q
 
 module _ (limit : ℕ) (k : Pack) where
-  pub answer_limit : limit < k.store.peak → ExpansionLimit ≡ packed_answer limit k
+  pub answer_limit : limit < k.store.peak → Err ExpansionLimit ≡ packed_answer limit k
   unfolding packed_answer
   answer_limit h = sym (if_true _ _ (lt-ltb limit k.store.peak h))
 
-  pub answer_odd : k.store.peak ≤ limit → k.refused ≡ true → NonHermitianAxis ≡ packed_answer limit k
+  pub answer_odd : k.store.peak ≤ limit → k.refused ≡ true → Err NonHermitianAxis ≡ packed_answer limit k
   unfolding packed_answer
   answer_odd h r = sym (if_false _ _ (le-ltb limit k.store.peak h) ∙ if_true _ _ r)
 
   pub answer_axes : k.store.peak ≤ limit → k.refused ≡ false → (n q : ℕ) → length k.store.axes ≡ n → k.store.peak ≡ q
-      → Axes n q ≡ packed_answer limit k
+      → packed_with n q ≡ packed_answer limit k
   unfolding packed_answer
-  answer_axes h r n q e f = sym (if_false _ _ (le-ltb limit k.store.peak h) ∙ if_false _ _ r ∙ ap₂ Axes e f)
+  answer_axes h r n q e f = sym (if_false _ _ (le-ltb limit k.store.peak h) ∙ if_false _ _ r ∙ ap₂ packed_with e f)
 
   -- accepted: no sum above the limit, no root refused
-  pub accepted_so : {n q : ℕ} → Axes n q ≡ packed_answer limit k → AcceptedSo limit k q
-  unfolding packed_answer peak_after
+  pub accepted_so : {n q : ℕ} → packed_with n q ≡ packed_answer limit k → AcceptedSo limit k q
+  unfolding packed_answer
   accepted_so {n} {q} e = go (ltb limit k.store.peak) refl k.refused refl
     where
       go : (a : Bool) → ltb limit k.store.peak ≡ a → (b : Bool) → k.refused ≡ b → AcceptedSo limit k q
-      go true f b g = absurd (limit_no_axes (sym (e ∙ if_true _ _ f)))
-      go false f true g = absurd (odd_no_axes (sym (e ∙ if_false _ _ f ∙ if_true _ _ g)))
-      go false f false g = record {
-        within = ltb-false limit k.store.peak f;
-        going = g;
-        peak_is = sym (ap peak_after (e ∙ if_false _ _ f ∙ if_false _ _ g));
-      }
+      go true f b g = let no : packed_with n q ≡ Err ExpansionLimit = e ∙ if_true _ _ f in cc
+      go false f true g = let no : packed_with n q ≡ Err NonHermitianAxis = e ∙ if_false _ _ f ∙ if_true _ _ g in cc
+      go false f false g =
+          let whole : packed_with n q ≡ packed_with (length k.store.axes) k.store.peak = e ∙ if_false _ _ f ∙ if_false _ _ g in
+          let same : ◌≡◌ {A = PackedAxes} (record { count = length k.store.axes; peak = k.store.peak }) (record { count = n; peak = q }) = cc in
+          record { within = ltb-false limit k.store.peak f; going = g; peak_is = ap (λ (a : PackedAxes). a.peak) same }
