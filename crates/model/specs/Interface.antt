@@ -1,5 +1,5 @@
 -- The interface's types in 01's words: the answers' numbers, Rust's defaults, counters at 0. Assumes nothing.
-use Rattle.std.specs.Prelude.{Bool, true, false, ◌&&◌, ◌||◌, ℕ, eqb, leb, Result, Ok, Err}
+use Rattle.std.specs.Prelude.{Bool, true, false, ◌&&◌, ◌||◌, ℕ, eqb, leb, Ok, Err}
 use Rattle.model.specs.declared.Lazy.TheVariants.{Off}
 use Rattle.model.specs.declared.Strategy.TheVariants.{Merge}
 use Rattle.model.specs.declared.Options.{Options}

@@ -1,4 +1,5 @@
 -- The loop's invariant: what is left to check from operation i on, with the outcomes before it, answers for all, and the table has these
+use Rattle.std.proofs.lemmas.Result.{err_from_is_err_and}
 use lib.ListN.{length-take, length-drop}
 use Rattle.checking.specs.Walk.{all_left, none_left, passes, refused}
 use Rattle.checking.specs.Outcomes.{seen_by, none_seen, seen_next, operations_walk}
@@ -18,6 +19,12 @@ loop-i-preserved c = (
   seen_next _ _
       ((c.check_operation.ensures _ c.loop-i.invariant.1).entered c.in_ok-check_operation.was),
 )
+
+pub returns-in_err-check_operation : goal.returns-in_err-check_operation
+unfolding seen_by
+returns-in_err-check_operation c =
+    let p = err_from_is_err_and c.from_residual.result c.from_residual.ensures.1 in
+    rw (p.1, p.2) (refused (operations_walk _ _) c.loop-i.invariant.0 (omega arith) (c.check_operation.ensures _ c.loop-i.invariant.1).answer c.in_err-check_operation.was)
 
 pub returns : goal.returns
 unfolding seen_by
