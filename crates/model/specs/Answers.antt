@@ -44,3 +44,8 @@ BadText = Err refusals.BadText
 
 abbrev pub BadPlace : Answer
 BadPlace = Err refusals.BadPlace
+
+-- the answer of a call that hands back more where it is accepted
+abbrev pub answer_in : {T : Type 0} → Result T Refusal → Answer
+answer_in (Ok x) = Accepted
+answer_in (Err r) = Err r
