@@ -6,10 +6,8 @@ use mathlib.Core.List.{List, []}
 use Rattle.std.proofs.Math.Dec.{eqb}
 use Rattle.std.proofs.lemmas.List.{length-replicate}
 use Rattle.store.specs.Part.{part, part_cut}
-use Rattle.model.specs.declared.Answer.{Answer}
-use Rattle.model.specs.declared.Answer.TheVariants.{Accepted, BadReference, BadOperation, BadOutcome}
+use Rattle.model.specs.Answers.{Answer, Accepted, BadReference, BadOperation, BadOutcome}
 use Rattle.model.specs.Lists.{any_of, member}
-use Rattle.model.specs.Interface.{number_of}
 use Rattle.model.specs.Program.{field_of, largest_outcome, no_outcome}
 use Rattle.model.specs.Checking.{bad_operation, bad_reference, bad_outcome, measured, check_operation, check_operations}
 use Rattle.theory.specs.Cases.{if_true, if_false, neither}
@@ -24,7 +22,7 @@ pub record Entered (seen t : List ℕ) : Type 0 where
 -- what checking one operation leaves: its answer, and its outcome in the table if it passes
 pub record Checked (nodes : ℕ) (seen r : List ℕ) (a : Answer) (t : List ℕ) : Type 0 where
   pub answer : a ≡ check_operation nodes seen r
-  pub entered : number_of a ≡ 0 → Entered (measured seen r) t
+  pub entered : a ≡ Accepted → Entered (measured seen r) t
 
 -- an operation that passes refusal 7 and is no plain rotation has an outcome in range
 pub outcome_small : (r : List ℕ) → bad_operation r ≡ false → (field_of r 0 ≡ 1 → ⊥) → field_of r 4 ≤ largest_outcome
@@ -72,7 +70,7 @@ module _ {nodes : ℕ} {seen r t : List ℕ} {b : Bool} (kind : b ≡ bad_operat
   unfolding check_operation
   operation_bad e = record {
     answer = sym (if_true _ _ (sym kind ∙ e));
-    entered = λ z. absurd (omega arith);
+    entered = λ h. cc;
   }
 
   module _ (known : b ≡ false) {d : Bool} (reference : d ≡ bad_reference nodes (field_of r 1) (field_of r 2)) where
@@ -80,7 +78,7 @@ module _ {nodes : ℕ} {seen r t : List ℕ} {b : Bool} (kind : b ≡ bad_operat
     unfolding check_operation
     reference_bad e = record {
       answer = sym (if_false _ _ (sym kind ∙ known) ∙ if_true _ _ (sym reference ∙ e));
-      entered = λ z. absurd (omega arith);
+      entered = λ h. cc;
     }
 
     module _ (inside : d ≡ false) {f : Bool} (outcome : f ≡ bad_outcome seen r) where
@@ -88,14 +86,14 @@ module _ {nodes : ℕ} {seen r t : List ℕ} {b : Bool} (kind : b ≡ bad_operat
       unfolding check_operation
       outcome_bad e = record {
         answer = sym (if_false _ _ (sym kind ∙ known) ∙ if_false _ _ (sym reference ∙ inside) ∙ if_true _ _ (sym outcome ∙ e));
-        entered = λ z. absurd (omega arith);
+        entered = λ h. cc;
       }
 
       pub operation_passes : f ≡ false → Entered (measured seen r) t → Checked nodes seen r Accepted t
       unfolding check_operation
       operation_passes e g = record {
         answer = sym (if_false _ _ (sym kind ∙ known) ∙ if_false _ _ (sym reference ∙ inside) ∙ if_false _ _ (sym outcome ∙ e));
-        entered = λ z. g;
+        entered = λ h. g;
       }
 
 -- ---- operations one after the other

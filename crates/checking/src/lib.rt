@@ -11,7 +11,7 @@ ghost use Rattle.checking.specs.Call.{job_of, lent_of};
 ghost use Rattle.checking.specs.Table.{has_bit, with_bit};
 ghost use Rattle.checking.specs.Outcomes.{Entered, Checked};
 
-use model::{Answer, Counts, Lazy, Options};
+use model::{Counts, Lazy, Options, Refusal};
 
 // The most that lookback, window, candidates and word limit may be.
 const MOST: usize = 1048576;
@@ -72,40 +72,40 @@ fn lent_short(
 }
 
 // Refusals 4 and 5 of a letter: as node 1, and as any node but 0.
-fn check_letter(r: &[u32], qubits: usize) -> Answer
+fn check_letter(r: &[u32], qubits: usize) -> Result<(), Refusal>
     requires { length r.now ≡ 5 }
     ensures { result ≡ check_node_of_kind qubits 1 1 r.now }
 {
     if r[2] > 3 {
-        return Answer::BadNode;
+        return Err(Refusal::BadNode);
     }
     if qubits <= r[1] as usize {
-        return Answer::BadQubit;
+        return Err(Refusal::BadQubit);
     }
-    Answer::Accepted
+    Ok(())
 }
 
-// Refusals 4 and 5 of node i.
-fn check_node(r: &[u32], i: usize, qubits: usize) -> Answer
+// Refusals 4 and 5 of node i. Its kind is a number still: whether it is one of a node is tested here.
+fn check_node(r: &[u32], i: usize, qubits: usize) -> Result<(), Refusal>
     requires { length r.now ≡ 5 }
     ensures { result ≡ check_node qubits i r.now }
 {
     if r[0] == 0 {
-        return Answer::Accepted;
+        return Ok(());
     }
     if i == 0 {
-        return Answer::BadNode;
+        return Err(Refusal::BadNode);
     }
     if r[0] == 1 {
         return check_letter(r, qubits);
     }
     if r[0] > 2 {
-        return Answer::BadNode;
+        return Err(Refusal::BadNode);
     }
     if (r[2] > 3) | (r[4] > 3) | (i <= r[1] as usize) | (i <= r[3] as usize) {
-        return Answer::BadNode;
+        return Err(Refusal::BadNode);
     }
-    Answer::Accepted
+    Ok(())
 }
 
 // Refusal 6: a node or a phase out of range.
@@ -115,7 +115,7 @@ fn bad_reference(nodes: usize, node: u32, phase: u32) -> bool
     (nodes <= node as usize) | (phase > 3)
 }
 
-// Refusal 7.
+// Refusal 7. The kind is a number still: whether it is one of an operation is tested here.
 fn bad_operation(r: &[u32]) -> bool
     requires { length r.now ≡ 6 }
     ensures { result ≡ bad_operation r.now }
@@ -129,46 +129,40 @@ fn bad_operation(r: &[u32]) -> bool
 }
 
 // Refusal 6 of frame row i.
-fn check_row(r: &[u32], i: usize, nodes: usize) -> Answer
+fn check_row(r: &[u32], i: usize, nodes: usize) -> Result<(), Refusal>
     requires { length r.now ≡ 4 }
     ensures { result ≡ check_row nodes i r.now }
 {
     if (r[0] as usize != i / 2) | (r[1] as usize != i % 2) | bad_reference(nodes, r[2], r[3]) {
-        return Answer::BadReference;
+        return Err(Refusal::BadReference);
     }
-    Answer::Accepted
+    Ok(())
 }
 
 // Refusals 4 and 5.
-fn check_nodes(nodes: &[u32], count: usize, qubits: usize) -> Answer
+fn check_nodes(nodes: &[u32], count: usize, qubits: usize) -> Result<(), Refusal>
     requires { 5 * count ≤ length nodes.now }
     ensures { result ≡ check_nodes qubits 0 (records 5 count nodes.now) }
 {
     for i in 0..count {
         let at = i * 5;
         let e = at + 5;
-        let a = check_node(&nodes[at..e], i, qubits);
-        if model::number_of(a) != 0 {
-            return a;
-        }
+        check_node(&nodes[at..e], i, qubits)?;
     }
-    Answer::Accepted
+    Ok(())
 }
 
 // Refusal 6 of the frame rows.
-fn check_rows(rows: &[u32], count: usize, nodes: usize) -> Answer
+fn check_rows(rows: &[u32], count: usize, nodes: usize) -> Result<(), Refusal>
     requires { 4 * count ≤ length rows.now }
     ensures { result ≡ check_rows nodes 0 (records 4 count rows.now) }
 {
     for i in 0..count {
         let at = i * 4;
         let e = at + 4;
-        let a = check_row(&rows[at..e], i, nodes);
-        if model::number_of(a) != 0 {
-            return a;
-        }
+        check_row(&rows[at..e], i, nodes)?;
     }
-    Answer::Accepted
+    Ok(())
 }
 
 // Whether the table has the outcome.
@@ -217,26 +211,26 @@ fn enter_measured(table: &mut [u64; TABLE], r: &[u32])
 }
 
 // Refusals 7, 6 and 8 of an operation. The table has the outcomes measured before it, and then its own.
-fn check_operation(table: &mut [u64; TABLE], r: &[u32], nodes: usize) -> Answer
+fn check_operation(table: &mut [u64; TABLE], r: &[u32], nodes: usize) -> Result<(), Refusal>
     requires { length r.now ≡ 6 }
     ensures { (seen : List ℕ) → Entered seen table.old
         → Checked nodes seen r.now result table.new }
 {
     if bad_operation(r) {
-        return Answer::BadOperation;
+        return Err(Refusal::BadOperation);
     }
     if bad_reference(nodes, r[1], r[2]) {
-        return Answer::BadReference;
+        return Err(Refusal::BadReference);
     }
     if bad_outcome(table, r) {
-        return Answer::BadOutcome;
+        return Err(Refusal::BadOutcome);
     }
     enter_measured(table, r);
-    Answer::Accepted
+    Ok(())
 }
 
 // Refusals 7, 6 and 8.
-fn check_operations(operations: &[u32], count: usize, nodes: usize) -> Answer
+fn check_operations(operations: &[u32], count: usize, nodes: usize) -> Result<(), Refusal>
     requires { 6 * count ≤ length operations.now }
     ensures { result ≡ check_operations nodes [] (records 6 count operations.now) }
 {
@@ -245,66 +239,54 @@ fn check_operations(operations: &[u32], count: usize, nodes: usize) -> Answer
     for i in 0..count {
         let at = i * 6;
         let e = at + 6;
-        let a = check_operation(&mut table, &operations[at..e], nodes);
-        if model::number_of(a) != 0 {
-            return a;
-        }
+        check_operation(&mut table, &operations[at..e], nodes)?;
     }
-    Answer::Accepted
+    Ok(())
 }
 
 // Refusals 4 to 8 of a program whose slices are long enough.
-fn check_program(c: Counts, nodes: &[u32], operations: &[u32], rows: &[u32]) -> Answer
+fn check_program(c: Counts, nodes: &[u32], operations: &[u32], rows: &[u32]) -> Result<(), Refusal>
     requires { program_short (job_of c nodes.now operations.now rows.now) ≡ false }
     ensures { result ≡ check_program (job_of c nodes.now operations.now rows.now) }
 {
-    let a = check_nodes(nodes, c.nodes, c.qubits);
-    if model::number_of(a) != 0 {
-        return a;
-    }
-    let b = check_operations(operations, c.operations, c.nodes);
-    if model::number_of(b) != 0 {
-        return b;
-    }
+    check_nodes(nodes, c.nodes, c.qubits)?;
+    check_operations(operations, c.operations, c.nodes)?;
     check_rows(rows, 2 * c.qubits, c.nodes)
 }
 
 // Refusal 16: the place is outside the program, or holds a plain rotation.
-fn check_named(operations: &[u32], count: usize, place: usize) -> Answer
+fn check_named(operations: &[u32], count: usize, place: usize) -> Result<(), Refusal>
     requires { 6 * count ≤ length operations.now }
     ensures { result ≡ check_place (From place) (records 6 count operations.now) }
 {
     if place >= count {
-        return Answer::BadPlace;
+        return Err(Refusal::BadPlace);
     }
     let at = place * 6;
     if operations[at] == 1 {
-        return Answer::BadPlace;
+        return Err(Refusal::BadPlace);
     }
-    Answer::Accepted
+    Ok(())
 }
 
 // Refusal 16, where a place is named.
-fn check_place(operations: &[u32], count: usize, lazy: Lazy) -> Answer
+fn check_place(operations: &[u32], count: usize, lazy: Lazy) -> Result<(), Refusal>
     requires { 6 * count ≤ length operations.now }
     ensures { result ≡ check_place lazy (records 6 count operations.now) }
 {
     match lazy {
-        Lazy::Off => Answer::Accepted,
-        Lazy::On => Answer::Accepted,
+        Lazy::Off => Ok(()),
+        Lazy::On => Ok(()),
         Lazy::From(place) => check_named(operations, count, place),
     }
 }
 
 // Refusals 4 to 8, then 16.
-fn check_records(c: Counts, lazy: Lazy, nodes: &[u32], operations: &[u32], rows: &[u32]) -> Answer
+fn check_records(c: Counts, lazy: Lazy, nodes: &[u32], operations: &[u32], rows: &[u32]) -> Result<(), Refusal>
     requires { program_short (job_of c nodes.now operations.now rows.now) ≡ false }
     ensures { result ≡ check_records lazy (job_of c nodes.now operations.now rows.now) }
 {
-    let a = check_program(c, nodes, operations, rows);
-    if model::number_of(a) != 0 {
-        return a;
-    }
+    check_program(c, nodes, operations, rows)?;
     check_place(operations, c.operations, lazy)
 }
 
@@ -319,15 +301,15 @@ pub fn checking(
     numbers: &[u32],
     result_operations: &[u32],
     result_rows: &[u32],
-) -> Answer
+) -> Result<(), Refusal>
     ensures { result ≡ checking options (job_of counts nodes.now operations.now rows.now)
         (lent_of words.now numbers.now result_operations.now result_rows.now) }
 {
     if bad_count(counts) {
-        return Answer::CountOutside;
+        return Err(Refusal::CountOutside);
     }
     if bad_option(options) {
-        return Answer::OptionOutside;
+        return Err(Refusal::OptionOutside);
     }
     if program_short(counts, nodes, operations, rows)
         | lent_short(
@@ -339,7 +321,7 @@ pub fn checking(
             result_rows,
         )
     {
-        return Answer::SliceShort;
+        return Err(Refusal::SliceShort);
     }
     let lazy = options.lazy_cliffords;
     check_records(counts, lazy, nodes, operations, rows)

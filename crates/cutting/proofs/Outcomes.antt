@@ -6,7 +6,7 @@ use Rattle.std.proofs.Math.Logic.{inl, inr}
 use Rattle.std.proofs.Math.Bool.{true, false, ◌||◌, true≢false, and-false}
 use mathlib.Core.List.{List, [], ◌∷◌, ◌++◌}
 use borrow.Author.Tests.{eqb-true, eq-eqb, ne_eqb}
-use Rattle.model.specs.declared.Answer.TheVariants.{Accepted, BadOperation, BadReference, BadOutcome}
+use Rattle.model.specs.Answers.{Accepted, BadOperation, BadReference, BadOutcome}
 use Rattle.model.specs.Lists.{any_of, member}
 use Rattle.model.specs.Program.{field_of}
 use Rattle.model.specs.Checking.{bad_outcome, measured, check_operation, check_operations}

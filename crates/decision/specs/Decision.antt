@@ -3,9 +3,6 @@ use Rattle.std.specs.Prelude.{◌≡◌, refl, List, ℕ, ◌<◌, Result, Ok, E
 use Rattle.std.proofs.Common.{sym, ap, ◌∙◌, subst, arith}
 use Rattle.pauli.specs.Word.{width}
 use Rattle.model.specs.declared.Options.{Options}
-use Rattle.model.specs.declared.Answer.{Answer}
-use Rattle.model.specs.declared.Answer.TheVariants as answers
-use Rattle.model.specs.Interface.{number_of}
 use Rattle.model.specs.Program.{Program}
 use Rattle.model.specs.Packing.{packed}
 use Rattle.model.specs.Rules.{rules_of}
@@ -17,9 +14,10 @@ use Rattle.theory.specs.AcceptedRun.{hermitian_peak}
 use Rattle.layout.specs.declared.Shape.{Shape}
 use Rattle.layout.specs.Shape.{granted_same}
 use Rattle.records.specs.Given.{program_in}
-use Rattle.packing_answer.specs.declared.Packed.{Packed}
-use Rattle.packing_answer.specs.declared.Packed.TheVariants as packs
-use Rattle.packing_answer.specs.Answer.{packed_answer, packing_answer}
+use Rattle.packing_answer.specs.declared.PackedAxes.{PackedAxes}
+use Rattle.packing_answer.specs.declared.PackingRefusal.{PackingRefusal}
+use Rattle.packing_answer.specs.declared.PackingRefusal.TheVariants as packs
+use Rattle.packing_answer.specs.Answer.{packing_answer}
 use Rattle.packing_answer.specs.Run.{run_refused}
 use Rattle.packing.specs.Packed.{PackedAs}
 use Rattle.steps.specs.declared.State.{State}
@@ -29,8 +27,6 @@ use Rattle.model.specs.Interface.{expansion_limit}
 use Rattle.points.specs.Points.{RunAt, SameLong, EndedAs, long_then}
 use Rattle.decision.specs.declared.Started.{Started}
 use Rattle.decision.specs.declared.Decided.{Decided}
-use Rattle.decision.specs.declared.Decision.{Decision}
-use Rattle.decision.specs.declared.Decision.TheVariants.{Done, Refused}
 use Rattle.decision.specs.Start.{PackedIn, StartedAs, packed_granted, packed_hermitian, width_is, start_well}
 use Rattle.decision.specs.End.{end_in, EndPre, DecidedAs}
 
@@ -38,27 +34,19 @@ use Rattle.decision.specs.End.{end_in, EndPre, DecidedAs}
 abbrev pub run_in : Shape → Options → List ℕ → List ℕ → List ℕ → model.Run
 run_in z o ns os rs = run (rules_of o) o.rounds (program_in z ns os rs)
 
--- a refusal is the model's answer
-pub record RefusedAs (z : Shape) (o : Options) (ns os rs : List ℕ) (a : Answer) : Type 0 where
-  pub answer : answer_of z.limit (run_in z o ns os rs) ≡ a
-  pub other : a ≡ answers.Accepted → ⊥
-
--- the work stores keep their lengths; a run that is done is the model's end
-pub record DecisionAs (z : Shape) (o : Options) (ns os rs ws xs : List ℕ) (d : Decision) (vs ys : List ℕ) : Type 0 where
+-- the work stores keep their lengths; a run that is done is the model's end, a refusal the model's answer
+pub record DecisionAs (z : Shape) (o : Options) (ns os rs ws xs : List ℕ) (d : Result Decided PackingRefusal) (vs ys : List ℕ) : Type 0 where
   pub long : SameLong ws xs vs ys
-  pub done : (x : Decided) → d ≡ Done x → DecidedAs z o ns os rs vs ys x ys
-  pub refused : (a : Answer) → d ≡ Refused a → RefusedAs z o ns os rs a
-
-limit_other : answers.ExpansionLimit ≡ answers.Accepted → ⊥
-limit_other e = let b : ◌≡◌ {A = ℕ} 10 0 = ap number_of e in omega arith
+  pub done : (x : Decided) → d ≡ Ok x → DecidedAs z o ns os rs vs ys x ys
+  pub refused : (e : PackingRefusal) → d ≡ Err e → answer_of z.limit (run_in z o ns os rs) ≡ packing_answer (Err e)
 
 -- a refusal
-decides_refused : {z : Shape} {o : Options} {ns os rs ws xs vs ys : List ℕ} {a : Answer} → SameLong ws xs vs ys
-    → RefusedAs z o ns os rs a → DecisionAs z o ns os rs ws xs (Refused a) vs ys
-decides_refused {z} {o} {ns} {os} {rs} {a = a} long r = record {
+decides_refused : {z : Shape} {o : Options} {ns os rs ws xs vs ys : List ℕ} {e : PackingRefusal} → SameLong ws xs vs ys
+    → answer_of z.limit (run_in z o ns os rs) ≡ packing_answer (Err e) → DecisionAs z o ns os rs ws xs (Err e) vs ys
+decides_refused {z} {o} {ns} {os} {rs} {e = e} long r = record {
   long = long;
-  done = λ x e. let b : ◌≡◌ {A = ℕ} 0 1 = cc in absurd (omega arith);
-  refused = λ b e. let f : a ≡ b = cc in subst (RefusedAs z o ns os rs) f r;
+  done = λ x f. cc;
+  refused = λ g f. let same : e ≡ g = cc in r ∙ ap (λ (x : PackingRefusal). packing_answer (Err x)) same;
 }
 
 -- ---- the passes
@@ -98,15 +86,12 @@ module _ (o : Options) {z : Shape} {ns os rs : List ℕ} {n : ℕ} {ws xs : List
   long_here = record { words = ran.0.words; numbers = ran.0.numbers ∙ a.long }
 
   -- where packing refuses nothing, the run's peak is its end's
-  pub passes_limit : e ≡ Err expansion_limit → DecisionAs z o ns os rs ws xs (Refused answers.ExpansionLimit) vs ys
+  pub passes_limit : e ≡ Err expansion_limit → DecisionAs z o ns os rs ws xs (Err packs.ExpansionLimit) vs ys
   passes_limit f =
-      decides_refused long_here (record {
-        answer =
-            beyond_answer z.limit (run_in z o ns os rs)
-            (subst (λ (m : ℕ). z.limit < m) (sym (hermitian_peak (rules_of o) o.rounds (program_in z ns os rs) (packed_hermitian h)))
-            (ended_as.refused f));
-        other = limit_other;
-      })
+      decides_refused long_here
+      (beyond_answer z.limit (run_in z o ns os rs)
+      (subst (λ (m : ℕ). z.limit < m) (sym (hermitian_peak (rules_of o) o.rounds (program_in z ns os rs) (packed_hermitian h)))
+      (ended_as.refused f)))
 
   pub passes_end : (st : State) → e ≡ Ok st → EndPre z o ns os rs s st vs ys
   passes_end st f = record {
@@ -117,7 +102,7 @@ module _ (o : Options) {z : Shape} {ns os rs : List ℕ} {n : ℕ} {ws xs : List
     depth = a.depth;
   }
 
-  pub passes_done : {d : Decided} {us : List ℕ} → DecidedAs z o ns os rs vs ys d us → DecisionAs z o ns os rs ws xs (Done d) vs us
+  pub passes_done : {d : Decided} {us : List ℕ} → DecidedAs z o ns os rs vs ys d us → DecisionAs z o ns os rs ws xs (Ok d) vs us
   passes_done {d} {us} k = record {
     long = record { words = ran.0.words; numbers = k.long ∙ long_here.numbers };
     done = λ x f.
@@ -131,28 +116,22 @@ module _ (o : Options) {z : Shape} {ns os rs : List ℕ} {n : ℕ} {ws xs : List
           changed = k.changed;
           long = refl;
         });
-    refused = λ x f. let b : ◌≡◌ {A = ℕ} 0 1 = cc in absurd (omega arith);
+    refused = λ g f. cc;
   }
 
 -- ---- packing
 
-packed_long : {z : Shape} {p : Program} {r : Packed} {ws xs vs ys : List ℕ} → PackedAs z p r ws xs vs ys → SameLong ws xs vs ys
+packed_long : {z : Shape} {p : Program} {r : Result PackedAxes PackingRefusal} {ws xs vs ys : List ℕ} → PackedAs z p r ws xs vs ys
+    → SameLong ws xs vs ys
 packed_long h = record { words = h.words.long; numbers = h.numbers.long }
 
-module _ {z : Shape} {ns os rs ws xs vs ys : List ℕ} {r : Packed} (h : PackedAs z (program_in z ns os rs) r ws xs vs ys) where
-  pub decide_passes : {o : Options} {d : Decision} {ws₂ xs₂ : List ℕ} → DecisionAs z o ns os rs vs ys d ws₂ xs₂
+module _ {z : Shape} {ns os rs ws xs vs ys : List ℕ} {r : Result PackedAxes PackingRefusal}
+    (h : PackedAs z (program_in z ns os rs) r ws xs vs ys) where
+  pub decide_passes : {o : Options} {d : Result Decided PackingRefusal} {ws₂ xs₂ : List ℕ} → DecisionAs z o ns os rs vs ys d ws₂ xs₂
       → DecisionAs z o ns os rs ws xs d ws₂ xs₂
   decide_passes k = record { long = long_then (packed_long h) k.long; done = k.done; refused = k.refused }
 
   -- packing's refusal is the run's
-  pub decide_refused : (o : Options) {a : Answer} → a ≡ packing_answer r → (packing_answer r ≡ answers.Accepted → ⊥)
-      → DecisionAs z o ns os rs ws xs (Refused a) vs ys
-  decide_refused o {a} e n =
-      let f : packing_answer (packed_answer z.limit (packed (program_in z ns os rs))) ≡ a = sym (ap packing_answer h.answer) ∙ sym e in
-      decides_refused (packed_long h) (record {
-        answer = run_refused (rules_of o) o.rounds (program_in z ns os rs) z.limit (λ g. n (e' ∙ g)) ∙ f;
-        other = λ g. n (sym e ∙ g);
-      })
-    where
-      e' : packing_answer r ≡ packing_answer (packed_answer z.limit (packed (program_in z ns os rs)))
-      e' = ap packing_answer h.answer
+  pub decide_refused : (o : Options) {e : PackingRefusal} → r ≡ Err e → DecisionAs z o ns os rs ws xs (Err e) vs ys
+  decide_refused o {e} f =
+      decides_refused (packed_long h) (run_refused (rules_of o) o.rounds (program_in z ns os rs) z.limit e (sym h.answer ∙ f))

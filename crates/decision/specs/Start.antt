@@ -1,5 +1,5 @@
 -- From packing to the start of the passes: items, weight and T-depth. Assumes nothing.
-use Rattle.std.specs.Prelude.{◌≡◌, refl, false, List, ℕ, length}
+use Rattle.std.specs.Prelude.{◌≡◌, refl, false, List, ℕ, length, Result}
 use Rattle.std.proofs.Common.{sym, ap, ◌∙◌}
 use Rattle.pauli.specs.Word.{width}
 use Rattle.model.specs.declared.Options.{Options}
@@ -13,9 +13,9 @@ use Rattle.layout.specs.Shape.{Granted, granted_same}
 use Rattle.axes.specs.Held.{sizes_of}
 use Rattle.records.specs.Given.{program_in}
 use Rattle.packing_states.specs.InMemory.{OfShape, given_shape}
-use Rattle.packing_answer.specs.declared.Packed.{Packed}
-use Rattle.packing_answer.specs.declared.Packed.TheVariants.{Axes}
-use Rattle.packing_answer.specs.Answer.{AcceptedSo, accepted_so}
+use Rattle.packing_answer.specs.declared.PackedAxes.{PackedAxes}
+use Rattle.packing_answer.specs.declared.PackingRefusal.{PackingRefusal}
+use Rattle.packing_answer.specs.Answer.{packed_with, AcceptedSo, accepted_so}
 use Rattle.packing.specs.Packed.{PackPre, PackedAs}
 use Rattle.work.specs.Work.{WorkIn}
 use Rattle.start.specs.Build.{BuildPre, ItemsBuilt}
@@ -32,11 +32,11 @@ use Rattle.decision.specs.Depth.{DepthAs, work_kept, depth_is}
 pub record PackedIn (z : Shape) (ns os rs : List ℕ) (n : ℕ) (ws xs : List ℕ) : Type 0 where
   pub ws₀ : List ℕ
   pub xs₀ : List ℕ
-  pub answer : Packed
+  pub answer : Result PackedAxes PackingRefusal
   pub peak : ℕ
   pub pre : PackPre z ns os rs ws₀ xs₀
   pub done : PackedAs z (program_in z ns os rs) answer ws₀ xs₀ ws xs
-  pub accepted : answer ≡ Axes n peak
+  pub accepted : answer ≡ packed_with n peak
 
 -- memory holds the start of the passes, and r its counts
 pub record StartedAs (z : Shape) (o : Options) (ns os rs : List ℕ) (n : ℕ) (ws xs : List ℕ) (r : Started) (ys : List ℕ) : Type 0 where
@@ -46,7 +46,7 @@ pub record StartedAs (z : Shape) (o : Options) (ns os rs : List ℕ) (n : ℕ) (
   pub long : length ys ≡ length xs
 
 -- the largest sum that packing tested
-pub packed_peak : {z : Shape} {p : Program} {r : Packed} {n q : ℕ} {ws₀ xs₀ ws xs : List ℕ} → PackedAs z p r ws₀ xs₀ ws xs → r ≡ Axes n q
+pub packed_peak : {z : Shape} {p : Program} {r : Result PackedAxes PackingRefusal} {n q : ℕ} {ws₀ xs₀ ws xs : List ℕ} → PackedAs z p r ws₀ xs₀ ws xs → r ≡ packed_with n q
     → q ≡ (packed p).store.peak
 packed_peak {z} {p} done accepted = sym (accepted_so z.limit (packed p) (sym accepted ∙ done.answer)).peak_is
 

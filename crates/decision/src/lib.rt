@@ -15,9 +15,9 @@ ghost use Rattle.decision.specs.Decision.{DecisionAs};
 
 use counters::RunCounts;
 use layout::Shape;
-use model::{Answer, Counters, Options};
-use packing_answer::Packed;
-use steps::{State, Step};
+use model::{Counters, Options};
+use packing_answer::{PackedAxes, PackingRefusal};
+use steps::State;
 
 // What the passes start from: items, the source's weight, its T-depth.
 #[derive(Clone, Copy)]
@@ -34,13 +34,6 @@ pub struct Decided {
     pub axes: usize,
     pub changed: bool,
     pub counters: Counters,
-}
-
-// How a run ends: accepted, or refused by 9 or 10.
-#[derive(Clone, Copy)]
-pub enum Decision {
-    Done(Decided),
-    Refused(Answer),
 }
 
 // The T-depth of the items, or 0 where it is not measured.
@@ -138,11 +131,10 @@ fn passes(
     numbers: &mut [u32],
     shape: Shape,
     options: Options,
-    axes: usize,
-    peak: usize,
-) -> Decision
-    requires { PackedIn shape nodes.now operations.now rows.now axes words.old numbers.old × OptionsIn options
-        × (peak ≡ (packed (program_in shape nodes.now operations.now rows.now)).store.peak) }
+    packed: PackedAxes,
+) -> Result<Decided, PackingRefusal>
+    requires { PackedIn shape nodes.now operations.now rows.now packed.count words.old numbers.old × OptionsIn options
+        × (packed.peak ≡ (packed (program_in shape nodes.now operations.now rows.now)).store.peak) }
     ensures { DecisionAs shape options nodes.now operations.now rows.now
         words.old numbers.old result words.new numbers.new }
 {
@@ -154,14 +146,11 @@ fn passes(
         numbers,
         shape,
         options,
-        axes,
+        packed.count,
     );
-    let first = steps::first_state(axes, peak, s.items);
-    let e = rounds::passes(words, numbers, shape, options, first);
-    let Ok(run) = e else {
-        return Decision::Refused(Answer::ExpansionLimit);
-    };
-    Decision::Done(end_run(
+    let first = steps::first_state(packed.count, packed.peak, s.items);
+    let run = rounds::passes(words, numbers, shape, options, first)?;
+    Ok(end_run(
         nodes,
         operations,
         rows,
@@ -183,16 +172,13 @@ pub fn decide(
     numbers: &mut [u32],
     shape: Shape,
     options: Options,
-) -> Decision
+) -> Result<Decided, PackingRefusal>
     requires { PackPre shape nodes.now operations.now rows.now words.old numbers.old × OptionsIn options }
     ensures { DecisionAs shape options nodes.now operations.now rows.now
         words.old numbers.old result words.new numbers.new }
 {
-    let p = packing::pack(nodes, operations, rows, words, numbers, shape);
-    let Packed::Axes { count, peak } = p else {
-        return Decision::Refused(packing_answer::answer(p));
-    };
+    let packed = packing::pack(nodes, operations, rows, words, numbers, shape)?;
     passes(
-        nodes, operations, rows, words, numbers, shape, options, count, peak,
+        nodes, operations, rows, words, numbers, shape, options, packed,
     )
 }

@@ -3,7 +3,7 @@ use Rattle.std.specs.Prelude.{◌≡◌, refl, false, ℕ, ◌*◌, ◌/◌, ◌
 use Rattle.std.proofs.Common.{arith, div-le_self, ltb-false}
 use Rattle.model.specs.declared.Counts.{Counts}
 use Rattle.model.specs.declared.Options.{Options}
-use Rattle.model.specs.declared.Answer.TheVariants.{Accepted, CountOutside, OptionOutside, SliceShort}
+use Rattle.model.specs.Answers.{Accepted, CountOutside, OptionOutside, SliceShort}
 use Rattle.model.specs.Program.{Job}
 use Rattle.model.specs.Checking.{Lent, bad_count, bad_option, program_short, lent_short, check_records, checking}
 use Rattle.pauli.specs.Word.{width}

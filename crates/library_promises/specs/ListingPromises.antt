@@ -7,8 +7,7 @@ use Rattle.std.specs.Prelude.{◌≡◌, refl, ◌⊎◌, Bool, List, ℕ, ◌-�
 use Rattle.std.proofs.Common.{sym, ap, ◌∙◌, inl, inr, ⊎_elim, arith}
 use Rattle.std.proofs.Math.Option.{some}
 use Rattle.groups.specs.Abelian.{pow2}
-use Rattle.model.specs.declared.Answer.{Answer}
-use Rattle.model.specs.declared.Answer.TheVariants.{Accepted, NonHermitianAxis}
+use Rattle.model.specs.Answers.{Answer, Accepted, NonHermitianAxis}
 use Rattle.model.specs.Interface.{number_of}
 use Rattle.model.specs.Program.{program_of}
 use Rattle.model.specs.Checking.{Lent}

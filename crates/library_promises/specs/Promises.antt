@@ -9,8 +9,7 @@ use Rattle.groups.specs.Abelian.{pow2}
 use Rattle.pauli.specs.Word.{width}
 use Rattle.model.specs.declared.Lazy.TheVariants.{Off, From}
 use Rattle.model.specs.declared.Options.{Options}
-use Rattle.model.specs.declared.Answer.{Answer}
-use Rattle.model.specs.declared.Answer.TheVariants.{Accepted, SliceShort, NonHermitianAxis}
+use Rattle.model.specs.Answers.{Answer, Accepted, SliceShort, NonHermitianAxis}
 use Rattle.model.specs.declared.Strategy.TheVariants.{Litinski}
 use Rattle.model.specs.Interface.{number_of, of_checking, no_counters}
 use Rattle.model.specs.Program.{Job, operation_records, program_of}

@@ -1,5 +1,5 @@
 -- What Listing's code answers, as a call. Assumes nothing.
-use Rattle.std.specs.Prelude.{◌≡◌, Bool, ℕ, ◌+◌, ◌*◌, ◌≤◌, ◌<◌, take}
+use Rattle.std.specs.Prelude.{◌≡◌, Bool, ℕ, ◌+◌, ◌*◌, ◌≤◌, ◌<◌, take, Ok, Err}
 use Rattle.std.proofs.Math.Path.{refl, sym, ap}
 use Rattle.std.proofs.Common.{◌∙◌, subst, arith, lt-ltb, le-ltb}
 use Rattle.std.proofs.Math.Bool.{true, false}
@@ -8,15 +8,16 @@ use mathlib.Core.List.{List}
 use Rattle.std.proofs.Math.ListN.{length}
 use Rattle.store.specs.Part.{put}
 use Rattle.model.specs.declared.Counts.{Counts}
-use Rattle.model.specs.declared.Answer.{Answer}
-use Rattle.model.specs.declared.Answer.TheVariants.{Accepted, SliceShort, BadText}
+use Rattle.model.specs.declared.Refusal.{Refusal}
+use Rattle.model.specs.declared.Refusal.TheVariants as refusals
+use Rattle.model.specs.Answers.{Answer, Accepted, SliceShort}
 use Rattle.model.specs.Interface.{accepts}
 use Rattle.model.specs.Program.{Job}
 use Rattle.model.specs.Checking.{Lent}
 use Rattle.model.specs.Rewriting.{refused, rewriting}
 use Rattle.model.specs.Listing.{Read, read, text_of, refusal_lines}
 use Rattle.theory.specs.Cases.{if_true, if_false}
-use Rattle.theory.specs.Checked.{accepts_only}
+use Rattle.theory.specs.Checked.{refuses}
 use Rattle.theory.specs.Called.{answer_is, counters_are, operations_are, axes_are, lent_is}
 use Rattle.theory.specs.TCountCalls.{accepted_operations, accepted_axes}
 use Rattle.theory.specs.ListingCalls.{options_of}
@@ -24,7 +25,7 @@ use Rattle.listing_read.specs.declared.Text.{Text}
 use Rattle.listing_read.specs.declared.Text.TheVariants as Texts
 use Rattle.listing_read.specs.Views.{Room, read_by}
 use Rattle.listing_print.specs.Printed.{Printed}
-use Rattle.listing_print.specs.Results.{result_lines, ResultPre, reply_lines, ReplyPre}
+use Rattle.listing_print.specs.Results.{result_lines, ResultPre}
 use Rattle.listing_call.specs.Call.{most_bytes, reply_to, printed_lines, printed_text, ListingReply, printed_reply, no_room_reply, listing_call}
 use Rattle.listing_call.specs.Reads.{SmallText}
 use Rattle.listing_call.specs.Replies.{operations_out, axes_out, accepted_lines, refused_lines, bad_text}
@@ -74,57 +75,56 @@ reply_same {a} {b} {n} {m} {x} {y} {s} {z} p q r u =
     ∙ ap (λ (i : List ℕ). record { answer = b; size = m; output = i; lent = s }) r
     ∙ ap (λ (i : Lent). record { answer = b; size = m; output = y; lent = i }) u
 
--- the lines of a reply of Rewriting, as it is handed back and lies in the lent slices
-abbrev pub lines_by : ℕ → Rewritten → Lent → List (List ℕ)
-lines_by qubits r s = reply_lines r.answer r.counters qubits r.operations r.axes s.words s.operations s.rows
+-- so much of the output is these lines, and a is the answer: the reply that Listing has to such a program
+module _ (t : Read) (s s' : Lent) (lent : (rewriting (options_of t) t.job s).lent ≡ s') {a : Answer}
+    (answer : (rewriting (options_of t) t.job s).answer ≡ a) {ls : List (List ℕ)}
+    (lines : ls ≡ printed_lines (some t) (rewriting (options_of t) t.job s).answer) where
+  printed_called : {out out' : List ℕ} {n : ℕ} → Printed out 0 (text_of ls) out' n
+      → listing_reply_of (record { answer = a; size = n }) out' s' ≡ printed_reply (some t) out (reply_to (some t) s)
+  unfolding printed_reply reply_to printed_text
+  printed_called {out} p =
+      let text = ap text_of lines in
+      reply_same (sym answer) (place_zero p.place ∙ ap length text) (p.store ∙ ap (put out 0) text) (sym lent)
 
-module _ (t : Read) (small : SmallText t) (s : Lent) (r : Rewritten) (s' : Lent) (call : CalledBy (options_of t) t.job s r s') where
-  accepted_there : r.answer ≡ Accepted → (rewriting (options_of t) t.job s).answer ≡ Accepted
-  accepted_there e = answer_is call ∙ e
-
+module _ (t : Read) (small : SmallText t) (s : Lent) (r : Rewritten) (s' : Lent) (call : CalledBy (options_of t) t.job s (Ok r) s') where
   -- the numbers that an accepted call hands back
-  operations_there : (yes' : (rewriting (options_of t) t.job s).answer ≡ Accepted) → r.operations ≡ operations_out t s yes'
-  operations_there yes' = sym (operations_are call) ∙ accepted_operations (options_of t) t.job s yes'
+  operations_there : r.operations ≡ operations_out t s (answer_is call)
+  operations_there = sym (operations_are call) ∙ accepted_operations (options_of t) t.job s (answer_is call)
 
-  axes_there : (yes' : (rewriting (options_of t) t.job s).answer ≡ Accepted) → r.axes ≡ axes_out t s yes'
-  axes_there yes' = sym (axes_are call) ∙ accepted_axes (options_of t) t.job s yes'
+  axes_there : r.axes ≡ axes_out t s (answer_is call)
+  axes_there = sym (axes_are call) ∙ accepted_axes (options_of t) t.job s (answer_is call)
 
   -- what printing asks
   pub printing_asks : (room : ℕ) → most_bytes ≤ room
-      → ReplyPre r.answer r.counters t.job.counts.qubits r.operations r.axes s'.words s'.operations s'.rows room
-  printing_asks room h = record {
-    line = omega arith;
-    result = λ e.
-        let yes' = accepted_there e in
-        subst
-        (λ (z : Lent). ResultPre r.counters t.job.counts.qubits r.operations r.axes z.words z.operations z.rows room)
-        (lent_is call) (rw (← counters_are call, operations_there yes', axes_there yes') (result_asks t small s yes' room h));
-  }
+      → ResultPre r.counters t.job.counts.qubits r.operations r.axes s'.words s'.operations s'.rows room
+  printing_asks room h =
+      subst (λ (z : Lent). ResultPre r.counters t.job.counts.qubits r.operations r.axes z.words z.operations z.rows room)
+      (lent_is call) (rw (← counters_are call, operations_there, axes_there) (result_asks t small s (answer_is call) room h))
 
   -- the lines of what came are the lines that the call prints
-  lines_are : lines_by t.job.counts.qubits r s' ≡ printed_lines (some t) (rewriting (options_of t) t.job s).answer
-  unfolding reply_lines
-  lines_are = go (accepts r.answer) refl
-    where
-      go : (b : Bool) → accepts r.answer ≡ b
-          → lines_by t.job.counts.qubits r s' ≡ printed_lines (some t) (rewriting (options_of t) t.job s).answer
-      go true e =
-          let yes' = accepted_there (accepts_only r.answer e) in
-          if_true _ _ e
-          ∙ ap (λ (z : Lent).
-          result_lines r.counters t.job.counts.qubits r.operations r.axes z.words z.operations z.rows) (sym (lent_is call))
-          ∙ rw (← counters_are call, operations_there yes', axes_there yes') (sym (accepted_lines t s yes'))
-      go false e =
-          if_false _ _ e ∙ ap refusal_lines (sym (answer_is call))
-          ∙ sym (refused_lines t s (ap accepts (answer_is call) ∙ e))
+  lines_are : result_lines r.counters t.job.counts.qubits r.operations r.axes s'.words s'.operations s'.rows
+      ≡ printed_lines (some t) (rewriting (options_of t) t.job s).answer
+  lines_are =
+      ap (λ (z : Lent). result_lines r.counters t.job.counts.qubits r.operations r.axes z.words z.operations z.rows) (sym (lent_is call))
+      ∙ rw (← counters_are call, operations_there, axes_there) (sym (accepted_lines t s (answer_is call)))
 
   pub run_called : {out out' : List ℕ} {n : ℕ}
-      → Printed out 0 (text_of (lines_by t.job.counts.qubits r s')) out' n
-      → listing_reply_of (record { answer = r.answer; size = n }) out' s' ≡ printed_reply (some t) out (reply_to (some t) s)
-  unfolding printed_reply reply_to printed_text
-  run_called {out} {out'} {n} p =
-      let text = ap text_of lines_are in
-      reply_same (sym (answer_is call)) (place_zero p.place ∙ ap length text) (p.store ∙ ap (put out 0) text) (sym (lent_is call))
+      → Printed out 0 (text_of (result_lines r.counters t.job.counts.qubits r.operations r.axes s'.words s'.operations s'.rows)) out' n
+      → listing_reply_of (record { answer = Accepted; size = n }) out' s' ≡ printed_reply (some t) out (reply_to (some t) s)
+  run_called p = printed_called t s s' (lent_is call) (answer_is call) lines_are p
+
+-- a refusal, and its text
+pub record RefusedTo (e : Refusal) (out : List ℕ) (l : Listed) (out' : List ℕ) : Type 0 where
+  pub answer : l.answer ≡ Err e
+  pub text : Printed out 0 (text_of (refusal_lines (Err e))) out' l.size
+
+module _ (t : Read) (s : Lent) (e : Refusal) (s' : Lent) (call : CalledBy (options_of t) t.job s (Err e) s') where
+  pub run_refused : {l : Listed} {out out' : List ℕ} → RefusedTo e out l out'
+      → listing_reply_of l out' s' ≡ printed_reply (some t) out (reply_to (some t) s)
+  run_refused {l} {out} {out'} p =
+      ap (λ (a : Answer). listing_reply_of (record { answer = a; size = l.size }) out' s') p.answer
+      ∙ printed_called t s s' (lent_is call) (answer_is call)
+      (ap refusal_lines (sym (answer_is call)) ∙ sym (refused_lines t s (ap accepts (answer_is call) ∙ refuses e))) p.text
 
 -- ---- Listing
 
@@ -149,10 +149,11 @@ module _ (text out : List ℕ) (s : Lent) where
     run_listed e p =
         p ∙ ap (λ (y : Option Read). printed_reply y out (reply_to y s)) (sym e) ∙ sym (if_false _ _ (le-ltb (length out) most_bytes room))
 
-    pub bad_listed : {out' : List ℕ} {n : ℕ} → read text ≡ none → Printed out 0 (text_of (refusal_lines BadText)) out' n
-        → listing_reply_of (record { answer = BadText; size = n }) out' s ≡ listing_call text out s
+    pub bad_listed : {l : Listed} {out' : List ℕ} → read text ≡ none → RefusedTo refusals.BadText out l out'
+        → listing_reply_of l out' s ≡ listing_call text out s
     unfolding listing_call printed_reply reply_to refused printed_text
-    bad_listed e p =
-        reply_same refl (place_zero p.place ∙ ap (λ (ls : List (List ℕ)). length (text_of ls)) (sym bad_text))
+    bad_listed e r =
+        let p = r.text in
+        reply_same r.answer (place_zero p.place ∙ ap (λ (ls : List (List ℕ)). length (text_of ls)) (sym bad_text))
         (p.store ∙ ap (λ (ls : List (List ℕ)). put out 0 (text_of ls)) (sym bad_text)) refl
         ∙ ap (λ (y : Option Read). printed_reply y out (reply_to y s)) (sym e) ∙ sym (if_false _ _ (le-ltb (length out) most_bytes room))

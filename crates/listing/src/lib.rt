@@ -1,21 +1,34 @@
 // Listing: 01's text in, its text out.
 #![tactic(auto)]
 
+ghost use Rattle.std.specs.Prelude.{◌≤◌, length};
 ghost use Rattle.checking.specs.Call.{lent_of};
-ghost use Rattle.listing_call.specs.Call.{ListingCalled};
-ghost use Rattle.listing.specs.Listed.{RunPre, RunCall};
+ghost use Rattle.listing_call.specs.Call.{most_bytes, ListingCalled};
+ghost use Rattle.listing.specs.Listed.{RefusedTo, RunPre, RunCall};
 
 use listing_read::Text;
-use model::{Answer, Counts};
+use model::{Counts, Refusal};
 
 // The most bytes that a listing has.
 pub const MOST_BYTES: usize = 215369;
 
-// What Listing answers: the text is the first `size` bytes of the output.
+// What Listing answers: the text is the first `size` bytes of the output. A refusal has a text too, so the size stands beside the answer.
 #[derive(Clone, Copy)]
 pub struct Listed {
-    pub answer: Answer,
+    pub answer: Result<(), Refusal>,
     pub size: usize,
+}
+
+// A refusal, and its text.
+fn refused(out: &mut [u8], refusal: Refusal) -> Listed
+    requires { most_bytes ≤ length out.old }
+    ensures { RefusedTo refusal out.old result out.new }
+{
+    let size = listing_print::refusal(out, refusal);
+    Listed {
+        answer: Err(refusal),
+        size,
+    }
 }
 
 // A program that is read: Rewriting, and its text.
@@ -51,19 +64,22 @@ fn run(
         result_operations,
         result_rows,
     );
-    let answer = r.answer;
-    let size = listing_print::reply(
-        out,
-        answer,
-        r.counters,
-        counts.qubits,
-        r.operations,
-        r.axes,
-        &words[..],
-        &result_operations[..],
-        &result_rows[..],
-    );
-    Listed { answer, size }
+    match r {
+        Ok(rewritten) => Listed {
+            answer: Ok(()),
+            size: listing_print::result(
+                out,
+                rewritten.counters,
+                counts.qubits,
+                rewritten.operations,
+                rewritten.axes,
+                &words[..],
+                &result_operations[..],
+                &result_rows[..],
+            ),
+        },
+        Err(refusal) => refused(out, refusal),
+    }
 }
 
 // Listing.
@@ -82,7 +98,7 @@ pub fn listing(
 {
     if output.len() < MOST_BYTES {
         return Listed {
-            answer: Answer::SliceShort,
+            answer: Err(Refusal::SliceShort),
             size: 0,
         };
     }
@@ -91,11 +107,7 @@ pub fn listing(
     let mut rows = [0u32; 512];
     let t = listing_read::read(text, &mut nodes, &mut operations, &mut rows);
     let Text::Job { counts, limit } = t else {
-        let size = listing_print::refusal(output, Answer::BadText);
-        return Listed {
-            answer: Answer::BadText,
-            size,
-        };
+        return refused(output, Refusal::BadText);
     };
     run(
         counts,

@@ -8,8 +8,7 @@ use Rattle.std.proofs.Math.Nat.{le_trans}
 use native.Mathlib.Omega.{arith}
 use Rattle.std.proofs.Math.ListN.{length}
 use Rattle.pauli.specs.Word.{width}
-use Rattle.model.specs.declared.Answer.{Answer}
-use Rattle.model.specs.declared.Answer.TheVariants.{Accepted}
+use Rattle.model.specs.Answers.{Answer, Accepted}
 use Rattle.model.specs.Program.{operation_of, program_of}
 use Rattle.model.specs.Rules.{rules_of}
 use Rattle.model.specs.Run.{end_of}

@@ -8,8 +8,7 @@ use native.Mathlib.Omega.{arith}
 use Rattle.std.proofs.Math.ListN.{length-map}
 use Rattle.pauli.specs.Word.{width}
 use Rattle.pauli.specs.Letter.{letter_at}
-use Rattle.model.specs.declared.Answer.{Answer}
-use Rattle.model.specs.declared.Answer.TheVariants.{Accepted, ExpansionLimit}
+use Rattle.model.specs.Answers.{Answer, Accepted, ExpansionLimit}
 use Rattle.model.specs.Interface.{accepts}
 use Rattle.model.specs.Program.{operation_of, row_of, Program, program_of}
 use Rattle.model.specs.Rules.{Rules, rules_of}

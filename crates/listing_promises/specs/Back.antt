@@ -5,8 +5,7 @@ use Rattle.std.proofs.Common.{sym, ◌∙◌, subst, inl, arith}
 use Rattle.std.proofs.Math.Option.{Option, none, some}
 use Rattle.std.proofs.Math.ListN.{take}
 use Rattle.pauli.specs.Word.{width}
-use Rattle.model.specs.declared.Answer.{Answer}
-use Rattle.model.specs.declared.Answer.TheVariants.{Accepted}
+use Rattle.model.specs.Answers.{Answer, Accepted}
 use Rattle.model.specs.Interface.{number_of, accepts}
 use Rattle.model.specs.Program.{field_of}
 use Rattle.model.specs.Checking.{Lent}

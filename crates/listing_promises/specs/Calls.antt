@@ -9,8 +9,7 @@ use native.Mathlib.Omega.{arith}
 use Rattle.std.proofs.Math.ListN.{length, take, drop}
 use Rattle.std.proofs.Math.Seq.{take-append_seam, drop-append_seam}
 use Rattle.store.specs.Part.{put}
-use Rattle.model.specs.declared.Answer.{Answer}
-use Rattle.model.specs.declared.Answer.TheVariants.{SliceShort, BadText}
+use Rattle.model.specs.Answers.{Answer, SliceShort, BadText}
 use Rattle.model.specs.Checking.{Lent}
 use Rattle.model.specs.Rewriting.{refused, rewriting, Called}
 use Rattle.model.specs.Listing.{Read, read, text_of, listing}

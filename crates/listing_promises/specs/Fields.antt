@@ -6,8 +6,7 @@ use Rattle.std.proofs.Math.Option.{some}
 use mathlib.Core.List.{List, [], ◌∷◌, ◌++◌, map}
 use Rattle.pauli.specs.Word.{width}
 use Rattle.pauli.specs.Letter.{letter_at}
-use Rattle.model.specs.declared.Answer.{Answer}
-use Rattle.model.specs.declared.Answer.TheVariants.{Accepted}
+use Rattle.model.specs.Answers.{Answer, Accepted}
 use Rattle.model.specs.Lists.{when◌then◌else◌, count_of, is_odd}
 use Rattle.model.specs.Interface.{number_of}
 use Rattle.model.specs.Program.{field_of, largest_outcome, no_outcome, minus_one, Kind, rotate, measure, conditional, Operation, PauliRef, Program, program_of}

@@ -10,8 +10,7 @@ use mathlib.Core.List.{List, map}
 use Rattle.std.proofs.Math.Decide.{dec_lt}
 use Rattle.groups.specs.Abelian.{pow2}
 use Rattle.store.specs.Part.{put_length}
-use Rattle.model.specs.declared.Answer.{Answer}
-use Rattle.model.specs.declared.Answer.TheVariants.{Accepted, SliceShort, BadText}
+use Rattle.model.specs.Answers.{Answer, Accepted, SliceShort, BadText}
 use Rattle.model.specs.declared.Counters.{Counters}
 use Rattle.model.specs.Interface.{number_of, accepts}
 use Rattle.model.specs.Program.{field_of, program_of}

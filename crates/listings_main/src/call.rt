@@ -4,11 +4,11 @@ ghost use Rattle.std.specs.Prelude.{◌<◌, ◌≤◌, length, IfOk};
 use crate::header::Header;
 use crate::{header, output};
 use listing::Listed;
-use model::Answer;
+use model::Refusal;
 use std::io;
 
 // The line in front of what a call prints: its answer, and how many bytes follow.
-fn print_answer(rt: &impl Print, answer: Answer, size: usize) -> io::Result<()> {
+fn print_answer(rt: &impl Print, answer: Result<(), Refusal>, size: usize) -> io::Result<()> {
     println!(rt; "{} {size}", model::number_of(answer))
 }
 
@@ -39,8 +39,7 @@ fn call(
     rows: &mut [u32],
 ) -> io::Result<()> {
     let listed = list(text, out, words, numbers, operations, rows);
-    let answer = listed.answer;
-    print_answer(rt, answer, listed.size)?;
+    print_answer(rt, listed.answer, listed.size)?;
     output::print(rt, &out[..], listed.size)?;
     lent_memory::print(rt, &words[..], &numbers[..], &operations[..], &rows[..])?;
     rt.println("end")

@@ -5,10 +5,8 @@ use Rattle.model.specs.declared.Lazy.{Lazy}
 use Rattle.model.specs.declared.Lazy.TheVariants.{Off, On, From}
 use Rattle.model.specs.declared.Options.{Options}
 use Rattle.model.specs.declared.Counts.{Counts}
-use Rattle.model.specs.declared.Answer.{Answer}
-use Rattle.model.specs.declared.Answer.TheVariants.{Accepted, CountOutside, OptionOutside, SliceShort, BadNode, BadQubit, BadReference}
-use Rattle.model.specs.declared.Answer.TheVariants.{BadOperation}
-use Rattle.model.specs.declared.Answer.TheVariants.{BadOutcome, BadPlace}
+use Rattle.model.specs.Answers.{Answer, Accepted, CountOutside, OptionOutside, SliceShort, BadNode, BadQubit, BadReference, BadOperation, BadOutcome}
+use Rattle.model.specs.Answers.{BadPlace}
 use Rattle.model.specs.Lists.{when◌then◌else◌, member}
 use Rattle.model.specs.Interface.{accepts}
 use Rattle.model.specs.Program.{field_of, largest_outcome, no_outcome, Job, node_records, operation_records, row_records}

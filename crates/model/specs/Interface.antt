@@ -1,30 +1,33 @@
 -- The interface's types in 01's words: the answers' numbers, Rust's defaults, counters at 0. Assumes nothing.
-use Rattle.std.specs.Prelude.{Bool, true, false, ◌&&◌, ◌||◌, ℕ, eqb, leb}
+use Rattle.std.specs.Prelude.{Bool, true, false, ◌&&◌, ◌||◌, ℕ, eqb, leb, Ok, Err}
 use Rattle.model.specs.declared.Lazy.TheVariants.{Off}
 use Rattle.model.specs.declared.Strategy.TheVariants.{Merge}
 use Rattle.model.specs.declared.Options.{Options}
-use Rattle.model.specs.declared.Answer.{Answer}
-use Rattle.model.specs.declared.Answer.TheVariants.{Accepted, CountOutside, OptionOutside, SliceShort, BadNode, BadQubit, BadReference}
-use Rattle.model.specs.declared.Answer.TheVariants.{BadOperation}
-use Rattle.model.specs.declared.Answer.TheVariants.{BadOutcome, NonHermitianAxis, ExpansionLimit, BadText, BadPlace}
+use Rattle.model.specs.declared.Refusal.{Refusal}
+use Rattle.model.specs.declared.Refusal.TheVariants.{CountOutside, OptionOutside, SliceShort, BadNode, BadQubit, BadReference}
+use Rattle.model.specs.declared.Refusal.TheVariants.{BadOperation, BadOutcome, NonHermitianAxis, ExpansionLimit, BadText, BadPlace}
 use Rattle.model.specs.declared.ExpansionLimit.{ExpansionLimit as NoRoom}
 use Rattle.model.specs.declared.Counters.{Counters}
+use Rattle.model.specs.Answers.{Answer}
 
 -- "If the answer is an enum, a definition gives this paper's number and values for each of its cases." The cases have no values
+abbrev pub refusal_number : Refusal → ℕ
+refusal_number CountOutside = 1
+refusal_number OptionOutside = 2
+refusal_number SliceShort = 3
+refusal_number BadNode = 4
+refusal_number BadQubit = 5
+refusal_number BadReference = 6
+refusal_number BadOperation = 7
+refusal_number BadOutcome = 8
+refusal_number NonHermitianAxis = 9
+refusal_number ExpansionLimit = 10
+refusal_number BadText = 11
+refusal_number BadPlace = 16
+
 abbrev pub number_of : Answer → ℕ
-number_of Accepted = 0
-number_of CountOutside = 1
-number_of OptionOutside = 2
-number_of SliceShort = 3
-number_of BadNode = 4
-number_of BadQubit = 5
-number_of BadReference = 6
-number_of BadOperation = 7
-number_of BadOutcome = 8
-number_of NonHermitianAxis = 9
-number_of ExpansionLimit = 10
-number_of BadText = 11
-number_of BadPlace = 16
+number_of (Ok u) = 0
+number_of (Err r) = refusal_number r
 
 -- what an answer of 10 says by itself; it has no parts
 abbrev pub expansion_limit : NoRoom

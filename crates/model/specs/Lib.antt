@@ -1,4 +1,5 @@
 pub mod Lists
+pub mod Answers
 pub mod Interface
 pub mod Program
 pub mod Rules

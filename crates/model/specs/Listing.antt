@@ -6,8 +6,7 @@ use mathlib.Core.List.{List, [], ◌∷◌, ◌++◌, map, flatten}
 use Rattle.pauli.specs.Word.{width}
 use Rattle.pauli.specs.Letter.{letter_at}
 use Rattle.model.specs.declared.Options.{Options}
-use Rattle.model.specs.declared.Answer.{Answer}
-use Rattle.model.specs.declared.Answer.TheVariants.{CountOutside, OptionOutside, NonHermitianAxis, ExpansionLimit, BadText}
+use Rattle.model.specs.Answers.{Answer, CountOutside, OptionOutside, NonHermitianAxis, ExpansionLimit, BadText}
 use Rattle.model.specs.declared.Counters.{Counters}
 use Rattle.model.specs.Lists.{when◌then◌else◌, any_of, is_empty}
 use Rattle.model.specs.Interface.{number_of, accepts, defaults_at}

@@ -3,8 +3,7 @@
 use Rattle.std.specs.Prelude.{◌≡◌, ℕ, ◌-◌, length, replicate}
 use mathlib.Core.List.{List, ◌++◌, flatten}
 use Rattle.model.specs.declared.Options.{Options}
-use Rattle.model.specs.declared.Answer.{Answer}
-use Rattle.model.specs.declared.Answer.TheVariants.{Accepted, NonHermitianAxis, ExpansionLimit}
+use Rattle.model.specs.Answers.{Answer, Accepted, NonHermitianAxis, ExpansionLimit}
 use Rattle.model.specs.declared.Counters.{Counters}
 use Rattle.model.specs.Lists.{when◌then◌else◌}
 use Rattle.model.specs.Interface.{accepts, no_counters}

@@ -1,8 +1,7 @@
 -- 01, "words.rs" and "Turning work down": a run, from the program to its end, without a word limit. Assumes nothing.
 use Rattle.std.specs.Prelude.{◌||◌, List, [], ◌∷◌, ◌++◌, map, ℕ, suc, eqb, ltb}
 use Rattle.pauli.specs.Word.{width, is_identity}
-use Rattle.model.specs.declared.Answer.{Answer}
-use Rattle.model.specs.declared.Answer.TheVariants.{Accepted, NonHermitianAxis, ExpansionLimit}
+use Rattle.model.specs.Answers.{Answer, Accepted, NonHermitianAxis, ExpansionLimit}
 use Rattle.model.specs.Lists.{when◌then◌else◌}
 use Rattle.model.specs.Program.{Kind, rotate, measure, conditional, Operation, Program}
 use Rattle.model.specs.Rules.{Rules}

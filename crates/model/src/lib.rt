@@ -2,7 +2,7 @@
 #![tactic(auto)]
 
 ghost use Rattle.std.specs.Prelude.{◌≡◌};
-ghost use Rattle.model.specs.Interface.{number_of, no_counters, defaults_at};
+ghost use Rattle.model.specs.Interface.{refusal_number, number_of, no_counters, defaults_at};
 
 // Which algorithm to run.
 #[derive(Clone, Copy)]
@@ -82,46 +82,42 @@ pub struct Counts {
     pub operations: usize,
 }
 
-// What a call answers.
-#[derive(Clone, Copy)]
-pub enum Answer {
-    Accepted,
-    CountOutside,
-    OptionOutside,
-    SliceShort,
-    BadNode,
-    BadQubit,
-    BadReference,
-    BadOperation,
-    BadOutcome,
-    NonHermitianAxis,
-    ExpansionLimit,
-    BadText,
-    BadPlace,
+// Why a call is refused, as document 01 numbers it.
+#[derive(Clone, Copy, PartialEq, Eq)]
+pub enum Refusal {
+    CountOutside = 1,
+    OptionOutside = 2,
+    SliceShort = 3,
+    BadNode = 4,
+    BadQubit = 5,
+    BadReference = 6,
+    BadOperation = 7,
+    BadOutcome = 8,
+    NonHermitianAxis = 9,
+    ExpansionLimit = 10,
+    BadText = 11,
+    BadPlace = 16,
+}
+
+impl From<Refusal> for u32 {
+    ghost from_gives = { λ r n. n ≡ refusal_number r };
+
+    fn from(refusal: Refusal) -> u32 {
+        refusal as u32
+    }
 }
 
 // Refusal 10, by what stores a word: the limit leaves no room for it.
 #[derive(Clone, Copy)]
 pub struct ExpansionLimit;
 
-// Document 01's number of an answer.
-pub fn number_of(a: Answer) -> u32
-    ensures { result ≡ number_of a }
+// Document 01's number of an answer: 0 where the call is accepted.
+pub fn number_of(answer: Result<(), Refusal>) -> u32
+    ensures { result ≡ number_of answer }
 {
-    match a {
-        Answer::Accepted => 0,
-        Answer::CountOutside => 1,
-        Answer::OptionOutside => 2,
-        Answer::SliceShort => 3,
-        Answer::BadNode => 4,
-        Answer::BadQubit => 5,
-        Answer::BadReference => 6,
-        Answer::BadOperation => 7,
-        Answer::BadOutcome => 8,
-        Answer::NonHermitianAxis => 9,
-        Answer::ExpansionLimit => 10,
-        Answer::BadText => 11,
-        Answer::BadPlace => 16,
+    match answer {
+        Ok(()) => 0,
+        Err(refusal) => refusal.into(),
     }
 }
 

@@ -1,5 +1,5 @@
 -- The end of a call that Checking passes: results written, or the work stores cleaned. Assumes nothing.
-use Rattle.std.specs.Prelude.{◌≡◌, Bool, ℕ, ◌*◌, ◌≤◌}
+use Rattle.std.specs.Prelude.{◌≡◌, Bool, ℕ, ◌*◌, ◌≤◌, Result, Ok, Err}
 use Rattle.std.proofs.Math.Path.{refl, sym, ap}
 use Rattle.std.proofs.Common.{ap₂, ◌∙◌, arith, le-ltb}
 use Rattle.std.proofs.Math.Bool.{true, false}
@@ -7,19 +7,21 @@ use mathlib.Core.List.{List, flatten}
 use Rattle.std.proofs.Math.Dec.{ltb}
 use Rattle.std.proofs.Math.ListN.{length}
 use Rattle.model.specs.declared.Options.{Options}
-use Rattle.model.specs.declared.Answer.{Answer}
-use Rattle.model.specs.declared.Answer.TheVariants.{Accepted, NonHermitianAxis, ExpansionLimit}
+use Rattle.model.specs.declared.Refusal.{Refusal}
+use Rattle.model.specs.Answers.{Answer, Accepted, NonHermitianAxis, ExpansionLimit}
 use Rattle.model.specs.Lists.{when◌then◌else◌}
 use Rattle.model.specs.Program.{Program}
 use Rattle.model.specs.Rules.{Rules, rules_of}
 use Rattle.model.specs.Run.{Run, Ending, non_hermitian, finished, end_answer, answer_of}
 use Rattle.model.specs.Checking.{Lent}
-use Rattle.model.specs.Rewriting.{Reply, stopped, accepted, after_ending, after_run}
+use Rattle.model.specs.Rewriting.{Reply, zeros, stopped, accepted, after_ending, after_run}
 use Rattle.theory.specs.Cases.{if_true, if_false}
 use Rattle.theory.specs.AcceptedRun.{hermitian_ending, hermitian_peak}
 use Rattle.layout.specs.declared.Shape.{Shape}
 use Rattle.axes.specs.Held.{held_count}
 use Rattle.records.specs.Given.{program_in}
+use Rattle.packing_answer.specs.declared.PackingRefusal.{PackingRefusal}
+use Rattle.packing_answer.specs.Answer.{packing_answer}
 use Rattle.packing.specs.Packed.{PackPre}
 use Rattle.points.specs.Points.{SameLong, OptionsIn}
 use Rattle.layout.specs.Rows.{items_row}
@@ -27,13 +29,11 @@ use Rattle.items.specs.View.{item_said, view_length}
 use Rattle.results.specs.Zeros.{zeros_same, then_same}
 use Rattle.results.specs.Finish.{FinishPre, Finished, finish_pre, finished_are}
 use Rattle.decision.specs.declared.Decided.{Decided}
-use Rattle.decision.specs.declared.Decision.{Decision}
-use Rattle.decision.specs.declared.Decision.TheVariants.{Done, Refused}
 use Rattle.decision.specs.End.{finished_in, end_barriers, DecidedAs}
 use Rattle.decision.specs.Decision.{run_in, DecisionAs}
 use Rattle.checking.specs.Call.{lent_of}
 use Rattle.optimize.specs.declared.Rewritten.{Rewritten}
-use Rattle.optimize.specs.Reply.{reply_of, StoppedAs, reply_stopped}
+use Rattle.optimize.specs.Reply.{reply_of, reply_stopped}
 
 -- the model's reply after Checking, s lent
 abbrev pub reply_in : Shape → Options → List ℕ → List ℕ → List ℕ → Lent → Reply
@@ -108,7 +108,7 @@ module _ (o : Options) {z : Shape} {ns os rs : List ℕ} {x : Decided} {ws xs to
       ∙ ap (after_ending (rules_of o) p (lent_of ws xs to rt)) (hermitian_ending (rules_of o) o.rounds p d.hermitian)
 
   pub accept_done : {vs ys to' rt' : List ℕ} → Finished z os x.items x.axes x.changed ws xs to rt vs ys to' rt'
-      → reply_of (record { answer = Accepted; counters = x.counters; operations = x.items; axes = x.axes }) (lent_of vs ys to' rt')
+      → reply_of (Ok (record { counters = x.counters; operations = x.items; axes = x.axes })) (lent_of vs ys to' rt')
       ≡ reply_in z o ns os rs (lent_of ws xs to rt)
   unfolding accepted
   accept_done f =
@@ -121,23 +121,23 @@ module _ (o : Options) {z : Shape} {ns os rs : List ℕ} {x : Decided} {ws xs to
 
 -- ---- by the decision
 
-pub record ConcludePre (z : Shape) (o : Options) (ns os rs : List ℕ) (d : Decision) (ws xs to rt : List ℕ) : Type 0 where
+pub record ConcludePre (z : Shape) (o : Options) (ns os rs : List ℕ) (d : Result Decided PackingRefusal) (ws xs to rt : List ℕ) : Type 0 where
   pub ws₀ : List ℕ
   pub xs₀ : List ℕ
   pub decision : DecisionAs z o ns os rs ws₀ xs₀ d ws xs
   pub fit : ResultsFit z to rt
 
-module _ (o : Options) {z : Shape} {ns os rs : List ℕ} {d : Decision} {ws xs to rt : List ℕ}
+module _ (o : Options) {z : Shape} {ns os rs : List ℕ} {d : Result Decided PackingRefusal} {ws xs to rt : List ℕ}
     (h : ConcludePre z o ns os rs d ws xs to rt) where
-  pub conclude_accept : (x : Decided) → d ≡ Done x → AcceptPre z o ns os rs x ws xs to rt
+  pub conclude_accept : (x : Decided) → d ≡ Ok x → AcceptPre z o ns os rs x ws xs to rt
   conclude_accept x e = record { decided = h.decision.done x e; fit = h.fit }
 
-  pub conclude_stop : (a : Answer) → d ≡ Refused a → {r : Rewritten} {vs ys : List ℕ} → StoppedAs a ws xs r vs ys
-      → reply_of r (lent_of vs ys to rt) ≡ reply_in z o ns os rs (lent_of ws xs to rt)
-  conclude_stop a e s =
-      let k = h.decision.refused a e in
-      reply_stopped a s
-      ∙ sym (run_stopped (rules_of o) (program_in z ns os rs) (lent_of ws xs to rt) z.limit (run_in z o ns os rs) a k.answer k.other)
+  pub conclude_stop : {e : PackingRefusal} {r : Refusal} → d ≡ Err e → packing_answer (Err e) ≡ Err r → {vs ys : List ℕ}
+      → vs ≡ zeros ws → ys ≡ zeros xs → reply_of (Err r) (lent_of vs ys to rt) ≡ reply_in z o ns os rs (lent_of ws xs to rt)
+  conclude_stop {e} {r} f g words numbers =
+      reply_stopped r to rt words numbers
+      ∙ sym (run_stopped (rules_of o) (program_in z ns os rs) (lent_of ws xs to rt) z.limit (run_in z o ns os rs) (Err r)
+      (h.decision.refused e f ∙ g) (λ k. cc))
 
 -- ---- from the start
 
@@ -147,10 +147,10 @@ pub record RunPre (z : Shape) (o : Options) (ns os rs ws xs to rt : List ℕ) : 
   pub fit : ResultsFit z to rt
 
 module _ {z : Shape} {o : Options} {ns os rs : List ℕ} {ws xs to rt : List ℕ} (h : RunPre z o ns os rs ws xs to rt)
-    {d : Decision} {vs ys : List ℕ} (k : DecisionAs z o ns os rs ws xs d vs ys) where
+    {d : Result Decided PackingRefusal} {vs ys : List ℕ} (k : DecisionAs z o ns os rs ws xs d vs ys) where
   pub run_conclude : ConcludePre z o ns os rs d vs ys to rt
   run_conclude = record { ws₀ = ws; xs₀ = xs; decision = k; fit = h.fit }
 
-  pub run_done : {r : Rewritten} {s : Lent} → reply_of r s ≡ reply_in z o ns os rs (lent_of vs ys to rt)
+  pub run_done : {r : Result Rewritten Refusal} {s : Lent} → reply_of r s ≡ reply_in z o ns os rs (lent_of vs ys to rt)
       → reply_of r s ≡ reply_in z o ns os rs (lent_of ws xs to rt)
   run_done q = q ∙ reply_same z o ns os rs to rt k.long

@@ -1,7 +1,7 @@
 -- A reply of the model as the code hands it back. Assumes nothing.
-use Rattle.std.specs.Prelude.{◌≡◌, refl, List, ℕ}
-use Rattle.std.proofs.Common.{ap}
-use Rattle.model.specs.declared.Answer.{Answer}
+use Rattle.std.specs.Prelude.{◌≡◌, refl, List, ℕ, Result, Ok, Err}
+use Rattle.model.specs.declared.Refusal.{Refusal}
+use Rattle.model.specs.Answers.{answer_in}
 use Rattle.model.specs.declared.Counters.{Counters}
 use Rattle.model.specs.Interface.{no_counters}
 use Rattle.model.specs.Checking.{Lent}
@@ -9,32 +9,32 @@ use Rattle.model.specs.Rewriting.{Reply, zeros, refused, stopped}
 use Rattle.checking.specs.Call.{lent_of}
 use Rattle.optimize.specs.declared.Rewritten.{Rewritten}
 
+-- counters, operations and axes of what is handed back: after a refusal none
+abbrev pub counters_in : Result Rewritten Refusal → Counters
+counters_in (Ok r) = r.counters
+counters_in (Err e) = no_counters
+
+abbrev pub operations_in : Result Rewritten Refusal → ℕ
+operations_in (Ok r) = r.operations
+operations_in (Err e) = 0
+
+abbrev pub axes_in : Result Rewritten Refusal → ℕ
+axes_in (Ok r) = r.axes
+axes_in (Err e) = 0
+
 -- what the code hands back and the lent slices, as one reply
-abbrev pub reply_of : Rewritten → Lent → Reply
-reply_of r s = record { answer = r.answer; counters = r.counters; operations = r.operations; axes = r.axes; lent = s }
+abbrev pub reply_of : Result Rewritten Refusal → Lent → Reply
+reply_of r s = record { answer = answer_in r; counters = counters_in r; operations = operations_in r; axes = axes_in r; lent = s }
 
 -- ---- refusals
 
--- what they hand back
-abbrev pub refused_by : Answer → Rewritten
-refused_by a = record { answer = a; counters = no_counters; operations = 0; axes = 0 }
-
-pub refused_is : (a : Answer) {k : Counters} → k ≡ no_counters
-    → ◌≡◌ {A = Rewritten} (record { answer = a; counters = k; operations = 0; axes = 0 }) (refused_by a)
-refused_is a e = ap (λ (k : Counters). record { answer = a; counters = k; operations = 0; axes = 0 }) e
-
 -- 1 to 8
-pub reply_refused : (a : Answer) (s : Lent) {r : Rewritten} → r ≡ refused_by a → reply_of r s ≡ refused a s
+pub reply_refused : (e : Refusal) (s : Lent) → reply_of (Err e) s ≡ refused (Err e) s
 unfolding refused
-reply_refused a s e = ap (λ (x : Rewritten). reply_of x s) e
+reply_refused e s = refl
 
 -- 9 and 10: the work stores are zero
-pub record StoppedAs (a : Answer) (ws xs : List ℕ) (r : Rewritten) (vs ys : List ℕ) : Type 0 where
-  pub reply : r ≡ refused_by a
-  pub words : vs ≡ zeros ws
-  pub numbers : ys ≡ zeros xs
-
-pub reply_stopped : (a : Answer) {ws xs to rt : List ℕ} {r : Rewritten} {vs ys : List ℕ} → StoppedAs a ws xs r vs ys
-    → reply_of r (lent_of vs ys to rt) ≡ stopped a (lent_of ws xs to rt)
+pub reply_stopped : (e : Refusal) {ws xs vs ys : List ℕ} (to rt : List ℕ) → vs ≡ zeros ws → ys ≡ zeros xs
+    → reply_of (Err e) (lent_of vs ys to rt) ≡ stopped (Err e) (lent_of ws xs to rt)
 unfolding stopped
-reply_stopped a h = rw (h.reply, h.words, h.numbers) refl
+reply_stopped e to rt words numbers = rw (words, numbers) refl

@@ -3,41 +3,21 @@
 
 ghost use Rattle.std.specs.Prelude.{◌≡◌};
 ghost use Rattle.checking.specs.Call.{job_of, lent_of};
-ghost use Rattle.optimize.specs.Reply.{reply_of, refused_by, StoppedAs};
+ghost use Rattle.optimize.specs.Reply.{reply_of};
 ghost use Rattle.optimize.specs.Conclusion.{reply_in, AcceptPre, ConcludePre, RunPre};
 ghost use Rattle.optimize.specs.Call.{CalledBy};
 
-use decision::{Decided, Decision};
+use decision::Decided;
 use layout::Shape;
-use model::{Answer, Counters, Counts, Options};
+use model::{Counters, Counts, Options, Refusal};
+use packing_answer::PackingRefusal;
 
-// What a call hands back: the answer, the counters, how many operations came out, how many axes are stored.
+// What an accepted call hands back: the counters, how many operations came out, how many axes are stored.
 #[derive(Clone, Copy)]
 pub struct Rewritten {
-    pub answer: Answer,
     pub counters: Counters,
     pub operations: usize,
     pub axes: usize,
-}
-
-// What every refusal hands back.
-fn refused(a: Answer) -> Rewritten
-    ensures { result ≡ refused_by a }
-{
-    Rewritten {
-        answer: a,
-        counters: model::no_counters(),
-        operations: 0,
-        axes: 0,
-    }
-}
-
-// A refusal by 9 or 10: the work stores are zero.
-fn stop(words: &mut [u64], numbers: &mut [u32], a: Answer) -> Rewritten
-    ensures { StoppedAs a words.old numbers.old result words.new numbers.new }
-{
-    results::clean(words, numbers, 0);
-    refused(a)
 }
 
 // An accepted run: results, then zeros.
@@ -55,7 +35,7 @@ fn accept(
 ) -> Rewritten
     requires { AcceptPre shape options nodes.now operations.now rows.now x words.old numbers.old
         result_operations.old result_rows.old }
-    ensures { reply_of result
+    ensures { reply_of (Ok result)
         (lent_of words.new numbers.new result_operations.new result_rows.new)
         ≡ reply_in shape options nodes.now operations.now rows.now
         (lent_of words.old numbers.old result_operations.old result_rows.old) }
@@ -73,14 +53,13 @@ fn accept(
         x.changed,
     );
     Rewritten {
-        answer: Answer::Accepted,
         counters,
         operations: x.items,
         axes: x.axes,
     }
 }
 
-// The lent slices and what is handed back, once it is decided how the run ends.
+// The lent slices and what is handed back, once it is decided how the run ends: a refusal cleans the work stores.
 fn conclude(
     nodes: &[u32],
     operations: &[u32],
@@ -91,8 +70,8 @@ fn conclude(
     result_rows: &mut [u32],
     shape: Shape,
     options: Options,
-    d: Decision,
-) -> Rewritten
+    d: Result<Decided, PackingRefusal>,
+) -> Result<Rewritten, Refusal>
     requires { ConcludePre shape options nodes.now operations.now rows.now d words.old numbers.old
         result_operations.old result_rows.old }
     ensures { reply_of result
@@ -101,7 +80,7 @@ fn conclude(
         (lent_of words.old numbers.old result_operations.old result_rows.old) }
 {
     match d {
-        Decision::Done(x) => accept(
+        Ok(x) => Ok(accept(
             nodes,
             operations,
             rows,
@@ -112,8 +91,11 @@ fn conclude(
             shape,
             options,
             x,
-        ),
-        Decision::Refused(a) => stop(words, numbers, a),
+        )),
+        Err(refusal) => {
+            results::clean(words, numbers, 0);
+            Err(refusal.into())
+        }
     }
 }
 
@@ -128,7 +110,7 @@ fn run(
     result_rows: &mut [u32],
     shape: Shape,
     options: Options,
-) -> Rewritten
+) -> Result<Rewritten, Refusal>
     requires { RunPre shape options nodes.now operations.now rows.now words.old numbers.old
         result_operations.old result_rows.old }
     ensures { reply_of result
@@ -162,12 +144,12 @@ pub fn optimize_rotations(
     numbers: &mut [u32],
     result_operations: &mut [u32],
     result_rows: &mut [u32],
-) -> Rewritten
+) -> Result<Rewritten, Refusal>
     ensures { CalledBy options (job_of counts nodes.now operations.now rows.now)
         (lent_of words.old numbers.old result_operations.old result_rows.old) result
         (lent_of words.new numbers.new result_operations.new result_rows.new) }
 {
-    let a = checking::checking(
+    checking::checking(
         counts,
         options,
         nodes,
@@ -177,10 +159,7 @@ pub fn optimize_rotations(
         &numbers[..],
         &result_operations[..],
         &result_rows[..],
-    );
-    if model::number_of(a) != 0 {
-        return refused(a);
-    }
+    )?;
     let shape = layout::shape_of(counts, options.max_packed_words);
     run(
         nodes,

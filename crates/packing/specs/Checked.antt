@@ -1,7 +1,7 @@
 -- What Checking grants packing by accepting. Assumes nothing.
 use Rattle.std.specs.Prelude.{◌≡◌, false, ◌≤◌}
 use Rattle.model.specs.declared.Options.{Options}
-use Rattle.model.specs.declared.Answer.TheVariants.{Accepted}
+use Rattle.model.specs.Answers.{Accepted}
 use Rattle.model.specs.Program.{Job}
 use Rattle.model.specs.Checking.{Lent, bad_count, checking}
 use Rattle.theory.specs.Checked.{limit_fits}

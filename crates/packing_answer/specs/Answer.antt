@@ -5,8 +5,8 @@ use Rattle.std.proofs.Common.{ap, ◌∙◌}
 use Rattle.std.proofs.Math.Bool.{true, false}
 use Rattle.std.proofs.Math.Dec.{ltb}
 use borrow.Author.Tests.{lt-ltb, le-ltb, ltb-false}
-use Rattle.model.specs.declared.Answer.{Answer}
-use Rattle.model.specs.declared.Answer.TheVariants as answers
+use Rattle.model.specs.Answers.{Answer}
+use Rattle.model.specs.Answers as answers
 use Rattle.model.specs.Lists.{when◌then◌else◌}
 use Rattle.model.specs.Packing.{Pack}
 use Rattle.theory.specs.Cases.{if_true, if_false}

@@ -1,11 +1,11 @@
-// How packing ends, and the answer that this is.
+// Why packing is refused, and what it comes to.
 #![tactic(auto)]
 
-ghost use Rattle.std.specs.Prelude.{◌≡◌};
+ghost use Rattle.std.specs.Prelude.{◌≡◌, Err};
 ghost use Rattle.packing_answer.specs.declared.PackingRefusal.TheVariants.{ExpansionLimit};
 ghost use Rattle.packing_answer.specs.Answer.{packing_answer};
 
-use model::{Answer, ExpansionLimit};
+use model::{ExpansionLimit, Refusal};
 
 // Why packing is refused.
 #[derive(Clone, Copy)]
@@ -22,20 +22,21 @@ impl From<ExpansionLimit> for PackingRefusal {
     }
 }
 
+// 01's refusal.
+impl From<PackingRefusal> for Refusal {
+    ghost from_gives = { λ p r. packing_answer (Err p) ≡ Err r };
+
+    fn from(refusal: PackingRefusal) -> Refusal {
+        match refusal {
+            PackingRefusal::NonHermitianAxis => Refusal::NonHermitianAxis,
+            PackingRefusal::ExpansionLimit => Refusal::ExpansionLimit,
+        }
+    }
+}
+
 // The packed program's axes: how many there are, and the largest word sum that was tested.
 #[derive(Clone, Copy)]
 pub struct PackedAxes {
     pub count: usize,
     pub peak: usize,
-}
-
-// 01's answer.
-pub fn answer(p: Result<PackedAxes, PackingRefusal>) -> Answer
-    ensures { result ≡ packing_answer p }
-{
-    match p {
-        Ok(_) => Answer::Accepted,
-        Err(PackingRefusal::NonHermitianAxis) => Answer::NonHermitianAxis,
-        Err(PackingRefusal::ExpansionLimit) => Answer::ExpansionLimit,
-    }
 }

@@ -6,8 +6,7 @@ use Rattle.std.proofs.lemmas.Bool.{lt-leb}
 use Rattle.model.specs.declared.Lazy.{Lazy}
 use Rattle.model.specs.declared.Lazy.TheVariants.{Off, On, From}
 use Rattle.model.specs.declared.Options.{Options}
-use Rattle.model.specs.declared.Answer.{Answer}
-use Rattle.model.specs.declared.Answer.TheVariants.{Accepted, CountOutside, OptionOutside, SliceShort, NonHermitianAxis, ExpansionLimit, BadPlace}
+use Rattle.model.specs.Answers.{Answer, Accepted, CountOutside, OptionOutside, SliceShort, NonHermitianAxis, ExpansionLimit, BadPlace}
 use Rattle.model.specs.declared.Counters.{Counters}
 use Rattle.model.specs.Interface.{number_of, accepts, of_checking}
 use Rattle.model.specs.Program.{Job, operation_records, program_of}

@@ -5,7 +5,7 @@ use Rattle.std.proofs.Common.{ap₂, ◌∙◌, subst, inl}
 use mathlib.Core.List.{List, [], ◌∷◌, ◌++◌, map, map-append}
 use Rattle.model.specs.declared.Strategy.TheVariants.{Merge}
 use Rattle.model.specs.declared.Options.{Options}
-use Rattle.model.specs.declared.Answer.TheVariants.{Accepted}
+use Rattle.model.specs.Answers.{Accepted}
 use Rattle.model.specs.declared.Counters.{Counters}
 use Rattle.model.specs.Lists.{when◌then◌else◌}
 use Rattle.model.specs.Program.{field_of, Job, node_records, operation_records, row_records, kind_of, measure, Operation, operation_of}

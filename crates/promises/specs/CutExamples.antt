@@ -4,7 +4,7 @@ use Rattle.std.specs.Prelude.{◌≡◌, refl, Bool, true, false, List, [], ◌�
 use Rattle.model.specs.declared.Strategy.TheVariants.{Merge}
 use Rattle.model.specs.declared.Lazy.TheVariants.{Off}
 use Rattle.model.specs.declared.Options.{Options}
-use Rattle.model.specs.declared.Answer.TheVariants.{BadOutcome}
+use Rattle.model.specs.Answers.{BadOutcome}
 use Rattle.model.specs.Program.{Job}
 use Rattle.model.specs.Rewriting.{Reply, rewriting}
 use Rattle.model.specs.Everything.{everything}

@@ -10,7 +10,7 @@ use Rattle.pauli.specs.Word.{width}
 use Rattle.model.specs.declared.Lazy.{Lazy}
 use Rattle.model.specs.declared.Lazy.TheVariants.{From}
 use Rattle.model.specs.declared.Options.{Options}
-use Rattle.model.specs.declared.Answer.TheVariants.{Accepted, BadPlace, BadOperation}
+use Rattle.model.specs.Answers.{Accepted, BadPlace, BadOperation}
 use Rattle.model.specs.Program.{field_of, Job, operation_records, Kind, rotate, measure, conditional, kind_of, Operation, operation_of, Program, program_of}
 use Rattle.model.specs.Checking.{Lent, and_then, bad_operation, measured, check_operation, check_operations, check_nodes, check_program}
 use Rattle.model.specs.Checking.{bad_place, check_place, check_records, checking}

@@ -12,8 +12,7 @@ use Rattle.pauli.specs.Word.{width}
 use Rattle.model.specs.declared.Strategy.TheVariants.{Merge, Litinski}
 use Rattle.model.specs.declared.Lazy.TheVariants.{Off, From}
 use Rattle.model.specs.declared.Options.{Options}
-use Rattle.model.specs.declared.Answer.{Answer}
-use Rattle.model.specs.declared.Answer.TheVariants.{Accepted, SliceShort, OptionOutside, NonHermitianAxis, ExpansionLimit}
+use Rattle.model.specs.Answers.{Answer, Accepted, SliceShort, OptionOutside, NonHermitianAxis, ExpansionLimit}
 use Rattle.model.specs.declared.Counters.{Counters}
 use Rattle.model.specs.Interface.{number_of, accepts, of_checking, no_counters}
 use Rattle.model.specs.Program.{Job, operation_records, Program, program_of}

@@ -3,7 +3,7 @@ use Rattle.std.specs.Prelude.{◌≡◌, refl, List, ℕ, ◌*◌, ◌≤◌, le
 use Rattle.std.proofs.Common.{arith}
 use Rattle.pauli.specs.Word.{width}
 use Rattle.model.specs.declared.Options.{Options}
-use Rattle.model.specs.declared.Answer.TheVariants.{Accepted}
+use Rattle.model.specs.Answers.{Accepted}
 use Rattle.model.specs.Program.{Job, Program, program_of}
 use Rattle.model.specs.Checking.{Lent, checking}
 use Rattle.theory.specs.Checked.{Fine, checked_fine}

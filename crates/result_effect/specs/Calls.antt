@@ -6,7 +6,7 @@ use Rattle.std.proofs.lemmas.List.{length-map}
 use Rattle.store.specs.Chunk.{chunks, chunks_length}
 use Rattle.pauli.specs.Word.{width, IsWord}
 use Rattle.model.specs.declared.Options.{Options}
-use Rattle.model.specs.declared.Answer.TheVariants.{Accepted}
+use Rattle.model.specs.Answers.{Accepted}
 use Rattle.model.specs.Program.{records, Job, row_records, Kind, rotate, measure, conditional, Operation, PauliRef, row_of, Program, program_of}
 use Rattle.model.specs.Rules.{Rules, rules_of}
 use Rattle.model.specs.Words.{word_of}

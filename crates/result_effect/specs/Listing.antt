@@ -9,7 +9,7 @@ use Rattle.std.proofs.lemmas.List.{length-map}
 use Rattle.store.specs.Chunk.{chunks_length}
 use Rattle.groups.specs.Eighth.{eighth}
 use Rattle.pauli.specs.Word.{width}
-use Rattle.model.specs.declared.Answer.TheVariants.{Accepted, BadOperation}
+use Rattle.model.specs.Answers.{Accepted, BadOperation}
 use Rattle.model.specs.Program.{field_of, largest_outcome, no_outcome, minus_one, Job, operation_records, row_records, Kind, rotate, measure}
 use Rattle.model.specs.Program.{conditional}
 use Rattle.model.specs.Program.{kind_of, Operation, operation_of, row_of, Program, program_of}

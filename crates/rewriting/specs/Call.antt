@@ -1,19 +1,33 @@
 -- A call of Rewriting, from what its parts leave. Assumes nothing.
-use Rattle.std.specs.Prelude.{◌≡◌}
+use Rattle.std.specs.Prelude.{◌≡◌, ℕ, Result, Ok, Err}
+use Rattle.std.proofs.Common.{sym, ◌∙◌, subst}
 use Rattle.model.specs.declared.Counters.{Counters}
 use Rattle.model.specs.declared.Options.{Options}
+use Rattle.model.specs.declared.Refusal.{Refusal}
+use Rattle.model.specs.Interface.{no_counters}
 use Rattle.model.specs.Program.{Job}
 use Rattle.model.specs.Checking.{Lent}
 use Rattle.model.specs.Rewriting.{Called}
-use Rattle.optimize.specs.declared.Rewritten.{Rewritten}
+use Rattle.theory.specs.Called.{answer_is, counters_are}
+use Rattle.theory.specs.Replies.{refused_counters}
 use Rattle.optimize.specs.Call.{CalledBy}
 use Rattle.rewriting.specs.declared.Answered.{Answered}
 
--- what is handed back beside the counters
-abbrev pub answered_by : Rewritten → Answered
-answered_by r = record { answer = r.answer; operations = r.operations; axes = r.axes }
+-- operations and axes of what is answered: after a refusal none
+abbrev pub operations_in : Result Answered Refusal → ℕ
+operations_in (Ok a) = a.operations
+operations_in (Err e) = 0
 
--- the counters that were stored and what was answered are the core's
-pub called : {o : Options} {j : Job} {s s' : Lent} {r : Rewritten} {c : Counters} {a : Answered} → CalledBy o j s r s'
-    → (c ≡ r.counters) × (a ≡ answered_by r) → Called o j s a.answer c a.operations a.axes s'
-called q e = rw (e.0, e.1) q
+abbrev pub axes_in : Result Answered Refusal → ℕ
+axes_in (Ok a) = a.axes
+axes_in (Err e) = 0
+
+module _ {o : Options} {j : Job} {s s' : Lent} {e : Refusal} where
+  -- the core's refusal, with counters at 0
+  pub refused_called : {c : Counters} → c ≡ no_counters → CalledBy o j s (Err e) s' → Called o j s (Err e) c 0 0 s'
+  refused_called f call = subst (λ (c : Counters). Called o j s (Err e) c 0 0 s') (sym f) call
+
+  -- back: the counters that a refusal leaves are 0
+  pub refused_by : {c : Counters} → Called o j s (Err e) c 0 0 s' → CalledBy o j s (Err e) s'
+  refused_by call =
+      subst (λ (c : Counters). Called o j s (Err e) c 0 0 s') (sym (counters_are call) ∙ refused_counters o j s e (answer_is call)) call

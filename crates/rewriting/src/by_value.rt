@@ -2,7 +2,7 @@
 ghost use Rattle.checking.specs.Call.{job_of, lent_of};
 ghost use Rattle.optimize.specs.Call.{CalledBy};
 
-use model::{Counts, Options};
+use model::{Counts, Options, Refusal};
 use optimize::Rewritten;
 
 pub fn rewriting(
@@ -15,13 +15,13 @@ pub fn rewriting(
     numbers: &mut [u32],
     result_operations: &mut [u32],
     result_rows: &mut [u32],
-) -> Rewritten
+) -> Result<Rewritten, Refusal>
     ensures { CalledBy options (job_of counts nodes.now operations.now rows.now)
         (lent_of words.old numbers.old result_operations.old result_rows.old) result
         (lent_of words.new numbers.new result_operations.new result_rows.new) }
 {
-    let mut stats = model::no_counters();
-    let a = crate::rewriting(
+    let mut counters = model::no_counters();
+    let answered = crate::rewriting(
         counts,
         options,
         nodes,
@@ -31,12 +31,11 @@ pub fn rewriting(
         numbers,
         result_operations,
         result_rows,
-        &mut stats,
-    );
-    Rewritten {
-        answer: a.answer,
-        counters: stats,
-        operations: a.operations,
-        axes: a.axes,
-    }
+        &mut counters,
+    )?;
+    Ok(Rewritten {
+        counters,
+        operations: answered.operations,
+        axes: answered.axes,
+    })
 }

@@ -1,37 +1,23 @@
 // The public call of Rewriting, the counters lent; and the same by value.
 #![tactic(auto)]
 
-ghost use Rattle.std.specs.Prelude.{◌≡◌};
 ghost use Rattle.checking.specs.Call.{job_of, lent_of};
 ghost use Rattle.model.specs.Rewriting.{Called};
-ghost use Rattle.rewriting.specs.Call.{answered_by};
+ghost use Rattle.model.specs.Answers.{answer_in};
+ghost use Rattle.rewriting.specs.Call.{operations_in, axes_in};
 
 pub mod by_value;
 
-use model::{Answer, Counters, Counts, Options};
-use optimize::Rewritten;
+use model::{Counters, Counts, Options, Refusal};
 
-// What a call answers beside the counters: how many operations came out, how many axes are stored.
+// What an accepted call answers beside the counters: how many operations came out, how many axes are stored.
 #[derive(Clone, Copy)]
 pub struct Answered {
-    pub answer: Answer,
     pub operations: usize,
     pub axes: usize,
 }
 
-// The end of a call: the counters become the run's, and the rest is answered.
-fn conclude(stats: &mut Counters, r: Rewritten) -> Answered
-    ensures { (stats.new ≡ r.counters) × (result ≡ answered_by r) }
-{
-    *stats = r.counters;
-    Answered {
-        answer: r.answer,
-        operations: r.operations,
-        axes: r.axes,
-    }
-}
-
-// Rewriting.
+// Rewriting. After a refusal the counters are 0.
 pub fn rewriting(
     counts: Counts,
     options: Options,
@@ -43,13 +29,14 @@ pub fn rewriting(
     result_operations: &mut [u32],
     result_rows: &mut [u32],
     stats: &mut Counters,
-) -> Answered
+) -> Result<Answered, Refusal>
     ensures { Called options (job_of counts nodes.now operations.now rows.now)
         (lent_of words.old numbers.old result_operations.old result_rows.old)
-        result.answer stats.new result.operations result.axes
+        (answer_in result) stats.new (operations_in result) (axes_in result)
         (lent_of words.new numbers.new result_operations.new result_rows.new) }
 {
-    let r = optimize::optimize_rotations(
+    *stats = model::no_counters();
+    let rewritten = optimize::optimize_rotations(
         counts,
         options,
         nodes,
@@ -59,6 +46,10 @@ pub fn rewriting(
         numbers,
         result_operations,
         result_rows,
-    );
-    conclude(stats, r)
+    )?;
+    *stats = rewritten.counters;
+    Ok(Answered {
+        operations: rewritten.operations,
+        axes: rewritten.axes,
+    })
 }

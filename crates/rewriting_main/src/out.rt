@@ -1,6 +1,6 @@
 // What is printed of a job.
 use crate::numbers;
-use model::Counters;
+use model::{Counters, Refusal};
 use optimize::Rewritten;
 use std::io;
 
@@ -29,15 +29,23 @@ fn rewrites(rt: &impl Print, c: Counters) -> io::Result<()> {
     next_number(rt, c.cliffords_to_frame)
 }
 
-// The line of what a call hands back.
-pub fn rewritten(rt: &impl Print, r: Rewritten) -> io::Result<()> {
-    let c = r.counters;
-    let a = r.answer;
-    rt.print(model::number_of(a))?;
-    rewrites(rt, c)?;
+// The line of an accepted call.
+fn accepted(rt: &impl Print, r: Rewritten) -> io::Result<()> {
+    rt.print(0u32)?;
+    rewrites(rt, r.counters)?;
     next_number(rt, r.operations)?;
     next_number(rt, r.axes)?;
-    sizes(rt, c)
+    sizes(rt, r.counters)
+}
+
+// The line of what a call hands back: a refusal's number and zeros.
+pub fn rewritten(rt: &impl Print, reply: Result<Rewritten, Refusal>) -> io::Result<()> {
+    match reply {
+        Ok(r) => accepted(rt, r),
+        Err(refusal) => {
+            println!(rt; "{} 0 0 0 0 0 0 0 0 0 0 0 0 0 0", u32::from(refusal))
+        }
+    }
 }
 
 // A job that there is no room for.

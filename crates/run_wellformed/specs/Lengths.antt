@@ -8,8 +8,7 @@ use Rattle.std.proofs.lemmas.List.{length-map, length-replicate}
 use Rattle.store.specs.Chunk.{chunks_length}
 use Rattle.pauli.specs.Word.{width, IsWord}
 use Rattle.model.specs.declared.Options.{Options}
-use Rattle.model.specs.declared.Answer.{Answer}
-use Rattle.model.specs.declared.Answer.TheVariants.{Accepted, CountOutside, OptionOutside, SliceShort, NonHermitianAxis, ExpansionLimit}
+use Rattle.model.specs.Answers.{Answer, Accepted, CountOutside, OptionOutside, SliceShort, NonHermitianAxis, ExpansionLimit}
 use Rattle.model.specs.Lists.{sum_of}
 use Rattle.model.specs.Interface.{accepts}
 use Rattle.model.specs.Program.{Job, operation_records, row_records, Kind, rotate, measure, conditional, Operation, operation_of, PauliRef, row_of}

@@ -5,7 +5,7 @@ use Rattle.std.proofs.Math.ListN.{length-map}
 use Rattle.store.specs.Chunk.{chunks_length}
 use Rattle.pauli.specs.Word.{width}
 use Rattle.model.specs.declared.Options.{Options}
-use Rattle.model.specs.declared.Answer.TheVariants.{Accepted}
+use Rattle.model.specs.Answers.{Accepted}
 use Rattle.model.specs.Program.{Job, operation_records, PauliRef, Program, operation_of, program_of}
 use Rattle.model.specs.Rules.{Rules, rules_of}
 use Rattle.model.specs.Packing.{packed, SignedAxis}

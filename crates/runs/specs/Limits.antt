@@ -1,8 +1,7 @@
 -- The four places where a word sum is tested: at the sum itself the run is accepted, at one less it is refused by 10. Assumes nothing.
 use Rattle.std.specs.Prelude.{◌≡◌, refl, true, false, List, [], ◌∷◌, ℕ, ◌-◌}
 use Rattle.model.specs.declared.Strategy.TheVariants.{Merge}
-use Rattle.model.specs.declared.Answer.{Answer}
-use Rattle.model.specs.declared.Answer.TheVariants.{Accepted, ExpansionLimit}
+use Rattle.model.specs.Answers.{Answer, Accepted, ExpansionLimit}
 use Rattle.model.specs.Program.{Program}
 use Rattle.model.specs.declared.Absorption.TheVariants.{AtOnce as at_once}
 use Rattle.model.specs.Rules.{Rules}

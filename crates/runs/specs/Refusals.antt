@@ -4,10 +4,8 @@ use Rattle.pauli.specs.Word.{width}
 use Rattle.model.specs.declared.Strategy.TheVariants.{Merge}
 use Rattle.model.specs.declared.Lazy.TheVariants.{Off}
 use Rattle.model.specs.declared.Options.{Options}
-use Rattle.model.specs.declared.Answer.{Answer}
-use Rattle.model.specs.declared.Answer.TheVariants.{Accepted, CountOutside, OptionOutside, SliceShort, BadNode, BadQubit, BadReference}
-use Rattle.model.specs.declared.Answer.TheVariants.{BadOperation}
-use Rattle.model.specs.declared.Answer.TheVariants.{BadOutcome, NonHermitianAxis, ExpansionLimit}
+use Rattle.model.specs.Answers.{Answer, Accepted, CountOutside, OptionOutside, SliceShort, BadNode, BadQubit, BadReference, BadOperation, BadOutcome}
+use Rattle.model.specs.Answers.{NonHermitianAxis, ExpansionLimit}
 use Rattle.model.specs.Interface.{defaults_at, no_counters}
 use Rattle.model.specs.Program.{Job}
 use Rattle.model.specs.Checking.{Lent, words_asked, numbers_asked, checking}

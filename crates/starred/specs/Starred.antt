@@ -6,7 +6,7 @@ use Rattle.pauli.specs.Word.{width}
 use Rattle.pauli.specs.Letter.{single}
 use Rattle.pauli.specs.Support.{signature, signature_to}
 use Rattle.model.specs.declared.Strategy.TheVariants.{Merge}
-use Rattle.model.specs.declared.Answer.TheVariants.{NonHermitianAxis}
+use Rattle.model.specs.Answers.{NonHermitianAxis}
 use Rattle.model.specs.Program.{Program}
 use Rattle.model.specs.declared.Absorption.TheVariants.{AtOnce as at_once}
 use Rattle.model.specs.Rules.{Rules}

@@ -1,7 +1,7 @@
 -- A run that is accepted at a limit: it was within the limit, no root was refused, and its T-count is no higher. Assumes nothing.
 use Rattle.std.specs.Prelude.{◌≡◌, refl, Bool, true, false, ℕ, ◌≤◌}
 use Rattle.std.proofs.Common.{sym, ap, ◌∙◌, arith}
-use Rattle.model.specs.declared.Answer.TheVariants.{Accepted, NonHermitianAxis}
+use Rattle.model.specs.Answers.{Accepted, NonHermitianAxis}
 use Rattle.model.specs.Program.{Program}
 use Rattle.model.specs.Rules.{Rules}
 use Rattle.model.specs.Packing.{packed}

@@ -1,16 +1,16 @@
 -- What a Checking that passes says of the program. Assumes nothing.
-use Rattle.std.specs.Prelude.{◌≡◌, refl, Bool, true, false, not, ◌||◌, List, [], ◌∷◌, map, ℕ, zero, suc, ◌/◌, ◌%◌, ◌≤◌, ◌<◌, eqb, ltb, leb, length, get_or}
-use Rattle.std.proofs.Common.{sym, ap, ◌∙◌, true≢false, arith, eqb-true, ltb-false, leb-false}
+use Rattle.std.specs.Prelude.{◌≡◌, refl, Bool, true, false, not, ◌||◌, List, [], ◌∷◌, map, ℕ, zero, suc, ◌/◌, ◌%◌, ◌≤◌, ◌<◌, eqb, ltb, leb, length, get_or, Ok, Err}
+use Rattle.std.proofs.Common.{sym, ap, ◌∙◌, true≢false, arith, eqb-true, ne_eqb, ltb-false, leb-false}
 use Rattle.std.proofs.lemmas.List.{length-map}
 use Rattle.store.specs.Chunk.{chunks, chunks_length}
 use Rattle.model.specs.declared.Lazy.TheVariants.{Off}
 use Rattle.model.specs.declared.Options.{Options}
-use Rattle.model.specs.declared.Answer.{Answer}
-use Rattle.model.specs.declared.Answer.TheVariants.{Accepted, CountOutside, OptionOutside, SliceShort, BadNode, BadQubit, BadReference}
-use Rattle.model.specs.declared.Answer.TheVariants.{BadOperation}
-use Rattle.model.specs.declared.Answer.TheVariants.{BadOutcome, NonHermitianAxis, ExpansionLimit, BadText, BadPlace}
+use Rattle.model.specs.declared.Refusal.{Refusal}
+use Rattle.model.specs.declared.Refusal.TheVariants as refusals
+use Rattle.model.specs.Answers.{Answer, Accepted, CountOutside, OptionOutside, SliceShort, BadNode, BadQubit, BadReference, BadOperation, BadOutcome}
+use Rattle.model.specs.Answers.{NonHermitianAxis, ExpansionLimit, BadText, BadPlace}
 use Rattle.model.specs.Lists.{when◌then◌else◌}
-use Rattle.model.specs.Interface.{number_of, accepts}
+use Rattle.model.specs.Interface.{refusal_number, number_of, accepts}
 use Rattle.model.specs.Program.{field_of, Job, node_records, operation_records, row_records, Node, identity, letter, product, node_of_kind, node_of}
 use Rattle.model.specs.Program.{Operation}
 use Rattle.model.specs.Program.{operation_of, PauliRef, row_of, Program, program_of}
@@ -32,23 +32,30 @@ answers =
 
 numbered : (a : Answer) → get_or answers (number_of a) Accepted ≡ a
 unfolding answers
-numbered Accepted = refl
-numbered CountOutside = refl
-numbered OptionOutside = refl
-numbered SliceShort = refl
-numbered BadNode = refl
-numbered BadQubit = refl
-numbered BadReference = refl
-numbered BadOperation = refl
-numbered BadOutcome = refl
-numbered NonHermitianAxis = refl
-numbered ExpansionLimit = refl
-numbered BadText = refl
-numbered BadPlace = refl
+numbered (Ok u) = refl
+numbered (Err r) = go r
+  where
+    go : (x : Refusal) → get_or answers (refusal_number x) Accepted ≡ Err x
+    go refusals.CountOutside = refl
+    go refusals.OptionOutside = refl
+    go refusals.SliceShort = refl
+    go refusals.BadNode = refl
+    go refusals.BadQubit = refl
+    go refusals.BadReference = refl
+    go refusals.BadOperation = refl
+    go refusals.BadOutcome = refl
+    go refusals.NonHermitianAxis = refl
+    go refusals.ExpansionLimit = refl
+    go refusals.BadText = refl
+    go refusals.BadPlace = refl
 
 -- no two have one number
 pub same_number : (a b : Answer) → number_of a ≡ number_of b → a ≡ b
 same_number a b e = sym (numbered a) ∙ ap (λ (n : ℕ). get_or answers n Accepted) e ∙ numbered b
+
+-- 0 is the number of no refusal
+pub refuses : (r : Refusal) → accepts (Err r) ≡ false
+refuses r = ne_eqb (refusal_number r) 0 (λ e. let f : Err r ≡ Accepted = same_number (Err r) Accepted e in cc)
 
 -- the work goes on only after 0
 pub accepts_only : (a : Answer) → accepts a ≡ true → a ≡ Accepted

@@ -2,7 +2,7 @@
 use Rattle.std.specs.Prelude.{◌≡◌, refl}
 use Rattle.std.proofs.Common.{◌∙◌}
 use Rattle.model.specs.declared.Options.{Options}
-use Rattle.model.specs.declared.Answer.TheVariants.{Accepted}
+use Rattle.model.specs.Answers.{Accepted}
 use Rattle.model.specs.Program.{Job, program_of}
 use Rattle.model.specs.Rules.{rules_of}
 use Rattle.model.specs.Run.{finished}

@@ -7,7 +7,7 @@ use Rattle.std.proofs.Math.Dec.{ltb}
 use borrow.Author.Tests.{eqb-true, ltb-true, ltb-false}
 use Rattle.pauli.specs.Word.{width}
 use Rattle.model.specs.declared.Options.{Options}
-use Rattle.model.specs.declared.Answer.TheVariants.{Accepted, ExpansionLimit}
+use Rattle.model.specs.Answers.{Accepted, ExpansionLimit}
 use Rattle.model.specs.Lists.{when◌then◌else◌, keep, is_odd}
 use Rattle.model.specs.Program.{Job, Node, PauliRef, Program, program_of}
 use Rattle.model.specs.Rules.{rules_of}

@@ -4,8 +4,7 @@ use Rattle.std.proofs.Math.Path.{refl}
 use Rattle.std.proofs.Common.{sym, ap, ◌∙◌, inl, inr, le_trans, arith, ltb-false, lt-ltb, le-ltb}
 use Rattle.std.proofs.Math.Bool.{false}
 use Rattle.model.specs.declared.Options.{Options}
-use Rattle.model.specs.declared.Answer.{Answer}
-use Rattle.model.specs.declared.Answer.TheVariants.{Accepted, CountOutside, OptionOutside, SliceShort, NonHermitianAxis, ExpansionLimit}
+use Rattle.model.specs.Answers.{Answer, Accepted, CountOutside, OptionOutside, SliceShort, NonHermitianAxis, ExpansionLimit}
 use Rattle.model.specs.Lists.{when◌then◌else◌}
 use Rattle.model.specs.Interface.{accepts}
 use Rattle.model.specs.Program.{Job, Program, program_of}

@@ -8,8 +8,7 @@ use Rattle.std.proofs.Math.Dec.{ltb}
 use borrow.Author.Tests.{ltb-false, le-ltb}
 use Rattle.model.specs.declared.Options.{Options}
 use Rattle.model.specs.declared.Counts.{Counts}
-use Rattle.model.specs.declared.Answer.{Answer}
-use Rattle.model.specs.declared.Answer.TheVariants.{Accepted, CountOutside, OptionOutside, NonHermitianAxis, ExpansionLimit, BadText}
+use Rattle.model.specs.Answers.{Answer, Accepted, CountOutside, OptionOutside, NonHermitianAxis, ExpansionLimit, BadText}
 use Rattle.model.specs.declared.Counters.{Counters}
 use Rattle.model.specs.Lists.{when◌then◌else◌}
 use Rattle.model.specs.Interface.{number_of, accepts, of_checking, defaults_at}

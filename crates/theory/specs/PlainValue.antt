@@ -5,7 +5,7 @@ use Rattle.std.proofs.Common.{◌∙◌, arith}
 use Prim.Native.Nat.{ℕ, zero, suc, ◌<◌}
 use Rattle.pauli.specs.Word.{width}
 use Rattle.model.specs.declared.Options.{Options}
-use Rattle.model.specs.declared.Answer.TheVariants.{Accepted}
+use Rattle.model.specs.Answers.{Accepted}
 use Rattle.model.specs.Program.{Job, Node, identity, program_of}
 use Rattle.model.specs.Words.{Value, as_value}
 use Rattle.model.specs.Value.{node_value, value_at, values_from, values, plain_value_within, plain_value}

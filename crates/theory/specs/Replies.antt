@@ -1,5 +1,5 @@
 -- What a call of Rewriting replies: after a refusal by Checking, beyond the limit, and within it. Assumes nothing.
-use Rattle.std.specs.Prelude.{◌≡◌, Bool, true, false, ◌||◌, ◌&&◌, List, [], ◌∷◌, ℕ, zero, suc, ◌≤◌, ◌<◌, eqb, leb}
+use Rattle.std.specs.Prelude.{◌≡◌, Bool, true, false, ◌||◌, ◌&&◌, List, [], ◌∷◌, ℕ, zero, suc, ◌≤◌, ◌<◌, eqb, leb, Err}
 use Rattle.std.proofs.Math.Path.{refl, sym, ap}
 use Rattle.std.proofs.Common.{ap₂, ◌∙◌, true≢false, arith}
 use Rattle.std.proofs.Math.Dec.{ltb}
@@ -7,12 +7,11 @@ use borrow.Author.Tests.{lt-ltb, le-ltb, le-leb, leb-true, eqb-true, ne_eqb}
 use Rattle.model.specs.declared.Lazy.{Lazy}
 use Rattle.model.specs.declared.Lazy.TheVariants.{Off, On, From}
 use Rattle.model.specs.declared.Options.{Options}
-use Rattle.model.specs.declared.Answer.{Answer}
-use Rattle.model.specs.declared.Answer.TheVariants.{Accepted, CountOutside, OptionOutside, SliceShort, BadNode, BadQubit, BadReference}
-use Rattle.model.specs.declared.Answer.TheVariants.{BadOperation}
-use Rattle.model.specs.declared.Answer.TheVariants.{BadOutcome, NonHermitianAxis, ExpansionLimit, BadPlace}
+use Rattle.model.specs.declared.Refusal.{Refusal}
+use Rattle.model.specs.Answers.{Answer, Accepted, CountOutside, OptionOutside, SliceShort, BadNode, BadQubit, BadReference, BadOperation, BadOutcome}
+use Rattle.model.specs.Answers.{NonHermitianAxis, ExpansionLimit, BadPlace}
 use Rattle.model.specs.Lists.{when◌then◌else◌}
-use Rattle.model.specs.Interface.{number_of, accepts, of_checking}
+use Rattle.model.specs.Interface.{number_of, accepts, of_checking, no_counters}
 use Rattle.model.specs.Program.{field_of, Job, operation_records, Program, program_of}
 use Rattle.model.specs.Rules.{Rules, rules_of}
 use Rattle.model.specs.Run.{Ending, non_hermitian, finished, Run, run, end_answer, answer_of}
@@ -191,3 +190,18 @@ pub ran : (o : Options) (j : Job) (s : Lent) (a : Answer) → (rewriting o j s).
 ran o j s a e n =
     accepts_only (checking o j s)
     (passes_checks (checking o j s) a (checking_checks o j s) (λ f. sym e ∙ refusal_answer o j s f) n)
+
+-- "After any refusal counters are 0."
+pub refused_counters : (o : Options) (j : Job) (s : Lent) (e : Refusal) → (rewriting o j s).answer ≡ Err e → (rewriting o j s).counters ≡ no_counters
+unfolding rewriting after_run after_ending accepted stopped refused
+refused_counters o j s =
+    by_if Counted _ (after_run (rules_of o) (program_of j) s (limit_of o) (run_of o j)) (refused (checking o j s) s)
+    (by_if Counted _ (stopped ExpansionLimit s) (after_ending (rules_of o) (program_of j) s (run_of o j).ending) (λ e h. refl)
+    (ending (run_of o j).ending)) (λ e h. refl)
+  where
+    Counted : Reply → Type 0
+    Counted x = (e : Refusal) → x.answer ≡ Err e → x.counters ≡ no_counters
+
+    ending : (x : Ending) → Counted (after_ending (rules_of o) (program_of j) s x)
+    ending non_hermitian = λ e h. refl
+    ending (finished f) = λ e h. cc

@@ -3,7 +3,7 @@ use Rattle.std.specs.Prelude.{◌≡◌, false, ◌≤◌, length}
 use Rattle.std.proofs.Math.Path.{refl}
 use Rattle.std.proofs.Common.{sym, ap, ◌∙◌}
 use Rattle.model.specs.declared.Options.{Options}
-use Rattle.model.specs.declared.Answer.TheVariants.{Accepted}
+use Rattle.model.specs.Answers.{Accepted}
 use Rattle.model.specs.Program.{Job, program_of}
 use Rattle.model.specs.Rules.{rules_of}
 use Rattle.model.specs.Packing.{packed}

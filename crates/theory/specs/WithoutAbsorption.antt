@@ -9,7 +9,7 @@ use Rattle.model.specs.declared.Lazy.TheVariants.{Off}
 use Rattle.model.specs.declared.Absorption.{Absorption}
 use Rattle.model.specs.declared.Absorption.TheVariants.{Off as off}
 use Rattle.model.specs.declared.Options.{Options}
-use Rattle.model.specs.declared.Answer.TheVariants.{Accepted, CountOutside, OptionOutside, SliceShort}
+use Rattle.model.specs.Answers.{Accepted, CountOutside, OptionOutside, SliceShort}
 use Rattle.model.specs.Lists.{when◌then◌else◌}
 use Rattle.model.specs.Rules.{Rules, absorption_of, rules_of, names, to_lazy, with_absorption, after_barrier}
 use Rattle.model.specs.Program.{Job, program_of}

@@ -1,7 +1,8 @@
 -- What the exported functions are handed, answer and leave, by the model. Assumes nothing.
-use Rattle.std.specs.Prelude.{◌≡◌, refl, Bool, true, false, List, [], ◌∷◌, ℕ}
+use Rattle.std.specs.Prelude.{◌≡◌, refl, Bool, true, false, List, [], ◌∷◌, ℕ, replicate, Result, Ok, Err}
 use Rattle.std.proofs.Common.{sym, ap, ap₂, ◌∙◌}
-use Rattle.model.specs.declared.Answer.{Answer}
+use Rattle.model.specs.declared.Refusal.{Refusal}
+use Rattle.model.specs.Answers.{Answer}
 use Rattle.model.specs.declared.Counters.{Counters}
 use Rattle.model.specs.declared.Counts.{Counts}
 use Rattle.model.specs.declared.Lazy.{Lazy}
@@ -10,10 +11,10 @@ use Rattle.model.specs.declared.Options.{Options}
 use Rattle.model.specs.declared.Strategy.{Strategy}
 use Rattle.model.specs.declared.Strategy.TheVariants.{Merge, Litinski}
 use Rattle.model.specs.Lists.{when◌then◌else◌}
-use Rattle.model.specs.Interface.{number_of}
+use Rattle.model.specs.Interface.{refusal_number, number_of}
 use Rattle.model.specs.Program.{Job}
 use Rattle.model.specs.Checking.{Lent, checking}
-use Rattle.model.specs.Rewriting.{rewriting}
+use Rattle.model.specs.Rewriting.{rewriting, Called}
 use Rattle.theory.specs.Called.{answer_is, counters_are, operations_are, axes_are, lent_is, called_at}
 use Rattle.checking.specs.Call.{job_of}
 use Rattle.optimize.specs.declared.Rewritten.{Rewritten}
@@ -85,6 +86,15 @@ pub record ExportedListing (text out : List ℕ) (s : Lent) (r size : ℕ) (out'
   pub output : out' ≡ (listing_call text out s).output
   pub lent : s' ≡ (listing_call text out s).lent
 
+-- what a call leaves, in numbers
+exported : {o : Options} {j : Job} {s : Lent} {a : Answer} {k : Counters} {m l : ℕ} {s' : Lent} {r : ℕ} {counted : List ℕ} → Called o j s a k m l s'
+    → r ≡ number_of a → counted ≡ counted_by k m l → ExportedCall o j s r counted s'
+exported call a d = record {
+  answer = a ∙ ap number_of (sym (answer_is call));
+  counts = d ∙ rw (← counters_are call, ← operations_are call, ← axes_are call) refl;
+  lent = sym (lent_is call);
+}
+
 -- ---- as the code has them: counts and options worked out
 
 module _ {c c' : Counts} {o o' : Options} (n p q : List ℕ) (s : Lent) (e : c ≡ c') (f : o ≡ o') where
@@ -92,16 +102,17 @@ module _ {c c' : Counts} {o o' : Options} (n p q : List ℕ) (s : Lent) (e : c �
       → r ≡ number_of (checking o' (job_of c' n p q) s)
   check_number g h = h ∙ ap number_of (g ∙ ap₂ (λ (x : Counts) (y : Options). checking y (job_of x n p q) s) e f)
 
-  pub exported_call : {x : Rewritten} {s' : Lent} {r : ℕ} {counted : List ℕ} → CalledBy o (job_of c n p q) s x s'
-      → r ≡ number_of x.answer → counted ≡ counted_by x.counters x.operations x.axes
-      → ExportedCall o' (job_of c' n p q) s r counted s'
-  exported_call {x} {s'} {r} {counted} call a d =
-      let same = called_at f (ap (λ (y : Counts). job_of y n p q) e) call in
-      record {
-        answer = a ∙ ap number_of (sym (answer_is same));
-        counts = d ∙ rw (← counters_are same, ← operations_are same, ← axes_are same) refl;
-        lent = sym (lent_is same);
-      }
+  at : {x : Result Rewritten Refusal} {s' : Lent} → CalledBy o (job_of c n p q) s x s' → CalledBy o' (job_of c' n p q) s x s'
+  at call = called_at f (ap (λ (y : Counts). job_of y n p q) e) call
+
+  pub exported_call : {x : Rewritten} {s' : Lent} {counted : List ℕ} → CalledBy o (job_of c n p q) s (Ok x) s'
+      → counted ≡ counted_by x.counters x.operations x.axes → ExportedCall o' (job_of c' n p q) s 0 counted s'
+  exported_call call d = exported (at call) refl d
+
+  pub exported_refusal : {e : Refusal} {s' : Lent} {r : ℕ} → CalledBy o (job_of c n p q) s (Err e) s' → r ≡ refusal_number e
+      → ExportedCall o' (job_of c' n p q) s r (replicate 14 0) s'
+  unfolding counted_by
+  exported_refusal call a = exported (at call) a refl
 
 pub exported_listing : {text out : List ℕ} {s : Lent} {l : Listed} {out' : List ℕ} {s' : Lent} {r size : ℕ}
     → ListingCalled text out s l.answer l.size out' s' → r ≡ number_of l.answer → size ≡ l.size

@@ -9,7 +9,7 @@ ghost use Rattle.werdutxa.specs.Calls.{counts_of, strategy_of, lazy_of, options_
 
 use model::{Counters, Counts, Lazy, Options, Strategy};
 
-// The number of Checking's answer.
+// The number of Checking's answer. In C a named place is a flag and a number, `named` and `place`.
 pub fn werdutxa_check(
     qubits: usize,
     node_count: usize,
@@ -104,7 +104,7 @@ pub fn werdutxa_rewrite(
         result counted.new
         (lent_of words.new numbers.new result_operations.new result_rows.new) }
 {
-    let rewritten = rewriting::by_value::rewriting(
+    let reply = rewriting::by_value::rewriting(
         counts(qubits, node_count, operation_count),
         options(
             lookback,
@@ -129,14 +129,21 @@ pub fn werdutxa_rewrite(
         result_operations,
         result_rows,
     );
-    count(
-        rewritten.counters,
-        rewritten.operations,
-        rewritten.axes,
-        counted,
-    );
-    let answer = rewritten.answer;
-    model::number_of(answer)
+    match reply {
+        Ok(rewritten) => {
+            count(
+                rewritten.counters,
+                rewritten.operations,
+                rewritten.axes,
+                counted,
+            );
+            0
+        }
+        Err(refusal) => {
+            *counted = [0; 14];
+            refusal.into()
+        }
+    }
 }
 
 // Listing: the number of its answer; the text is the first `size` bytes of the output.
@@ -156,8 +163,7 @@ pub fn werdutxa_list(
 {
     let listed = listing::listing(text, output, words, numbers, result_operations, result_rows);
     *size = listed.size;
-    let answer = listed.answer;
-    model::number_of(answer)
+    model::number_of(listed.answer)
 }
 
 // The counts that a call hands in.

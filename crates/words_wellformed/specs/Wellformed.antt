@@ -3,7 +3,7 @@
 use Rattle.std.specs.Prelude.{◌≡◌, refl, false, ℕ, ◌<◌, length}
 use Rattle.pauli.specs.Word.{width, IsWord}
 use Rattle.model.specs.declared.Options.{Options}
-use Rattle.model.specs.declared.Answer.TheVariants.{Accepted}
+use Rattle.model.specs.Answers.{Accepted}
 use Rattle.model.specs.Program.{Job, Program, program_of}
 use Rattle.model.specs.Rules.{Rules, rules_of}
 use Rattle.model.specs.Words.{id_of, word_of}

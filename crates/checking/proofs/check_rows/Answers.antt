@@ -1,4 +1,5 @@
 -- The loop's invariant: what is left to check from record i on answers for all. Assumes nothing.
+use Rattle.std.proofs.lemmas.Result.{err_from_is_err_and}
 use lib.ListN.{length-take, length-drop}
 use Rattle.checking.specs.Walk.{all_left, none_left, passes, refused, rows_walk}
 use native.Mathlib.Omega.{arith}
@@ -7,14 +8,16 @@ use Rattle.checking.proofs.check_rows.Goals as goal
 pub loop-i-init : goal.loop-i-init
 loop-i-init c = all_left (rows_walk _ _)
 
-pub check_row-a-requires : goal.check_row-a-requires
-check_row-a-requires c = simp (length-take, length-drop) (omega arith)
-
-pub returns-then-number_of-ne0 : goal.returns-then-number_of-ne0
-returns-then-number_of-ne0 c = refused (rows_walk _ _) c.loop-i.invariant (omega arith) c.check_row-a.ensures c.number_of.ensures c.if-number_of-ne0.true
+pub check_row-requires : goal.check_row-requires
+check_row-requires c = simp (length-take, length-drop) (omega arith)
 
 pub loop-i-preserved : goal.loop-i-preserved
-loop-i-preserved c = passes (rows_walk _ _) c.loop-i.invariant (omega arith) c.check_row-a.ensures c.number_of.ensures c.if-number_of-ne0.false
+loop-i-preserved c = passes (rows_walk _ _) c.loop-i.invariant (omega arith) c.check_row.ensures c.in_ok-check_row.was
+
+pub returns-in_err-check_row : goal.returns-in_err-check_row
+returns-in_err-check_row c =
+    let p = err_from_is_err_and c.from_residual.result c.from_residual.ensures.1 in
+    rw (p.1, p.2) (refused (rows_walk _ _) c.loop-i.invariant (omega arith) c.check_row.ensures c.in_err-check_row.was)
 
 pub returns : goal.returns
 returns c = none_left (rows_walk _ _) c.loop-i.invariant (omega arith)

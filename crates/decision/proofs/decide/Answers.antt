@@ -1,7 +1,7 @@
 -- Packing, then the passes. Assumes nothing.
 use mathlib.Core.Path.{◌≡◌, refl, ap}
 use Prim.Native.Nat.{ℕ}
-use Rattle.model.specs.declared.Answer.TheVariants.{Accepted}
+use Rattle.model.specs.Answers.{Accepted}
 use Rattle.model.specs.Interface.{number_of}
 use Rattle.packing_answer.specs.declared.Packed.{Packed}
 use Rattle.packing_answer.specs.declared.Packed.TheVariants.{Axes, NonHermitianAxis, ExpansionLimit}

@@ -11,8 +11,7 @@ pub returns-in_default : goal.returns-in_default
 returns-in_default c =
     let r = c.read-t in
     record {
-      replied = bad_listed _ _ _ (omega arith) (text_bad _ _ _ _ r.ensures c.in_default.is)
-          c.refusal-size.ensures;
+      replied = bad_listed _ _ _ (omega arith) (text_bad _ _ _ _ r.ensures c.in_default.is) c.refused.ensures;
     }
 
 pub run-requires : goal.run-requires

@@ -3,7 +3,7 @@ use mathlib.Core.Path.{refl, sym}
 use Prim.Native.Nat.{◌*◌}
 use lib.Seq.{length-take-le}
 use Rattle.theory.specs.Called.{called_at}
-use Rattle.listing.specs.Listed.{printing_asks, run_called}
+use Rattle.listing.specs.Listed.{printing_asks, run_called, run_refused}
 use native.Mathlib.Omega.{arith}
 use Rattle.listing.proofs.run.Goals as goal
 
@@ -22,12 +22,13 @@ slice_bounds-rewriting-end-3 c =
     sym (length-take-le (2 * c.args.counts.qubits * 4) c.args.rows.now
     (omega (arith, c.requires.small.qubits, c.requires.read_room.rows_room)))
 
-pub reply-size-requires : goal.reply-size-requires
-reply-size-requires c =
+pub result-requires : goal.result-requires
+result-requires c =
     let p = c.requires in
-    printing_asks _ p.small _ _ _ (called_at c.defaults.ensures refl c.rewriting-r.ensures) _ p.room
+    printing_asks _ p.small _ _ _ (called_at c.defaults.ensures refl c.in-Ok.ensures) _ p.room
 
-pub returns : goal.returns
-returns c =
-    run_called _ c.requires.small _ _ _
-    (called_at c.defaults.ensures refl c.rewriting-r.ensures) c.reply-size.ensures
+pub returns-in-Ok : goal.returns-in-Ok
+returns-in-Ok c = run_called _ c.requires.small _ _ _ (called_at c.defaults.ensures refl c.in-Ok.ensures) c.result.ensures
+
+pub returns-in-Err : goal.returns-in-Err
+returns-in-Err c = run_refused _ _ _ _ (called_at c.defaults.ensures refl c.in-Err.ensures) c.refused.ensures
