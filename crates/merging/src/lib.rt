@@ -65,7 +65,7 @@ fn can_reach(
 fn later(rules: StreamRules, k: u32) -> bool
     ensures { result ≡ is_later rules k }
 {
-    if !stream_states::is_lazy(rules) {
+    if !rules.is_lazy() {
         return false;
     }
     k % 2 != 1
@@ -147,7 +147,7 @@ fn absorb(
 fn at_once(rules: StreamRules, k: u32) -> bool
     ensures { result ≡ is_at_once rules.absorption && is_even k }
 {
-    if !stream_states::is_at_once(rules) {
+    if !rules.is_at_once() {
         return false;
     }
     k % 2 != 1
@@ -334,7 +334,7 @@ pub fn carry_and_take(
         (with_sign (axis_image shape.l (carry_axis shape.l p a) a).turns angle))) }
 {
     let image = carrying::carry(words, numbers, shape, st, a)?;
-    let s = steps::with_image(st, image);
+    let s = st.with_image(image);
     let k = items::with_sign(s.turns, angle);
     take(words, numbers, shape, rules, s, s.id, k, a)
 }
