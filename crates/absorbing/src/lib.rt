@@ -86,8 +86,7 @@ fn turn_image(words: &mut [u64], numbers: &mut [u32], shape: Shape, i: usize, b:
     ensures { ImageTurned shape i b k words.old numbers.old words.new numbers.new }
 {
     let at = layout::slot_at(shape.limit, shape.l, i);
-    let told = odd_phase_at(&words[..], b, at, shape.l);
-    let Some(e) = told else {
+    let Some(e) = odd_phase_at(&words[..], b, at, shape.l) else {
         return;
     };
     if k == 4 {

@@ -1,6 +1,10 @@
 -- A word on qubits that are not touched is its own image. Assumes nothing.
-use Rattle.std.specs.Prelude.{◌≡◌, refl, List, [], ◌∷◌, ℕ, ◌+◌, ◌*◌, ◌/◌, ◌%◌, ◌≤◌, ◌<◌, get_or}
-use Rattle.std.proofs.Common.{sym, ap, ◌∙◌, arith}
+use Rattle.std.specs.Prelude.{◌≡◌, refl, Bool, true, false, length, List, [], ◌∷◌, ℕ, ◌+◌, ◌*◌, ◌/◌, ◌%◌, ◌<◌, get_or}
+use Rattle.std.proofs.Common.{sym, ap, ◌∙◌, subst, arith}
+use Rattle.std.specs.Bool.{MatchBool}
+use Rattle.std.specs.List.{AllWithin, range_with_len}
+use Rattle.std.proofs.lemmas.Bool.{false≢true}
+use Rattle.std.proofs.lemmas.List.FromFn.{get_or-range_with_len, length-range_with_len}
 use Rattle.std.proofs.Math.Decide.{ℕ_discrete}
 use Rattle.std.specs.Int.Bits.{bit_or, bit_and}
 use Rattle.bits.specs.Bit.{bit, bit_bit_and, zero_bit}
@@ -23,20 +27,20 @@ use Rattle.carrying.specs.Letters.{axis_word, CarryAt}
 pub record NoneMarked (l : ℕ) (ws : List ℕ) (at mask n : ℕ) : Type 0 where
   pub none : (j : ℕ) → j < n → bit_and (bit_or (get_or ws (at + j) 0) (get_or ws (at + (l + j)) 0)) (get_or ws (mask + j) 0) ≡ 0
 
-pub none_first : (l : ℕ) (ws : List ℕ) (at mask : ℕ) → NoneMarked l ws at mask 0
-none_first l ws at mask = record { none = λ j h. absurd (omega arith) }
+-- number j of them has none
+abbrev pub Unmarked : ℕ → List ℕ → ℕ → ℕ → ℕ → Type 0
+Unmarked l ws at mask j = bit_and (bit_or (get_or ws (at + j) 0) (get_or ws (at + (l + j)) 0)) (get_or ws (mask + j) 0) ≡ 0
 
-pub none_next : {l : ℕ} {ws : List ℕ} {at mask n : ℕ} (w : ℕ) → NoneMarked l ws at mask n
-    → w ≡ bit_or (get_or ws (at + n) 0) (get_or ws (at + (l + n)) 0)
-    → bit_and w (get_or ws (mask + n) 0) ≡ 0 → NoneMarked l ws at mask (n + 1)
-none_next {l} {ws} {at} {mask} {n} w k e f = record { none = λ j h. go j h (ℕ_discrete j n) }
-  where
-    go : (j : ℕ) → j < n + 1 → Dec (j ≡ n) → bit_and (bit_or (get_or ws (at + j) 0) (get_or ws (at + (l + j)) 0)) (get_or ws (mask + j) 0) ≡ 0
-    go j h (yes g) = rw g (ap (λ (x : ℕ). bit_and x (get_or ws (mask + n) 0)) (sym e) ∙ f)
-    go j h (no g) = k.none j (omega arith)
-
-pub none_all : {l : ℕ} {ws : List ℕ} {at mask n m : ℕ} → NoneMarked l ws at mask n → m ≤ n → NoneMarked l ws at mask m
-none_all k h = record { none = λ j b. k.none j (omega arith) }
+-- by what is found of each
+pub none_found : {l : ℕ} {ws : List ℕ} {at mask : ℕ} (r : Bool) (Q : Type 0)
+    → MatchBool r (AllWithin (Unmarked l ws at mask) (range_with_len 0 l) 0 (length (range_with_len 0 l))) Q
+    → r ≡ true → NoneMarked l ws at mask l
+none_found {l} {ws} {at} {mask} true Q h e = record {
+  none = λ j b.
+      subst (Unmarked l ws at mask) (get_or-range_with_len 0 l j 0 b ∙ (let e : 0 + j ≡ j = omega arith in e))
+      (h j 0 (omega arith) (omega (arith, length-range_with_len 0 l)));
+}
+none_found false Q h e = absurd (false≢true e)
 
 -- the images of qubits that are not held
 multiply_free : (l : ℕ) (held : List Images) (w : List ℕ) (v : Value) (qs : List ℕ) → Every (λ q. slot_of q held ≡ 0) qs

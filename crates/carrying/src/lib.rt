@@ -24,12 +24,7 @@ fn fixes(words: &[u64], at: usize, mask: usize, l: usize) -> bool
     requires { (at + 2 * l ≤ length words.now) × (mask + l ≤ length words.now) }
     ensures { result ≡ true → NoneMarked l words.now at mask l }
 {
-    for j in 0..l {
-        if clifford::acted_at(words, at, l, j) & words[mask + j] != 0 {
-            return false;
-        }
-    }
-    true
+    (0..l).all(|j| clifford::acted_at(words, at, l, j) & words[mask + j] == 0)
 }
 
 // Multiplies a letter on qubit q behind the scratch word, whose phase is given; the phase then.

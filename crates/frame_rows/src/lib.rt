@@ -26,7 +26,7 @@ fn carry_row(words: &mut [u64], numbers: &mut [u32], shape: Shape, st: State, j:
     }
     let a = x.axis as usize;
     let image = carrying::carry_held(words, numbers, shape, st, a)?;
-    let to = steps::with_image(st, image);
+    let to = st.with_image(image);
     let moved = Root {
         axis: to.id as u32,
         sign: (to.turns + x.sign) % 4,

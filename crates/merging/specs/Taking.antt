@@ -1,5 +1,6 @@
 -- A carried rotation: absorbed at once, merged where `last` names a place that it reaches, or put out. Assumes nothing.
-use Rattle.std.specs.Prelude.{◌≡◌, ◌⊎◌, Bool, true, false, not, ◌&&◌, ℕ, zero, suc, ◌+◌, ◌-◌, ◌*◌, ◌%◌, ◌≤◌, ◌<◌, ltb, Option, Some, Result, Ok, Err}
+use Rattle.std.specs.Prelude.{◌≡◌, ◌⊎◌, Bool, true, false, not, ◌&&◌, ℕ, zero, suc, ◌+◌, ◌-◌, ◌*◌, ◌%◌, ◌≤◌, ◌<◌, ltb, Option, Some, None, Result, Ok, Err}
+use Rattle.core.specs.Bool.{then_some}
 use Rattle.std.proofs.Math.Path.{refl, ap, ap₂}
 use Rattle.std.proofs.Common.{sym, ◌∙◌, subst, inl, inr, arith, lt-ltb, le-ltb, ltb-true, ltb-false, eq-eqb, ne_eqb}
 use Rattle.std.proofs.lemmas.Bool.{false≢true, eqb-false}
@@ -278,27 +279,28 @@ pub record LastPre (z : Shape) (id : ℕ) (xs : List ℕ) : Type 0 where
   pub numbers_long : row_count * z.u ≤ length xs
   pub axis : id < z.u
 
-unfoldable pub last_said : Shape → Bool → ℕ → ℕ → List ℕ → ℕ
-last_said z merging start id xs = when merging then when ltb start (last_in z xs id) then last_in z xs id else 0 else 0
+unfoldable pub last_said : Shape → Bool → ℕ → ℕ → List ℕ → Option ℕ
+last_said z merging start id xs = when merging then when ltb start (last_in z xs id) then Some (last_in z xs id - 1) else None else None
 
-pub last_off : (z : Shape) {merging : Bool} (start id : ℕ) (xs : List ℕ) → merging ≡ false → 0 ≡ last_said z merging start id xs
+pub last_off : (z : Shape) {merging : Bool} (start id : ℕ) (xs : List ℕ) → merging ≡ false → None ≡ last_said z merging start id xs
 unfolding last_said
 last_off z start id xs e = sym (if_false _ _ e)
 
 pub last_named : (z : Shape) {merging : Bool} (start id : ℕ) (xs : List ℕ) {v : ℕ} → merging ≡ true → v ≡ last_in z xs id → start < v
-    → v ≡ last_said z merging start id xs
+    → Some (v - 1) ≡ last_said z merging start id xs
 unfolding last_said
-last_named z start id xs e f h = sym (if_true _ _ e ∙ if_true _ _ (lt-ltb start (last_in z xs id) (omega arith)) ∙ sym f)
+last_named z start id xs e f h =
+    sym (if_true _ _ e ∙ if_true _ _ (lt-ltb start (last_in z xs id) (omega arith)) ∙ ap (λ (x : ℕ). Some (x - 1)) (sym f))
 
 pub last_none : (z : Shape) {merging : Bool} (start id : ℕ) (xs : List ℕ) {v : ℕ} → merging ≡ true → v ≡ last_in z xs id → v ≤ start
-    → 0 ≡ last_said z merging start id xs
+    → None ≡ last_said z merging start id xs
 unfolding last_said
 last_none z start id xs e f h = sym (if_true _ _ e ∙ if_false _ _ (le-ltb start (last_in z xs id) (omega arith)))
 
--- the place that the code's number means
-unfoldable place_named : ℕ → Place
-place_named zero = nowhere
-place_named (suc j) = at j
+-- the place that the code's answer means
+unfoldable place_named : Option ℕ → Place
+place_named None = nowhere
+place_named (Some j) = at j
 
 place_is : {z : Shape} {m : Absorption} {st : State} {ws xs : List ℕ} {p : Pass} (merging : Bool) (id : ℕ) → HoldsPass z m st ws xs p
     → id < z.u
@@ -306,63 +308,71 @@ place_is : {z : Shape} {m : Absorption} {st : State} {ws xs : List ℕ} {p : Pas
 unfolding last_said place_named
 place_is {z} {st = st} {xs = xs} {p} merging id h b = go merging refl
   where
-    inner : (t : Bool) → ltb st.start (last_in z xs id) ≡ t → p.last id ≡ place_named (when t then last_in z xs id else 0)
+    inner : (t : Bool) → ltb st.start (last_in z xs id) ≡ t → p.last id ≡ place_named (when t then Some (last_in z xs id - 1) else None)
     inner true e =
-        let less = ltb-true st.start (last_in z xs id) e in
-        let one : suc (last_in z xs id - 1) ≡ last_in z xs id = omega arith in
-        h.last_is id b ∙ place_here st.start (last_in z xs id) less ∙ ap place_named one
-        ∙ ap place_named (sym (if_true {A = ℕ} (last_in z xs id) 0 refl))
+        h.last_is id b ∙ place_here st.start (last_in z xs id) (ltb-true st.start (last_in z xs id) e)
+        ∙ ap place_named (sym (if_true {A = Option ℕ} (Some (last_in z xs id - 1)) None refl))
     inner false e =
         h.last_is id b ∙ place_none st.start (last_in z xs id) (ltb-false st.start (last_in z xs id) e)
-        ∙ ap place_named (sym (if_false {A = ℕ} (last_in z xs id) 0 refl))
+        ∙ ap place_named (sym (if_false {A = Option ℕ} (Some (last_in z xs id - 1)) None refl))
 
     go : (t : Bool) → merging ≡ t → (when t then p.last id else nowhere)
-        ≡ place_named (when t then when ltb st.start (last_in z xs id) then last_in z xs id else 0 else 0)
-    go true e = if_true _ _ refl ∙ inner (ltb st.start (last_in z xs id)) refl ∙ ap place_named (sym (if_true {A = ℕ} _ 0 refl))
+        ≡ place_named (when t then when ltb st.start (last_in z xs id) then Some (last_in z xs id - 1) else None else None)
+    go true e = if_true _ _ refl ∙ inner (ltb st.start (last_in z xs id)) refl ∙ ap place_named (sym (if_true {A = Option ℕ} _ None refl))
     go false e =
-        if_false _ _ refl ∙ ap place_named (sym (if_false {A = ℕ} (when ltb st.start (last_in z xs id) then last_in z xs id else 0) 0 refl))
+        if_false _ _ refl
+        ∙ ap place_named (sym (if_false {A = Option ℕ} (when ltb st.start (last_in z xs id) then Some (last_in z xs id - 1) else None) None refl))
 
 -- a place that is named lies in the segment
-named_in : (z : Shape) (merging : Bool) (start id : ℕ) (xs : List ℕ) {v : ℕ} → v ≡ last_said z merging start id xs → (v ≡ 0 → ⊥)
-    → (start < v) × (v ≡ last_in z xs id)
+named_in : (z : Shape) (merging : Bool) (start id : ℕ) (xs : List ℕ) {j : ℕ} → last_said z merging start id xs ≡ Some j
+    → (start ≤ j) × (j + 1 ≡ last_in z xs id)
 unfolding last_said
-named_in z merging start id xs {v} e n = go merging refl
+named_in z merging start id xs {j} e = go merging refl
   where
-    inner : (t : Bool) → ltb start (last_in z xs id) ≡ t → v ≡ (when t then last_in z xs id else 0) → (start < v) × (v ≡ last_in z xs id)
-    inner true f g = let w = g ∙ if_true {A = ℕ} (last_in z xs id) 0 refl in (omega (arith, ltb-true start (last_in z xs id) f), w)
-    inner false f g = absurd (n (g ∙ if_false {A = ℕ} (last_in z xs id) 0 refl))
+    none : None ≡ Some j → ⊥
+    none f = let g : ◌≡◌ {A = ℕ} 0 1 = cc in omega arith
 
-    go : (t : Bool) → merging ≡ t → (start < v) × (v ≡ last_in z xs id)
-    go true f = inner (ltb start (last_in z xs id)) refl (e ∙ if_true _ _ f)
-    go false f = absurd (n (e ∙ if_false _ _ f))
+    inner : (t : Bool) → ltb start (last_in z xs id) ≡ t → (when t then Some (last_in z xs id - 1) else None) ≡ Some j
+        → (start ≤ j) × (j + 1 ≡ last_in z xs id)
+    inner true f g =
+        let w : Some (last_in z xs id - 1) ≡ Some j = sym (if_true {A = Option ℕ} _ None refl) ∙ g in
+        let v : last_in z xs id - 1 ≡ j = cc in
+        (omega (arith, ltb-true start (last_in z xs id) f), omega (arith, ltb-true start (last_in z xs id) f))
+    inner false f g = absurd (none (sym (if_false {A = Option ℕ} (Some (last_in z xs id - 1)) None refl) ∙ g))
+
+    go : (t : Bool) → merging ≡ t → (start ≤ j) × (j + 1 ≡ last_in z xs id)
+    go true f = inner (ltb start (last_in z xs id)) refl (sym (if_true _ _ f) ∙ e)
+    go false f = absurd (none (sym (if_false _ _ f) ∙ e))
 
 -- the place that is named, where it is reached
 pub record PlacePre (z : Shape) (c : StreamRules) (st : State) (id : ℕ) (ws xs : List ℕ) : Type 0 where
   pub last : LastPre z id xs
-  pub reach : (v : ℕ) → v ≡ last_said z c.merge st.start id xs → (v ≡ 0 → ⊥) → ReachPre (sizes_of z st.axes) st.out (v - 1) id ws xs
+  pub reach : (j : ℕ) → last_said z c.merge st.start id xs ≡ Some j → ReachPre (sizes_of z st.axes) st.out j id ws xs
 
-pub record PlaceFor (z : Shape) (c : StreamRules) (st : State) (id : ℕ) (ws xs : List ℕ) (r : ℕ) : Type 0 where
-  pub named : ℕ
-  pub said : named ≡ last_said z c.merge st.start id xs
-  pub none : r ≡ 0 → (named ≡ 0) ⊎ ((named ≡ 0 → ⊥) × (reaches (sizes_of z st.axes) c.lookback st.out (named - 1) id ws xs ≡ false))
-  pub some : (r ≡ 0 → ⊥) → (r ≡ named) × (reaches (sizes_of z st.axes) c.lookback st.out (named - 1) id ws xs ≡ true)
+pub record PlaceFor (z : Shape) (c : StreamRules) (st : State) (id : ℕ) (ws xs : List ℕ) (r : Option ℕ) : Type 0 where
+  pub none : r ≡ None → (last_said z c.merge st.start id xs ≡ None)
+      ⊎ ((j : ℕ) × (last_said z c.merge st.start id xs ≡ Some j) × (reaches (sizes_of z st.axes) c.lookback st.out j id ws xs ≡ false))
+  pub some : (j : ℕ) → r ≡ Some j
+      → (last_said z c.merge st.start id xs ≡ Some j) × (reaches (sizes_of z st.axes) c.lookback st.out j id ws xs ≡ true)
 
--- what the scan says, by the sizes that were worked out
-sized_as : (z : Shape) (c : StreamRules) (st : State) (id v : ℕ) (ws xs : List ℕ) {y : Sizes} {s : Bool} → y ≡ sizes_of z st.axes
-    → s ≡ reaches y c.lookback st.out (v - 1) id ws xs → s ≡ reaches (sizes_of z st.axes) c.lookback st.out (v - 1) id ws xs
-sized_as z c st id v ws xs sizes scan = scan ∙ ap (λ (x : Sizes). reaches x c.lookback st.out (v - 1) id ws xs) sizes
+module _ {z : Shape} {c : StreamRules} {st : State} {id : ℕ} {ws xs : List ℕ} where
+  pub place_nowhere : last_said z c.merge st.start id xs ≡ None → PlaceFor z c st id ws xs None
+  place_nowhere e = record { none = λ f. inl e; some = λ j f. absurd (let g : ◌≡◌ {A = ℕ} 0 1 = cc in let h : ⊥ = omega arith in h) }
 
-module _ {z : Shape} {c : StreamRules} {st : State} {id : ℕ} {ws xs : List ℕ} {v : ℕ} (last : v ≡ last_said z c.merge st.start id xs) where
-  pub place_nowhere : v ≡ 0 → PlaceFor z c st id ws xs 0
-  place_nowhere e = record { named = v; said = last; none = λ f. inl e; some = λ n. absurd (n refl) }
-
-  module _ (named : v ≡ 0 → ⊥) {y : Sizes} (sizes : y ≡ sizes_of z st.axes) {s : Bool}
-      (scan : s ≡ reaches y c.lookback st.out (v - 1) id ws xs) where
-    pub place_far : s ≡ false → PlaceFor z c st id ws xs 0
-    place_far e = record { named = v; said = last; none = λ f. inr (named, sym (sized_as z c st id v ws xs sizes scan) ∙ e); some = λ n. absurd (n refl) }
-
-    pub place_reached : s ≡ true → PlaceFor z c st id ws xs v
-    place_reached e = record { named = v; said = last; none = λ f. absurd (named f); some = λ n. (refl, sym (sized_as z c st id v ws xs sizes scan) ∙ e) }
+  -- what the scan says
+  pub place_scanned : {j : ℕ} → last_said z c.merge st.start id xs ≡ Some j → {y : Sizes} → y ≡ sizes_of z st.axes → {s : Bool}
+      → s ≡ reaches y c.lookback st.out j id ws xs → PlaceFor z c st id ws xs (then_some s j)
+  place_scanned {j} e {y} sizes {s} scan = go s (sym (scan ∙ ap (λ (x : Sizes). reaches x c.lookback st.out j id ws xs) sizes))
+    where
+      go : (t : Bool) → reaches (sizes_of z st.axes) c.lookback st.out j id ws xs ≡ t → PlaceFor z c st id ws xs (then_some t j)
+      go true f = record {
+        none = λ g. absurd (let g : ◌≡◌ {A = ℕ} 0 1 = cc in let h : ⊥ = omega arith in h);
+        some = λ i g. let h : j ≡ i = cc in (e ∙ ap Some h, ap (λ (x : ℕ). reaches (sizes_of z st.axes) c.lookback st.out x id ws xs) (sym h) ∙ f);
+      }
+      go false f = record {
+        none = λ g. inr (j, e, f);
+        some = λ i g. absurd (let g : ◌≡◌ {A = ℕ} 0 1 = cc in let h : ⊥ = omega arith in h);
+      }
 
 -- ---- taking a rotation
 
@@ -406,13 +416,13 @@ module _ {z : Shape} {c : StreamRules} {st : State} {id k a : ℕ} {ws xs : List
   }
 
   -- a place is named
-  module _ {v : ℕ} (last : v ≡ last_said z c.merge st.start id xs) (named : v ≡ 0 → ⊥) where
-    place_in : (st.start ≤ v - 1) × (v - 1 < st.out)
+  module _ {j : ℕ} (last : last_said z c.merge st.start id xs ≡ Some j) where
+    place_in : (st.start ≤ j) × (j < st.out)
     place_in =
-        let w = named_in z c.merge st.start id xs last named in
-        (omega (arith, w.0), omega (arith, w.0, w.1, h.at.holds.named id taking_last.axis))
+        let w = named_in z c.merge st.start id xs last in
+        (w.0, omega (arith, w.1, h.at.holds.named id taking_last.axis))
 
-    pub taking_reach : {y : Sizes} → y ≡ sizes_of z st.axes → ReachPre y st.out (v - 1) id ws xs
+    pub taking_reach : {y : Sizes} → y ≡ sizes_of z st.axes → ReachPre y st.out j id ws xs
     taking_reach e = rw e (record {
       held = axes_stored h.at;
       fits = omega (arith, out_few h.at);
@@ -422,12 +432,12 @@ module _ {z : Shape} {c : StreamRules} {st : State} {id k a : ℕ} {ws xs : List
       axis = h.id_in;
     })
 
-    pub taking_merges : MergingAt z c st (v - 1) id k a ws xs m n p
+    pub taking_merges : MergingAt z c st j id k a ws xs m n p
     taking_merges = record {
       at = h.at;
       id_in = h.id_in;
       place = place_in.1;
-      tag = h.at.holds.segment (v - 1) place_in.0 place_in.1;
+      tag = h.at.holds.segment j place_in.0 place_in.1;
       from = h.from;
       small = h.small;
       mode = h.mode;
@@ -436,21 +446,21 @@ module _ {z : Shape} {c : StreamRules} {st : State} {id k a : ℕ} {ws xs : List
     }
 
     -- what the scan says
-    reached : {y : Sizes} {t : Bool} → y ≡ sizes_of z st.axes → t ≡ reaches y c.lookback st.out (v - 1) id ws xs
-        → t ≡ can_reach z.l c.lookback p.store.axes p.out (v - 1) id
+    reached : {y : Sizes} {t : Bool} → y ≡ sizes_of z st.axes → t ≡ reaches y c.lookback st.out j id ws xs
+        → t ≡ can_reach z.l c.lookback p.store.axes p.out j id
     unfolding reaches
     reached e said =
-        said ∙ ap (λ (y : Sizes). reaches y c.lookback st.out (v - 1) id ws xs) e
-        ∙ ap₂ (λ (axes : List (List ℕ)) (is : List Item). can_reach z.l c.lookback axes is (v - 1) id)
+        said ∙ ap (λ (y : Sizes). reaches y c.lookback st.out j id ws xs) e
+        ∙ ap₂ (λ (axes : List (List ℕ)) (is : List Item). can_reach z.l c.lookback axes is j id)
         h.at.holds.clifford.axes.are (sym h.at.holds.out_is)
 
 module _ {z : Shape} {c : StreamRules} {st : State} {id k a : ℕ} {ws xs : List ℕ} {m : Absorption} {n : ℕ} {p : Pass}
     (h : TakingAt z c st id k a ws xs m n p) where
   pub taking_place : PlacePre z c st id ws xs
-  taking_place = record { last = taking_last h; reach = λ v last named. taking_reach h last named refl }
+  taking_place = record { last = taking_last h; reach = λ j last. taking_reach h last refl }
 
-  pub taking_there : {r : ℕ} → PlaceFor z c st id ws xs r → (r ≡ 0 → ⊥) → MergingAt z c st (r - 1) id k a ws xs m n p
-  taking_there o some = taking_merges h ((o.some some).0 ∙ o.said) some
+  pub taking_there : {r : Option ℕ} {j : ℕ} → PlaceFor z c st id ws xs r → r ≡ Some j → MergingAt z c st j id k a ws xs m n p
+  taking_there {j = j} o e = taking_merges h (o.some j e).0
 
 -- the model's, for the rules g
 module _ {z : Shape} {c : StreamRules} {g : Rules} (rules : RulesAs c g) {st : State} {id k a : ℕ} {ws xs : List ℕ} {n : ℕ} {p : Pass}
@@ -459,54 +469,48 @@ module _ {z : Shape} {c : StreamRules} {g : Rules} (rules : RulesAs c g) {st : S
   unfolding take_rotation
   take_once e = if_true _ _ (sym (once_said h once) ∙ e)
 
-  module _ (e : t ≡ false) {v : ℕ} (last : v ≡ last_said z c.merge st.start id xs) where
+  module _ (e : t ≡ false) {v : Option ℕ} (last : last_said z c.merge st.start id xs ≡ v) where
     take_place : take_rotation z.l g c.merge p id k ≡ merge_or_put_out z.l g p id k (place_named v)
     unfolding take_rotation
     take_place =
         if_false _ _ (sym (once_said h once) ∙ e)
-        ∙ ap (merge_or_put_out z.l g p id k) (place_is c.merge id h.at.holds (taking_last h).axis ∙ ap place_named (sym last))
+        ∙ ap (merge_or_put_out z.l g p id k) (place_is c.merge id h.at.holds (taking_last h).axis ∙ ap place_named last)
 
-    pub take_nowhere : v ≡ 0 → take_rotation z.l g c.merge p id k ≡ put_out_rotation p id k
+  module _ (e : t ≡ false) where
+    take_nowhere : last_said z c.merge st.start id xs ≡ None → take_rotation z.l g c.merge p id k ≡ put_out_rotation p id k
     unfolding place_named merge_or_put_out
-    take_nowhere f = take_place ∙ ap (λ (x : ℕ). merge_or_put_out z.l g p id k (place_named x)) f
+    take_nowhere last = take_place e last
 
-    module _ (named : v ≡ 0 → ⊥) {y : Sizes} (sizes : y ≡ sizes_of z st.axes) {s : Bool}
-        (scan : s ≡ reaches y c.lookback st.out (v - 1) id ws xs) where
-      one : v ≡ suc (v - 1)
-      one = omega arith
+    module _ {j : ℕ} (last : last_said z c.merge st.start id xs ≡ Some j) {s : Bool}
+        (scan : reaches (sizes_of z st.axes) c.lookback st.out j id ws xs ≡ s) where
+      reach_is : can_reach z.l g.lookback p.store.axes p.out j id ≡ s
+      reach_is =
+          sym (reached h last refl refl ∙ ap (λ (x : ℕ). can_reach z.l x p.store.axes p.out j id) rules.lookback) ∙ scan
 
-      reach_is : s ≡ can_reach z.l g.lookback p.store.axes p.out (v - 1) id
-      reach_is = reached h last named sizes scan ∙ ap (λ (x : ℕ). can_reach z.l x p.store.axes p.out (v - 1) id) rules.lookback
-
-      pub take_far : s ≡ false → take_rotation z.l g c.merge p id k ≡ put_out_rotation p id k
+      take_far : s ≡ false → take_rotation z.l g c.merge p id k ≡ put_out_rotation p id k
       unfolding place_named merge_or_put_out
-      take_far f =
-          take_place ∙ ap (λ (x : ℕ). merge_or_put_out z.l g p id k (place_named x)) one ∙ if_false _ _ (sym reach_is ∙ f)
+      take_far f = take_place e last ∙ if_false _ _ (reach_is ∙ f)
 
-      pub take_merges : s ≡ true
-          → take_rotation z.l g c.merge p id k ≡ merge_at z.l g.absorption (count_merge p) (v - 1) id
-          ((angle_at p.out (v - 1) + k) % 8)
+      take_merges : s ≡ true
+          → take_rotation z.l g c.merge p id k ≡ merge_at z.l g.absorption (count_merge p) j id ((angle_at p.out j + k) % 8)
       unfolding place_named merge_or_put_out
-      take_merges f =
-          take_place ∙ ap (λ (x : ℕ). merge_or_put_out z.l g p id k (place_named x)) one ∙ if_true _ _ (sym reach_is ∙ f)
+      take_merges f = take_place e last ∙ if_true _ _ (reach_is ∙ f)
 
-  -- by the place that was found
-  module _ (e : t ≡ false) {r : ℕ} (o : PlaceFor z c st id ws xs r) where
-    pub take_out : r ≡ 0 → take_rotation z.l g c.merge p id k ≡ put_out_rotation p id k
-    take_out f = go (o.none f)
-      where
-        go : (o.named ≡ 0) ⊎ ((o.named ≡ 0 → ⊥) × (reaches (sizes_of z st.axes) c.lookback st.out (o.named - 1) id ws xs ≡ false))
-            → take_rotation z.l g c.merge p id k ≡ put_out_rotation p id k
-        go (inl d) = take_nowhere e o.said d
-        go (inr d) = take_far e o.said d.0 refl refl d.1
+    -- by the place that was found
+    module _ {r : Option ℕ} (o : PlaceFor z c st id ws xs r) where
+      pub take_out : r ≡ None → take_rotation z.l g c.merge p id k ≡ put_out_rotation p id k
+      take_out f = go (o.none f)
+        where
+          go : (last_said z c.merge st.start id xs ≡ None)
+              ⊎ ((j : ℕ) × (last_said z c.merge st.start id xs ≡ Some j)
+              × (reaches (sizes_of z st.axes) c.lookback st.out j id ws xs ≡ false))
+              → take_rotation z.l g c.merge p id k ≡ put_out_rotation p id k
+          go (inl d) = take_nowhere d
+          go (inr d) = take_far d.1.0 d.1.1 refl
 
-    pub take_there : (r ≡ 0 → ⊥) → take_rotation z.l g c.merge p id k
-        ≡ merge_at z.l g.absorption (count_merge p) (r - 1) id ((angle_at p.out (r - 1) + k) % 8)
-    take_there some =
-        let w = o.some some in
-        let reached : reaches (sizes_of z st.axes) c.lookback st.out (r - 1) id ws xs ≡ true
-        = ap (λ (x : ℕ). reaches (sizes_of z st.axes) c.lookback st.out (x - 1) id ws xs) w.0 ∙ w.1 in
-        take_merges e (w.0 ∙ o.said) some refl refl reached
+      pub take_there : {j : ℕ} → r ≡ Some j → take_rotation z.l g c.merge p id k
+          ≡ merge_at z.l g.absorption (count_merge p) j id ((angle_at p.out j + k) % 8)
+      take_there {j} f = let w = o.some j f in take_merges w.0 w.1 refl
 
 -- ---- the answers
 

@@ -28,6 +28,7 @@ fn blocks(words: &[u64], numbers: &[u32], z: Sizes, i: usize, id: usize) -> bool
     requires { BlocksPre z words.now numbers.now i id }
     ensures { result ≡ not (passes z words.now numbers.now i id) }
 {
+    // The axis is read only where the angle is not 0.
     if items::angle_at(numbers, z.u, OUT, i) == 0 {
         return false;
     }
@@ -51,9 +52,7 @@ fn can_reach(
     if lookback < out - j - 1 {
         return false;
     }
-    let mut i = out;
-    while j + 1 < i {
-        i -= 1;
+    for i in (j + 1..out).rev() {
         if blocks(words, numbers, z, i, id) {
             return false;
         }
@@ -65,10 +64,7 @@ fn can_reach(
 fn later(rules: StreamRules, k: u32) -> bool
     ensures { result ≡ is_later rules k }
 {
-    if !stream_states::is_lazy(rules) {
-        return false;
-    }
-    k % 2 != 1
+    rules.is_lazy() && k % 2 != 1
 }
 
 // Place j of the output, a rotation by angle k, carried from axis a, is named among those that wait, if it is to wait.
@@ -89,7 +85,7 @@ fn name_place(
     }
     let n = waiting::insert(numbers, shape.u, st.waiting, j);
     store::write(numbers, shape.u, CARRIED_FROM, j, a as u32);
-    steps::with_waiting(st, n)
+    State { waiting: n, ..st }
 }
 
 // Puts out a rotation by angle k about axis id, carried from axis a, and lets `last` name it.
@@ -108,8 +104,7 @@ fn put_out(
     let out = st.out;
     store::write(numbers, shape.u, LAST, id, (out + 1) as u32);
     items::put_rotation(numbers, shape.u, OUT, out, id as u32, k);
-    let mut s = st;
-    s.out = out + 1;
+    let s = State { out: out + 1, ..st };
     name_place(numbers, shape, rules, s, out, k, a)
 }
 
@@ -138,19 +133,17 @@ fn absorb(
         → SteppedAs shape m 0 1 st result words.new numbers.new (absorb shape.l p id k)) }
 {
     let after = absorbing::absorb(words, numbers, shape, st, id, k, source)?;
-    let mut s = after;
-    s.absorbed = st.absorbed + 1;
-    Ok(s)
+    Ok(State {
+        absorbed: st.absorbed + 1,
+        ..after
+    })
 }
 
 // Whether angle k is absorbed at its turn.
 fn at_once(rules: StreamRules, k: u32) -> bool
     ensures { result ≡ is_at_once rules.absorption && is_even k }
 {
-    if !stream_states::is_at_once(rules) {
-        return false;
-    }
-    k % 2 != 1
+    rules.is_at_once() && k % 2 != 1
 }
 
 // F takes in angle k about axis id, which place j of the output had; a zero is left there.
@@ -188,13 +181,11 @@ fn source_of(
         × ((m : Absorption) (n : ℕ) (p : Pass) → SourceAt shape st id words.old numbers.now m n p
         → (b : ℕ) → result ≡ Some b → CarriesTo shape st.axes b id (held_of p)) }
 {
-    if st.axes <= a {
-        return None;
+    if a < st.axes && carrying::carries(words, numbers, shape, a, id) {
+        Some(a)
+    } else {
+        None
     }
-    if !carrying::carries(words, numbers, shape, a, id) {
-        return None;
-    }
-    Some(a)
 }
 
 // F takes in angle k about axis id, which waits at place j of the output. The axis that it was carried from is looked up, and asked whether
@@ -238,8 +229,10 @@ fn merge(
 {
     let old = items::angle_at(&numbers[..], shape.u, OUT, j);
     let sum = (old % 8 + k) % 8;
-    let mut s = st;
-    s.merges = st.merges + 1;
+    let s = State {
+        merges: st.merges + 1,
+        ..st
+    };
     if sum == 0 {
         leave_zero(numbers, shape, j, id);
         return Ok(s);
@@ -251,19 +244,19 @@ fn merge(
     Ok(name_place(numbers, shape, rules, s, j, sum, a))
 }
 
-// The place that `last` names for axis id, plus 1; 0 where there is none, or nothing is merged.
-fn last_of(numbers: &[u32], shape: Shape, rules: StreamRules, st: State, id: usize) -> usize
+// The place that `last` names for axis id; none where nothing is merged. The row has the place plus 1, or 0.
+fn last_of(numbers: &[u32], shape: Shape, rules: StreamRules, st: State, id: usize) -> Option<usize>
     requires { LastPre shape id numbers.now }
     ensures { result ≡ last_said shape rules.merge st.start id numbers.now }
 {
     if !rules.merge {
-        return 0;
+        return None;
     }
     let v = store::read(numbers, shape.u, LAST, id) as usize;
-    if st.start < v { v } else { 0 }
+    if st.start < v { Some(v - 1) } else { None }
 }
 
-// The place that `last` names for axis id, plus 1, if it is reached; else 0. By itself, so that a rotation is put out at one place of `take`,
+// The place that `last` names for axis id, if it is reached. By itself, so that a rotation is put out at one place of `take`,
 // which the compiler then puts into the loop over the items.
 fn place_for(
     words: &[u64],
@@ -272,19 +265,13 @@ fn place_for(
     rules: StreamRules,
     st: State,
     id: usize,
-) -> usize
+) -> Option<usize>
     requires { PlacePre shape rules st id words.now numbers.now }
     ensures { PlaceFor shape rules st id words.now numbers.now result }
 {
-    let last = last_of(numbers, shape, rules, st, id);
-    if last == 0 {
-        return 0;
-    }
+    let j = last_of(numbers, shape, rules, st, id)?;
     let z = axes::sizes_of(shape, st.axes);
-    if !can_reach(words, numbers, z, rules.lookback, st.out, last - 1, id) {
-        return 0;
-    }
-    last
+    can_reach(words, numbers, z, rules.lookback, st.out, j, id).then_some(j)
 }
 
 // A rotation by angle k about axis id, which was carried: absorbed, merged or put out.
@@ -308,11 +295,10 @@ fn take(
     if at_once(rules, k) {
         return absorb(words, numbers, shape, st, id, k, Some(a));
     }
-    let place = place_for(&words[..], &numbers[..], shape, rules, st, id);
-    if place == 0 {
+    let Some(j) = place_for(&words[..], &numbers[..], shape, rules, st, id) else {
         return Ok(put_out(numbers, shape, rules, st, id, k, a));
-    }
-    merge(words, numbers, shape, rules, st, place - 1, id, k, a)
+    };
+    merge(words, numbers, shape, rules, st, j, id, k, a)
 }
 
 // A rotation by an angle about axis a is carried through F, and taken.
@@ -334,7 +320,7 @@ pub fn carry_and_take(
         (with_sign (axis_image shape.l (carry_axis shape.l p a) a).turns angle))) }
 {
     let image = carrying::carry(words, numbers, shape, st, a)?;
-    let s = steps::with_image(st, image);
+    let s = st.with_image(image);
     let k = items::with_sign(s.turns, angle);
     take(words, numbers, shape, rules, s, s.id, k, a)
 }

@@ -2,11 +2,11 @@
 #![tactic(auto)]
 
 ghost use Rattle.std.specs.Prelude.{◌≡◌};
-ghost use Rattle.steps.specs.State.{first_state, with_image, with_slots, with_waiting};
+ghost use Rattle.steps.specs.State.{first_state, with_image};
 
 // Axes stored; the largest word sum that was tested; the image of the axis carried last, its id and its quarter turns; qubits that F has
 // touched; items put out, and where their last segment begins; how many places row WAITING names; merges, exchanges and absorbed rotations.
-#[derive(Clone, Copy)]
+#[derive(Clone, Copy, Default)]
 pub struct State {
     pub axes: usize,
     pub peak: usize,
@@ -37,45 +37,22 @@ pub fn first_state(axes: usize, peak: usize, out: usize) -> State
     State {
         axes,
         peak,
-        id: 0,
-        turns: 0,
-        slots: 0,
         out,
-        start: 0,
-        waiting: 0,
-        merges: 0,
-        swaps: 0,
-        absorbed: 0,
+        ..State::default()
     }
 }
 
-// The state with an axis's image.
-pub fn with_image(st: State, image: Image) -> State
-    ensures { result ≡ with_image image.axes image.peak image.id image.turns st }
-{
-    let mut s = st;
-    s.axes = image.axes;
-    s.peak = image.peak;
-    s.id = image.id;
-    s.turns = image.turns;
-    s
-}
-
-// The state with so many qubits touched, and the largest sum then.
-pub fn with_slots(st: State, peak: usize, slots: usize) -> State
-    ensures { result ≡ with_slots peak slots st }
-{
-    let mut s = st;
-    s.peak = peak;
-    s.slots = slots;
-    s
-}
-
-// The state with so many places in row WAITING.
-pub fn with_waiting(st: State, waiting: usize) -> State
-    ensures { result ≡ with_waiting waiting st }
-{
-    let mut s = st;
-    s.waiting = waiting;
-    s
+impl State {
+    // The state with an axis's image.
+    pub fn with_image(self, image: Image) -> State
+        ensures { result ≡ with_image image.axes image.peak image.id image.turns self }
+    {
+        State {
+            axes: image.axes,
+            peak: image.peak,
+            id: image.id,
+            turns: image.turns,
+            ..self
+        }
+    }
 }

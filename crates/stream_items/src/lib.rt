@@ -132,7 +132,7 @@ fn absorb_blocking(
         → SteppedAs shape lazy 0 st.out st result words.new numbers.new (absorb_blocking shape.l p a)) }
 {
     let image = carrying::carry(words, numbers, shape, st, a)?;
-    let s = steps::with_image(st, image);
+    let s = st.with_image(image);
     absorb_waiting(words, numbers, shape, s, false, s.id)
 }
 
@@ -151,7 +151,7 @@ fn unblock(
         × ((m : Absorption) (n : ℕ) (p : Pass) → UnblockAt shape rules st a words.old numbers.old m n p
         → SteppedAs shape m 0 st.out st result words.new numbers.new (unblocked shape.l m p a)) }
 {
-    if !stream_states::is_lazy(rules) {
+    if !rules.is_lazy() {
         return Ok(st);
     }
     absorb_blocking(words, numbers, shape, st, a)
@@ -191,7 +191,7 @@ fn absorb_all(
         × ((m : Absorption) (n : ℕ) (p : Pass) → AllAt shape rules st words.old numbers.old m n p
         → SteppedAs shape m 0 st.out st result words.new numbers.new (absorb_all_waiting shape.l m p)) }
 {
-    if !stream_states::is_lazy(rules) {
+    if !rules.is_lazy() {
         return Ok(st);
     }
     absorb_waiting(words, numbers, shape, st, true, 0)
@@ -207,7 +207,7 @@ fn put_barrier(words: &mut [u64], numbers: &mut [u32], shape: Shape, st: State, 
 {
     let a = x.axis as usize;
     let image = carrying::carry(words, numbers, shape, st, a)?;
-    let to = steps::with_image(st, image);
+    let to = st.with_image(image);
     let out = to.out;
     let moved = Tagged {
         tag: x.tag,
@@ -263,7 +263,7 @@ fn is_named(rules: StreamRules, x: Tagged) -> bool
 fn begins(rules: StreamRules, x: Tagged) -> bool
     ensures { result ≡ begins_at rules x }
 {
-    if !stream_states::is_at_once(rules) {
+    if !rules.is_at_once() {
         return false;
     }
     is_named(rules, x)

@@ -50,8 +50,10 @@ pub above_first : (u n j : ℕ) (xs : List ℕ) → Above u n j xs n
 above_first u n j xs = record { few = omega arith; above = λ k b c. absurd (omega arith) }
 
 module _ {u n j : ℕ} {xs : List ℕ} {i v : ℕ} (a : Above u n j xs i) (read : v ≡ place_in u xs (i - 1)) where
-  pub above_ends : v ≤ j → UpTo u n j xs i
-  above_ends h = record { few = a.few; last = λ b. omega arith; above = a.above }
+  pub above_ends : v ≤ j → 0 < i → UpTo u n j xs (i - 1 + 1)
+  above_ends h some =
+      let e : i - 1 + 1 ≡ i = omega arith in
+      rw e (record { few = a.few; last = λ b. omega arith; above = a.above })
 
   pub above_next : j < v → 0 < i → Above u n j xs (i - 1)
   above_next h b = record { few = omega (arith, a.few); above = λ k c d. go k c d (ℕ_discrete k (i - 1)) }

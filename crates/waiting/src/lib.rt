@@ -14,12 +14,10 @@ fn up_to(numbers: &[u32], u: usize, n: usize, j: usize) -> usize
     requires { (row_count * u ≤ length numbers.now) × (n ≤ u) }
     ensures { UpTo u n j numbers.now result }
 {
-    let mut i = n;
-    while 0 < i {
-        if store::read(numbers, u, WAITING, i - 1) as usize <= j {
-            return i;
+    for i in (0..n).rev() {
+        if store::read(numbers, u, WAITING, i) as usize <= j {
+            return i + 1;
         }
-        i -= 1;
     }
     0
 }
@@ -29,10 +27,7 @@ fn is_last(numbers: &[u32], u: usize, n: usize, j: usize) -> bool
     requires { (row_count * u ≤ length numbers.now) × (n ≤ u) }
     ensures { result ≡ is_last u n j numbers.now }
 {
-    if n == 0 {
-        return false;
-    }
-    store::read(numbers, u, WAITING, n - 1) as usize == j
+    n != 0 && store::read(numbers, u, WAITING, n - 1) as usize == j
 }
 
 // Place i is copied to the next.
@@ -50,9 +45,7 @@ fn move_up(numbers: &mut [u32], u: usize, a: usize, n: usize)
     requires { (row_count * u ≤ length numbers.old) × (a ≤ n) × (n < u) }
     ensures { MovedUp u a n numbers.old numbers.new }
 {
-    let mut i = n;
-    while a < i {
-        i -= 1;
+    for i in (a..n).rev() {
         copy_up(numbers, u, i);
     }
 }

@@ -4,17 +4,17 @@ use Rattle.absorbing.specs.Turning.{turn_word, turn_slot, turned_not, turned_hal
 use native.Mathlib.Omega.{arith}
 use Rattle.absorbing.proofs.turn_image.Goals as goal
 
-pub odd_phase_at-told-requires : goal.odd_phase_at-told-requires
-odd_phase_at-told-requires c =
+pub odd_phase_at-requires : goal.odd_phase_at-requires
+odd_phase_at-requires c =
     let pre = c.requires in
     (turn_word pre, turn_slot pre c.slot_at-at.ensures)
 
 pub returns-in_default : goal.returns-in_default
-returns-in_default c = turned_not c.requires c.slot_at-at.ensures c.odd_phase_at-told.ensures c.in_default.is
+returns-in_default c = turned_not c.requires c.slot_at-at.ensures c.odd_phase_at.ensures c.in_default.is
 
 pub returns-then-k-eq4 : goal.returns-then-k-eq4
 returns-then-k-eq4 c =
-    turned_half c.requires c.slot_at-at.ensures c.odd_phase_at-told.ensures c.in-Some.is c.if-k-eq4.true
+    turned_half c.requires c.slot_at-at.ensures c.odd_phase_at.ensures c.in-Some.is c.if-k-eq4.true
     c.add_phase.ensures
 
 pub product_word_in-requires : goal.product_word_in-requires
@@ -25,10 +25,10 @@ add_phase-requires-2 c =
     let pre = c.requires in (
       pre.there.numbers_long,
       pre.there.entry,
-      omega (arith, told_small _ _ _ c.odd_phase_at-told.ensures c.in-Some.is, pre.quarters.small),
+      omega (arith, told_small _ _ _ c.odd_phase_at.ensures c.in-Some.is, pre.quarters.small),
     )
 
 pub returns : goal.returns
 returns c =
-    turned_quarter c.requires c.slot_at-at.ensures c.odd_phase_at-told.ensures c.in-Some.is c.if-k-eq4.false
+    turned_quarter c.requires c.slot_at-at.ensures c.odd_phase_at.ensures c.in-Some.is c.if-k-eq4.false
     c.product_word_in.ensures c.add_phase-2.ensures

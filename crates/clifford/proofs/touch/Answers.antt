@@ -36,8 +36,8 @@ write-requires c = (
   qubit_entry c.requires.it,
 )
 
-pub overflow_add-st-2 : goal.overflow_add-st-2
-overflow_add-st-2 c = omega (arith, slots_small c.requires.it c.read.ensures c.if-read-ne0.false c.if-shape-sum.false)
+pub overflow_add-result : goal.overflow_add-result
+overflow_add-result c = omega (arith, slots_small c.requires.it c.read.ensures c.if-read-ne0.false c.if-shape-sum.false)
 
 pub shape_of-words : goal.shape_of-words
 shape_of-words c = (touch_left c.requires.it c.read.ensures c.if-read-ne0.false c.if-shape-sum.false c.put_images.ensures
@@ -51,7 +51,7 @@ pub returns : goal.returns
 returns c = (
   touch_left c.requires.it c.read.ensures c.if-read-ne0.false c.if-shape-sum.false c.put_images.ensures
       c.mask_at.ensures c.mark.ensures c.write.ensures,
-  λ t h. as_slots c.with_slots.ensures (touch_next h
+  λ t h. as_slots refl (touch_next h
       c.read.ensures c.if-read-ne0.false c.if-shape-sum.false c.put_images.ensures c.mask_at.ensures
       c.mark.ensures c.write.ensures c.peak_with.ensures),
 )

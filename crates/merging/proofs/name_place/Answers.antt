@@ -16,7 +16,7 @@ pub write-requires : goal.write-requires
 write-requires c = (omega (arith, c.requires.numbers_long, c.insert-n.ensures.only.long), omega arith, c.requires.place)
 
 pub shape_of-numbers : goal.shape_of-numbers
-shape_of-numbers c = (place_named {k = 0} c.requires c.insert-n.ensures c.write.ensures c.with_waiting.ensures).only.long
+shape_of-numbers c = (place_named {k = 0} c.requires c.insert-n.ensures c.write.ensures refl).only.long
 
 pub returns : goal.returns
-returns c = place_named c.requires c.insert-n.ensures c.write.ensures c.with_waiting.ensures
+returns c = place_named c.requires c.insert-n.ensures c.write.ensures refl

@@ -1,22 +1,16 @@
--- Nothing is named, the place is not reached, or it is. Assumes nothing.
-use Rattle.merging.specs.Taking.{place_nowhere, place_far, place_reached}
+-- Nothing is named, or the scan says whether the place is reached. Assumes nothing.
+use mathlib.Core.Path.{sym, ◌∙◌}
+use Rattle.merging.specs.Taking.{place_nowhere, place_scanned}
 use Rattle.merging.proofs.place_for.Goals as goal
 
-pub last_of-last-requires : goal.last_of-last-requires
-last_of-last-requires c = c.requires.last
+pub last_of-requires : goal.last_of-requires
+last_of-requires c = c.requires.last
 
-pub returns-then-last-eq0 : goal.returns-then-last-eq0
-returns-then-last-eq0 c = place_nowhere c.last_of-last.ensures c.if-last-eq0.true
+pub returns-in_none-j : goal.returns-in_none-j
+returns-in_none-j c = rw c.from_residual.ensures (place_nowhere (sym c.last_of.ensures ∙ c.in_none-j.was))
 
 pub can_reach-requires : goal.can_reach-requires
-can_reach-requires c = rw c.sizes_of-z.ensures (c.requires.reach _ c.last_of-last.ensures c.if-last-eq0.false)
-
-pub returns-then-not-can_reach : goal.returns-then-not-can_reach
-returns-then-not-can_reach c =
-    place_far c.last_of-last.ensures c.if-last-eq0.false c.sizes_of-z.ensures c.can_reach.ensures
-    c.if-not-can_reach.true
+can_reach-requires c = rw c.sizes_of-z.ensures (c.requires.reach _ (sym c.last_of.ensures ∙ c.in_some-j.was))
 
 pub returns : goal.returns
-returns c =
-    place_reached c.last_of-last.ensures c.if-last-eq0.false c.sizes_of-z.ensures c.can_reach.ensures
-    c.if-not-can_reach.false
+returns c = rw c.then_some.ensures (place_scanned (sym c.last_of.ensures ∙ c.in_some-j.was) c.sizes_of-z.ensures c.can_reach.ensures)

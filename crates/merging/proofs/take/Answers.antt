@@ -22,17 +22,17 @@ returns-then-at_once c = (
       (take_once rules h c.at_once.ensures c.if-at_once.true),
 )
 
-pub place_for-place-requires : goal.place_for-place-requires
-place_for-place-requires c = taking_place c.requires.it
+pub place_for-requires : goal.place_for-requires
+place_for-requires c = taking_place c.requires.it
 
 pub put_out-requires : goal.put_out-requires
 put_out-requires c = taking_put c.requires.it
 
-pub returns-then-place-eq0 : goal.returns-then-place-eq0
-returns-then-place-eq0 c = (
+pub returns-in_default : goal.returns-in_default
+returns-in_default c = (
   out_left c.put_out.ensures,
   λ g n p rules h. put_next h.mode h.at.holds c.put_out.ensures
-      (take_out rules h c.at_once.ensures c.if-at_once.false c.place_for-place.ensures c.if-place-eq0.true),
+      (take_out rules h c.at_once.ensures c.if-at_once.false c.place_for.ensures c.in_default.is),
 )
 
 pub merge-requires : goal.merge-requires
@@ -41,13 +41,13 @@ merge-requires c = record {
   items = c.requires.items;
   pass = c.requires.pass;
   it = taking_there c.requires.it
-      c.place_for-place.ensures c.if-place-eq0.false;
+      c.place_for.ensures c.in-Some.is;
 }
 
 pub returns : goal.returns
 returns c = (
   c.merge.ensures.0,
   λ g n p rules h. answer_is 1 1 (omega arith) (omega arith)
-      (c.merge.ensures.1 _ n p (taking_there h c.place_for-place.ensures c.if-place-eq0.false))
-      (take_there rules h c.at_once.ensures c.if-at_once.false c.place_for-place.ensures c.if-place-eq0.false),
+      (c.merge.ensures.1 _ n p (taking_there h c.place_for.ensures c.in-Some.is))
+      (take_there rules h c.at_once.ensures c.if-at_once.false c.place_for.ensures c.in-Some.is),
 )

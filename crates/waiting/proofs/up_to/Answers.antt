@@ -10,7 +10,7 @@ pub read-requires : goal.read-requires
 read-requires c = (c.requires.0, omega arith, omega (arith, c.loop-i-test.true, c.loop-i.invariant.few, c.requires.1))
 
 pub returns-then-read-j : goal.returns-then-read-j
-returns-then-read-j c = above_ends c.loop-i.invariant c.read.ensures c.if-read-j.true
+returns-then-read-j c = above_ends c.loop-i.invariant c.read.ensures c.if-read-j.true c.loop-i-test.true
 
 pub loop-i-preserved : goal.loop-i-preserved
 loop-i-preserved c = above_next c.loop-i.invariant c.read.ensures c.if-read-j.false c.loop-i-test.true
