@@ -4,3 +4,4 @@ pub mod Bit
 pub mod Sum
 pub mod Popcount
 pub mod LowestBit
+pub mod SetBits

@@ -19,10 +19,12 @@ fn plane_bit(w: u64, q: usize) -> u64
 fn letter_of(x: u64, z: u64) -> u32
     ensures { result ≡ letter_of x z }
 {
-    if x == 0 {
-        return if z == 0 { 0 } else { 3 };
+    match (x, z) {
+        (0, 0) => 0,
+        (_, 0) => 1,
+        (0, _) => 3,
+        _ => 2,
     }
-    if z == 0 { 1 } else { 2 }
 }
 
 // The letter of w at qubit q.
@@ -38,17 +40,17 @@ pub fn letter_at(w: &[u64], l: usize, q: usize) -> u32
 fn has_x(letter: u32) -> u64
     ensures { result ≡ has_x letter }
 {
-    if letter == 1 {
-        return 1;
+    match letter {
+        1 | 2 => 1,
+        _ => 0,
     }
-    if letter == 2 { 1 } else { 0 }
 }
 
 // 1 for a letter with z.
 fn has_z(letter: u32) -> u64
     ensures { result ≡ has_z letter }
 {
-    if 2 <= letter { 1 } else { 0 }
+    (2 <= letter) as u64
 }
 
 // The word at `at` becomes a letter at qubit q and I elsewhere.
@@ -58,7 +60,7 @@ pub fn put_letter(words: &mut [u64], at: usize, l: usize, q: usize, letter: u32)
 {
     let n = 2 * l;
     let e = at + n;
-    store::zero_words(&mut words[at..e]);
+    words[at..e].fill(0);
     let j = q / 64;
     words[at + j] = has_x(letter) << (q % 64);
     words[at + (l + j)] = has_z(letter) << (q % 64);
@@ -68,7 +70,7 @@ pub fn put_letter(words: &mut [u64], at: usize, l: usize, q: usize, letter: u32)
 fn acting(x: u64, z: u64) -> u32
     ensures { (result ≡ popcount (bit_or x z)) × (result ≤ 64) }
 {
-    u64::count_ones(x | z)
+    (x | z).count_ones()
 }
 
 // How many letters of w are not I.

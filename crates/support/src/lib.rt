@@ -7,17 +7,17 @@ ghost use Rattle.pauli.specs.Word.{IsWord};
 ghost use Rattle.pauli.specs.Support.{signature};
 ghost use Rattle.pauli.specs.SupportLaws.{buckets_of};
 
+use bits::set_bits;
+
 // The buckets of the set bits of w, the j-th number of a plane, or-ed to sig.
 fn add_buckets(sig: u64, w: u64, j: usize, l: usize) -> u64
     requires { (j < l) × (l ≤ 2 ^ 32) }
     ensures { result ≡ bit_or sig (buckets_of l j w 64) }
 {
     let mut s = sig;
-    let mut rest = w;
-    while rest != 0 {
-        let q = 64 * j + u64::trailing_zeros(rest) as usize;
+    for place in set_bits(w) {
+        let q = 64 * j + place;
         s |= 1 << (q / l);
-        rest &= rest - 1;
     }
     s
 }

@@ -1,23 +1,28 @@
 -- By cases of the letter. Assumes nothing.
-use mathlib.Core.Path.{◌≡◌, refl}
-use Prim.Native.Nat.{ℕ, zero, suc}
+use Rattle.std.proofs.Common.{◌≡◌, refl, ℕ, zero, suc, ◌≤◌, ◌<◌, arith}
 use Rattle.pauli.specs.Letter.{has_x}
 use Rattle.letter.proofs.has_x.Goals as goal
 
-without-x : (c : ℕ) → (c ≡ 1 → ⊥) → (c ≡ 2 → ⊥) → 0 ≡ has_x c
+with_x : (c : ℕ) → 1 ≤ c → c < 3 → 1 ≡ has_x c
 unfolding has_x
-without-x zero n m = refl
-without-x (suc zero) n m = absurd (n refl)
-without-x (suc (suc zero)) n m = absurd (m refl)
-without-x (suc (suc (suc c))) n m = refl
+with_x zero h k = absurd (omega arith)
+with_x (suc zero) h k = refl
+with_x (suc (suc zero)) h k = refl
+with_x (suc (suc (suc c))) h k = absurd (omega arith)
 
-pub returns-then-letter-eq1 : goal.returns-then-letter-eq1
+without_x : (c : ℕ) → 3 ≤ c → 0 ≡ has_x c
 unfolding has_x
-returns-then-letter-eq1 c = rw c.if-letter-eq1.true
+without_x zero h = refl
+without_x (suc zero) h = absurd (omega arith)
+without_x (suc (suc zero)) h = absurd (omega arith)
+without_x (suc (suc (suc c))) h = refl
 
-pub returns-then-letter-eq2 : goal.returns-then-letter-eq2
+pub returns-in-1 : goal.returns-in-1
+returns-in-1 c = with_x _ (omega arith) (omega arith)
+
+pub returns-in_default : goal.returns-in_default
 unfolding has_x
-returns-then-letter-eq2 c = rw c.if-letter-eq2.true
+returns-in_default c = let e : c.args.letter ≡ 0 = omega arith in rw e
 
-pub returns-else-letter-eq2 : goal.returns-else-letter-eq2
-returns-else-letter-eq2 c = without-x _ c.if-letter-eq1.false c.if-letter-eq2.false
+pub returns-in_default-2 : goal.returns-in_default-2
+returns-in_default-2 c = without_x _ (omega arith)

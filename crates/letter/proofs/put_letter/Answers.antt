@@ -9,5 +9,5 @@ bounds-words-at-2 c = simp length-set (omega arith)
 
 pub returns : goal.returns
 returns c =
-    put_letter _ _ _ _ _ _ _ _ c.requires.0 c.requires.1 c.zero_words.ensures c.has_x.ensures
+    put_letter _ _ _ _ _ _ _ _ c.requires.0 c.requires.1 (c.fill.ensures.after (λ y h. h)) c.has_x.ensures
     c.has_z.ensures

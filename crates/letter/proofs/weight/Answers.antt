@@ -15,7 +15,7 @@ loop-j-init c = (omega arith, omega arith, refl)
 pub loop-j-preserved : goal.loop-j-preserved
 loop-j-preserved c =
     let a = c.args in
-    let fits = c.shared_slice_known-in-loop-j-2-1.given in
+    let fits = c.type_inv.w in
     let more = weight_more a.l a.w.now c.loop-j.j (or_lt 64 _ _ (fits c.loop-j.j).fits (fits (a.l + c.loop-j.j)).fits) in
     (omega arith, omega arith, omega arith)
 

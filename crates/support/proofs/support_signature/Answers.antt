@@ -10,7 +10,7 @@ use Rattle.support.proofs.support_signature.Goals as goal
 pub returns-then-l-eq1 : goal.returns-then-l-eq1
 returns-then-l-eq1 c =
     let one : c.args.l ≡ 1 = omega arith in
-    let word : IsWord 1 c.args.words.now = record { long = omega arith; fits = λ j. (c.shared_slice_known-1.given j).fits } in
+    let word : IsWord 1 c.args.words.now = record { long = omega arith; fits = λ j. (c.type_inv.words j).fits } in
     rw one (sym (signature_one _ word), word)
 
 pub loop-j-init : goal.loop-j-init
@@ -24,4 +24,4 @@ pub returns : goal.returns
 unfolding signature
 returns c =
     let e : c.loop-j.j ≡ c.args.l = omega arith in
-    (rw (c.loop-j.invariant.1, e), record { long = c.requires.0; fits = λ j. (c.shared_slice_known-1.given j).fits })
+    (rw (c.loop-j.invariant.1, e), record { long = c.requires.0; fits = λ j. (c.type_inv.words j).fits })
