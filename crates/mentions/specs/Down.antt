@@ -12,8 +12,9 @@ use Rattle.model.specs.Value.{node_mentions, mentions_at, mentions}
 use Rattle.theory.specs.Lists.{any_append}
 use Rattle.theory.specs.ByNode.{ChildrenBefore, Ordered}
 use Rattle.theory.specs.Checked.{LeafIn}
-use Rattle.records.specs.declared.NodeRecord.{NodeRecord}
-use Rattle.records.specs.Records.{node_record, said_identity, said_letter, said_product}
+use Rattle.records.specs.declared.Factor.{Factor}
+use Rattle.records.specs.declared.NodeRecord.TheVariants.{Identity, Letter, Product}
+use Rattle.records.specs.Records.{node_record}
 use Rattle.records.specs.Nodes.{nodes_in, node_here, nodes_count, node_here_lem}
 use Rattle.layout.specs.Rows.{row_count, mark, acted, written_row}
 use Rattle.layout.specs.Only.{Only, only_none, only_of, only_then, only_written}
@@ -76,46 +77,45 @@ module _ {ns : List ℕ} {u n : ℕ} {s : List ℕ} where
       let f : is_set (row s u mark) n ≡ false = set_zero (row s u mark) n (sym e ∙ z) in
       record { only = only_none (mark ∷ acted ∷ []) u s; marks = rw f refl; acts = rw f refl }
 
-  module _ (h : NodePre ns u n s) (x : NodeRecord) (here : x ≡ node_record ns n) where
-    module _ (m : ℕ) (e : m ≡ get_or (row s u mark) n 0) (z : m ≡ 0 → ⊥) where
-      marked : is_set (row s u mark) n ≡ true
-      marked = set_nonzero (row s u mark) n (λ k. z (e ∙ k))
+  module _ (h : NodePre ns u n s) (m : ℕ) (e : m ≡ get_or (row s u mark) n 0) (z : m ≡ 0 → ⊥) where
+    marked : is_set (row s u mark) n ≡ true
+    marked = set_nonzero (row s u mark) n (λ k. z (e ∙ k))
 
-      pub from_identity : x.kind ≡ 0 → MarkedFrom ns u n s s
-      unfolding marks_from acted_from
-      from_identity k =
-          let f = marked in
-          let g = said_here ns n x here _ (said_identity x k) in
-          record { only = only_none (mark ∷ acted ∷ []) u s; marks = rw (f, g) refl; acts = rw (f, g) refl }
+    pub from_identity : Identity ≡ node_record ns n → MarkedFrom ns u n s s
+    unfolding marks_from acted_from
+    from_identity here =
+        let f = marked in
+        let g = said_here ns n here in
+        record { only = only_none (mark ∷ acted ∷ []) u s; marks = rw (f, g) refl; acts = rw (f, g) refl }
 
-      pub from_letter : {t : List ℕ} → x.kind ≡ 1 → Written s u acted x.left 1 t → MarkedFrom ns u n s t
-      unfolding marks_from acted_from all_of member any_of
-      from_letter {t} k w =
-          let f = marked in
-          let g = said_here ns n x here _ (said_letter x k) in
-          let one = only_written h.node.long (omega arith) (qubit_inside h x here k) w in
-          record {
-            only = only_of (mark ∷ acted ∷ []) refl one;
-            marks = rw (f, g) (one.rows mark (omega arith) refl);
-            acts = rw (f, g) (written_row h.node.long (omega arith) (qubit_inside h x here k) w);
-          }
+    pub from_letter : {q c : ℕ} {t : List ℕ} → Letter q c ≡ node_record ns n → Written s u acted q 1 t → MarkedFrom ns u n s t
+    unfolding marks_from acted_from all_of member any_of
+    from_letter {q} here w =
+        let f = marked in
+        let g = said_here ns n here in
+        let one = only_written h.node.long (omega arith) (qubit_inside h here) w in
+        record {
+          only = only_of (mark ∷ acted ∷ []) refl one;
+          marks = rw (f, g) (one.rows mark (omega arith) refl);
+          acts = rw (f, g) (written_row h.node.long (omega arith) (qubit_inside h here) w);
+        }
 
-      pub from_product : {t v : List ℕ} → (x.kind ≡ 0 → ⊥) → (x.kind ≡ 1 → ⊥)
-          → Written s u mark x.left 1 v → Written v u mark x.right 1 t → MarkedFrom ns u n s t
-      unfolding marks_from acted_from all_of member any_of
-      from_product {t} {v} i k w y =
-          let f = marked in
-          let g = said_here ns n x here _ (said_product x i k) in
-          let inside = children_inside h x here i k in
-          let one = only_written h.node.long (omega arith) inside.0 w in
-          let long : row_count * u ≤ length v = (let l = h.node.long in let o = one.long in omega arith) in
-          let both = only_then one (only_written long (omega arith) inside.1 y) in
-          record {
-            only = only_of (mark ∷ acted ∷ []) refl both;
-            marks = rw (f, g) (written_row long (omega arith) inside.1 y
-                ∙ ap (λ (xs : List ℕ). set xs x.right 1) (written_row h.node.long (omega arith) inside.0 w));
-            acts = rw (f, g) (both.rows acted (omega arith) refl);
-          }
+    pub from_product : {a b : Factor} {t v : List ℕ} → Product a b ≡ node_record ns n
+        → Written s u mark a.node 1 v → Written v u mark b.node 1 t → MarkedFrom ns u n s t
+    unfolding marks_from acted_from all_of member any_of
+    from_product {a} {b} {t} {v} here w y =
+        let f = marked in
+        let g = said_here ns n here in
+        let inside = children_inside h here in
+        let one = only_written h.node.long (omega arith) inside.0 w in
+        let long : row_count * u ≤ length v = (let l = h.node.long in let o = one.long in omega arith) in
+        let both = only_then one (only_written long (omega arith) inside.1 y) in
+        record {
+          only = only_of (mark ∷ acted ∷ []) refl both;
+          marks = rw (f, g) (written_row long (omega arith) inside.1 y
+              ∙ ap (λ (xs : List ℕ). set xs b.node 1) (written_row h.node.long (omega arith) inside.0 w));
+          acts = rw (f, g) (both.rows acted (omega arith) refl);
+        }
 
 -- ---- a step of the loop
 

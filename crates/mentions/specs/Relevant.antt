@@ -11,7 +11,7 @@ use Rattle.model.specs.Value.{node_mentions, mentions_at, mentions}
 use Rattle.theory.specs.Lists.{any_append}
 use Rattle.theory.specs.ByNode.{ChildrenBefore, Ordered}
 use Rattle.records.specs.declared.NodeRecord.{NodeRecord}
-use Rattle.records.specs.Records.{node_record, said_identity, said_letter, said_product}
+use Rattle.records.specs.Records.{node_record, node_said}
 use Rattle.records.specs.Nodes.{nodes_in, node_here, nodes_count, node_here_lem}
 use Rattle.layout.specs.Rows.{row_count, acted, relevant_row, written_row, entry_own, entry_other}
 use Rattle.layout.specs.Only.{Only, only_none, only_then, only_written}
@@ -41,30 +41,25 @@ pub record RelevantNodes (ns : List ℕ) (u count n : ℕ) (s t : List ℕ) : Ty
 
 -- ---- one node
 
-module _ (ns : List ℕ) (n : ℕ) (acts known : List ℕ) (x : NodeRecord) (here : x ≡ node_record ns n) where
-  pub relevant_identity : x.kind ≡ 0 → false ≡ relevant_node acts known (node_here ns n)
+-- what its record says of it
+pub relevant_is : (ns : List ℕ) (n : ℕ) (acts known : List ℕ) {x : NodeRecord} {b : Bool} → x ≡ node_record ns n
+    → b ≡ relevant_node acts known (node_said x) → b ≡ relevant_node acts known (node_here ns n)
+relevant_is ns n acts known here e = e ∙ sym (ap (relevant_node acts known) (said_here ns n here))
+
+-- v is read at entry i
+pub set_read : {v : ℕ} (xs : List ℕ) (i : ℕ) → v ≡ get_or xs i 0 → not (eqb v 0) ≡ is_set xs i
+unfolding is_set
+set_read xs i e = ap (λ (y : ℕ). not (eqb y 0)) e
+
+-- a product: its first child does, or its second says
+module _ (acts known : List ℕ) (a p b q : ℕ) {r : Bool} (e : r ≡ is_set known a) where
+  pub relevant_first : r ≡ true → r ≡ relevant_node acts known (product a p b q)
   unfolding relevant_node
-  relevant_identity k = sym (ap (relevant_node acts known) (said_here ns n x here _ (said_identity x k)))
+  relevant_first t = t ∙ ap (λ (x : Bool). x || is_set known b) (sym t ∙ e)
 
-  -- v is read at its qubit
-  pub relevant_letter : (v : ℕ) → v ≡ get_or acts x.left 0 → x.kind ≡ 1 → not (eqb v 0) ≡ relevant_node acts known (node_here ns n)
-  unfolding relevant_node is_set
-  relevant_letter v e k = ap (λ (y : ℕ). not (eqb y 0)) e ∙ sym (ap (relevant_node acts known) (said_here ns n x here _ (said_letter x k)))
-
-  module _ (i : x.kind ≡ 0 → ⊥) (k : x.kind ≡ 1 → ⊥) (v : ℕ) (e : v ≡ get_or known x.left 0) where
-    said : relevant_node acts known (node_here ns n) ≡ is_set known x.left || is_set known x.right
-    unfolding relevant_node
-    said = ap (relevant_node acts known) (said_here ns n x here _ (said_product x i k))
-
-    -- v is read at its first child
-    pub relevant_first : (v ≡ 0 → ⊥) → true ≡ relevant_node acts known (node_here ns n)
-    relevant_first z = sym (said ∙ ap (λ (b : Bool). b || is_set known x.right) (set_nonzero known x.left (λ y. z (e ∙ y))))
-
-    -- and w at its second
-    pub relevant_second : v ≡ 0 → (w : ℕ) → w ≡ get_or known x.right 0 → not (eqb w 0) ≡ relevant_node acts known (node_here ns n)
-    relevant_second z w f =
-        let second : not (eqb w 0) ≡ is_set known x.right = unfold is_set in (ap (λ (y : ℕ). not (eqb y 0)) f) in
-        second ∙ sym (said ∙ ap (λ (b : Bool). b || is_set known x.right) (set_zero known x.left (sym e ∙ z)))
+  pub relevant_second : {s : Bool} → r ≡ false → s ≡ is_set known b → s ≡ relevant_node acts known (product a p b q)
+  unfolding relevant_node
+  relevant_second f k = k ∙ ap (λ (x : Bool). x || is_set known b) (sym f ∙ e)
 
 -- ---- the loop
 

@@ -1,7 +1,9 @@
 // Which nodes mention a qubit that an operation's nodes mention: what makes a frame row a root.
 #![tactic(auto)]
 
-ghost use Rattle.std.specs.Prelude.{◌≡◌};
+ghost use Rattle.std.specs.Prelude.{◌≡◌, ◌*◌, ◌<◌, ◌≤◌, length};
+ghost use Rattle.store.specs.Row.{row};
+ghost use Rattle.mentions.specs.Marks.{is_set};
 ghost use Rattle.mentions.specs.Nodes.{NodesPre, NodePre};
 ghost use Rattle.mentions.specs.Operations.{OperationsPre, MarkedOperations};
 ghost use Rattle.mentions.specs.Down.{MarkedFrom, MarkedDown};
@@ -9,6 +11,7 @@ ghost use Rattle.mentions.specs.Relevant.{relevant_here, RelevantNodes};
 ghost use Rattle.mentions.specs.Relevance.{RelevancePre, Relevance};
 
 use layout::{ACTED, MARK, RELEVANT, Shape};
+use records::NodeRecord;
 
 // Row RELEVANT says of each node whether it mentions a qubit that an operation's nodes mention.
 pub fn relevance(nodes: &[u32], operations: &[u32], numbers: &mut [u32], shape: Shape)
@@ -51,16 +54,14 @@ fn mark_from(nodes: &[u32], numbers: &mut [u32], u: usize, n: usize)
     if store::read(&numbers[..], u, MARK, n) == 0 {
         return;
     }
-    let x = records::node_at(nodes, n);
-    if x.kind == 0 {
-        return;
+    match records::node_at(nodes, n) {
+        NodeRecord::Identity => {}
+        NodeRecord::Letter { qubit, .. } => store::write(numbers, u, ACTED, qubit, 1),
+        NodeRecord::Product { left, right } => {
+            store::write(numbers, u, MARK, left.node, 1);
+            store::write(numbers, u, MARK, right.node, 1);
+        }
     }
-    if x.kind == 1 {
-        store::write(numbers, u, ACTED, x.left as usize, 1);
-        return;
-    }
-    store::write(numbers, u, MARK, x.left as usize, 1);
-    store::write(numbers, u, MARK, x.right as usize, 1);
 }
 
 // Which nodes mention an acted qubit.
@@ -74,20 +75,24 @@ fn relevant_nodes(nodes: &[u32], numbers: &mut [u32], u: usize, count: usize)
     }
 }
 
+// Whether an entry of a row is not 0.
+fn is_set(numbers: &[u32], u: usize, flags: usize, i: usize) -> bool
+    requires { (24 * u ≤ length numbers.now) × (flags < 24) × (i < u) }
+    ensures { result ≡ is_set (row numbers.now u flags) i }
+{
+    store::read(numbers, u, flags, i) != 0
+}
+
 // Whether node n mentions an acted qubit, when row RELEVANT says so of its children.
 fn relevant(nodes: &[u32], numbers: &[u32], u: usize, n: usize) -> bool
     requires { NodePre nodes.now u n numbers.now }
     ensures { result ≡ relevant_here nodes.now u n numbers.now }
 {
-    let x = records::node_at(nodes, n);
-    if x.kind == 0 {
-        return false;
+    match records::node_at(nodes, n) {
+        NodeRecord::Identity => false,
+        NodeRecord::Letter { qubit, .. } => is_set(numbers, u, ACTED, qubit),
+        NodeRecord::Product { left, right } => {
+            is_set(numbers, u, RELEVANT, left.node) || is_set(numbers, u, RELEVANT, right.node)
+        }
     }
-    if x.kind == 1 {
-        return store::read(numbers, u, ACTED, x.left as usize) != 0;
-    }
-    if store::read(numbers, u, RELEVANT, x.left as usize) != 0 {
-        return true;
-    }
-    store::read(numbers, u, RELEVANT, x.right as usize) != 0
 }

@@ -4,13 +4,12 @@ use Rattle.std.proofs.Math.Path.{refl, sym, ap, ap₂}
 use Rattle.std.proofs.Common.{◌∙◌, get_or-take}
 use mathlib.Core.List.{List, [], ◌∷◌}
 use native.Mathlib.Omega.{arith}
-use Rattle.std.proofs.Math.Decide.{dec_lt}
 use Rattle.std.proofs.Math.ListN.{length, get_or}
 use Rattle.std.proofs.Math.Seq.{take-set-lt}
 use Rattle.store.specs.Part.{part, put, part_length, put_length, part_put_same}
 use Rattle.store.specs.Row.{row, row_length}
 use Rattle.model.specs.Lists.{any_of, member, all_of}
-use Rattle.model.specs.Program.{Node, product, Program}
+use Rattle.model.specs.Program.{Node, identity, letter, product, Program}
 use Rattle.model.specs.Words.{Value, Store}
 use Rattle.model.specs.Value.{node_value}
 use Rattle.model.specs.Packing.{one_use_less, Pack, use_node, use_children, take_slot}
@@ -26,7 +25,9 @@ use Rattle.layout.specs.Only.{Only, only_then, only_of}
 use Rattle.layout.specs.Words.{slot_place, slots_le, slot_in, slot_behind, KeptFrom, kept_then, kept_put, OnlyWords, words_put}
 use Rattle.layout.specs.Shape.{Sized}
 use Rattle.records.specs.declared.NodeRecord.{NodeRecord}
-use Rattle.records.specs.Records.{node_said, said_letter, said_by, leaf_of, product_of}
+use Rattle.records.specs.declared.Factor.{Factor}
+use Rattle.records.specs.declared.NodeRecord.TheVariants.{Identity, Letter, Product}
+use Rattle.records.specs.Records.{node_said}
 use Rattle.packing_states.specs.States.{node_at, value_of, before, slotted}
 use Rattle.packing_states.specs.Counts.{less_at, edges_later, used_at}
 use Rattle.packing_states.specs.Uses.{children_below, children_used}
@@ -34,7 +35,7 @@ use Rattle.packing_states.specs.Live.{used_below_more}
 use Rattle.packing_states.specs.Linked.{linked_same}
 use Rattle.packing.specs.declared.Slots.{Slots}
 use Rattle.packing_answer.specs.declared.PackingRefusal.TheVariants.{ExpansionLimit}
-use Rattle.packing.specs.Values.{slot_of, phase_of, uses_of, HeldPre, held_value, EvaluatePre, value_of_record, Evaluated, ChildrenPre}
+use Rattle.packing.specs.Values.{slot_of, phase_of, uses_of, HeldPre, held_value, EvaluatePre, InputsHeld, ChildrenUsed, ReleasedAs, value_of_record, Evaluated, ChildrenPre}
 use Rattle.packing.specs.Values.{ChildrenReleased, TakePre, taken, KeepPre, Kept}
 use Rattle.packing.specs.Holding.{SlotsHold, SignedAt, Holding, Turned, PlaceAt}
 use Rattle.packing.specs.RestKept.{turn_rows, RestKept}
@@ -47,13 +48,10 @@ use Rattle.packing.specs.Taking.{Took, took_none, took_slot}
 -- ---- a record's node
 
 -- its children
-said_children : (P : ℕ → Type 0) (r : NodeRecord) → (2 ≤ r.kind → P r.left × P r.right) → OfChildren P (node_said r)
-said_children P r h = said_by (OfChildren P) r tt tt h
-
--- a leaf has none
-leaf_uses : (r : NodeRecord) (k : Pack) → r.kind < 2 → use_children (node_said r) k ≡ k
-unfolding use_children
-leaf_uses r k h = leaf_of (λ node. use_children node k) k r h refl (λ q c. refl)
+said_children : (P : ℕ → Type 0) (r : NodeRecord) → ((a b : Factor) → r ≡ Product a b → P a.node × P b.node) → OfChildren P (node_said r)
+said_children P Identity h = tt
+said_children P (Letter q c) h = tt
+said_children P (Product a b) h = h a b refl
 
 -- ---- rows that are not written
 
@@ -77,18 +75,19 @@ module _ {p : Program} {z : Shape} {st : Slots} {n : ℕ} {x : NodeRecord} {ws x
   slots_below : st.slots < z.u
   slots_below = slots_in h.granted h.holding
 
-  is_product : 2 ≤ x.kind → node_at p n ≡ product x.left x.left_phase x.right x.right_phase
-  is_product k = sym h.said ∙ product_of x k
+  -- a product's children
+  module _ {a b : Factor} (k : x ≡ Product a b) where
+    is_product : node_at p n ≡ product a.node a.phase b.node b.phase
+    is_product = sym h.said ∙ ap node_said k
 
-  children_in : 2 ≤ x.kind → (x.left < n) × (x.right < n)
-  children_in k = children_below p fine n below (is_product k)
+    children_in : (a.node < n) × (b.node < n)
+    children_in = children_below p fine n below is_product
 
-  children_live : 2 ≤ x.kind
-      → (0 < get_or (before p n).uses x.left 0) × (0 < get_or (one_use_less x.left (before p n).uses) x.right 0)
-  children_live k = children_used p fine n below h.holding.going h.used (is_product k)
+    children_live : (0 < get_or (before p n).uses a.node 0) × (0 < get_or (one_use_less a.node (before p n).uses) b.node 0)
+    children_live = children_used p fine n below h.holding.going h.used is_product
 
-  second_live : 2 ≤ x.kind → 0 < get_or (before p n).uses x.right 0
-  second_live k = omega (arith, (children_live k).1, less_at (before p n).uses x.left x.right)
+    second_live : 0 < get_or (before p n).uses b.node 0
+    second_live = omega (arith, children_live.1, less_at (before p n).uses a.node b.node)
 
   -- what is held of a node that is still to be used
   module _ (m : ℕ) (a : m < n) (u : 0 < get_or (before p n).uses m 0) where
@@ -110,21 +109,25 @@ module _ {p : Program} {z : Shape} {st : Slots} {n : ℕ} {x : NodeRecord} {ws x
         ∙ part_length ws (slot_place z.limit z.l (slot_of xs z.u m)) (2 * z.l) (omega (arith, h.granted.words_long))
 
   -- a leaf's qubit has its bit
-  leaf_qubit : x.kind ≡ 1 → x.left < 64 * z.l
+  leaf_qubit : {q c : ℕ} → x ≡ Letter q c → q < 64 * z.l
   leaf_qubit e =
-      let leaf = rw (sym h.said ∙ said_letter x e) at (leaf_in p fine n below) in
+      let leaf = rw (sym h.said ∙ ap node_said e) at (leaf_in p fine n below) in
       omega (arith, leaf.0, h.program.qubits, size.bits)
 
   -- `evaluate` can be called
+  inputs_held : (y : NodeRecord) → x ≡ y → InputsHeld z xs y
+  inputs_held Identity e = tt
+  inputs_held (Letter q c) e = leaf_qubit e
+  inputs_held (Product a b) e =
+      let i = children_in e in
+      let first = (children_live e).0 in
+      let second = second_live e in (
+        record { held = node_held a.node i.0 first; phase = held_phase a.node i.0 first },
+        record { held = node_held b.node i.1 second; phase = held_phase b.node i.1 second },
+      )
+
   pub evaluate_pre : EvaluatePre z x ws xs
-  evaluate_pre = record {
-    scratch = omega (arith, h.granted.words_long);
-    qubit = leaf_qubit;
-    first = λ k. node_held x.left (children_in k).0 (children_live k).0;
-    second = λ k. node_held x.right (children_in k).1 (second_live k);
-    first_phase = λ k. held_phase x.left (children_in k).0 (children_live k).0;
-    second_phase = λ k. held_phase x.right (children_in k).1 (second_live k);
-  }
+  evaluate_pre = record { scratch = omega (arith, h.granted.words_long); inputs = inputs_held x refl }
 
   -- the model's value, by what the record says
   value_said : node_value z.l (value_of p) (node_said x) ≡ value_of p n
@@ -138,7 +141,7 @@ module _ {p : Program} {z : Shape} {st : Slots} {n : ℕ} {x : NodeRecord} {ws x
   value_is =
       node_value_same z.l (held_value z ws xs) (value_of p) (node_said x)
       (said_children (λ i. held_value z ws xs i ≡ value_of p i) x
-      (λ k. (held_value_lem x.left (children_in k).0 (children_live k).0, held_value_lem x.right (children_in k).1 (second_live k))))
+      (λ a b k. (held_value_lem a.node (children_in k).0 (children_live k).0, held_value_lem b.node (children_in k).1 (second_live k))))
       ∙ value_said
 
   -- which has 2l numbers
@@ -148,7 +151,7 @@ module _ {p : Program} {z : Shape} {st : Slots} {n : ℕ} {x : NodeRecord} {ws x
       ∙ node_value_length z.l p.qubits (value_of p) (node_said x) (omega (arith, h.program.qubits, size.bits))
       (rw h.said (leaf_in p fine n below))
       (said_children (λ i. length (value_of p i).word ≡ 2 * z.l) x
-      (λ k. (held_length x.left (children_in k).0 (children_live k).0, held_length x.right (children_in k).1 (second_live k))))
+      (λ a b k. (held_length a.node (children_in k).0 (children_live k).0, held_length b.node (children_in k).1 (second_live k))))
 
   -- ---- the children's uses
 
@@ -158,47 +161,49 @@ module _ {p : Program} {z : Shape} {st : Slots} {n : ℕ} {x : NodeRecord} {ws x
   used_count : (m : ℕ) → m < n → uses_of xs z.u m ≡ get_or (before p n).uses m 0
   used_count m a = count_is m h.granted.numbers_long (nodes_in_lem h.granted) (omega (arith, h.node)) slots_are
 
-  second_count : 2 ≤ x.kind → get_or (set (row xs z.u uses_row) x.left (uses_of xs z.u x.left - 1)) x.right 0
-      ≡ get_or (one_use_less x.left (before p n).uses) x.right 0
+  second_count : {a b : Factor} → x ≡ Product a b → get_or (set (row xs z.u uses_row) a.node (uses_of xs z.u a.node - 1)) b.node 0
+      ≡ get_or (one_use_less a.node (before p n).uses) b.node 0
   unfolding entries one_use_less
-  second_count k =
+  second_count {a} {b} k =
       let c = children_in k in
       let uses = row xs z.u uses_row in
-      let v = uses_of xs z.u x.left - 1 in
-      sym (get_or-take z.nodes (set uses x.left v) x.right 0 (omega (arith, h.node)))
-      ∙ ap (λ (y : List ℕ). get_or y x.right 0) (take-set-lt z.nodes uses x.left v (omega (arith, h.node)))
-      ∙ ap₂ (λ (y : List ℕ) (w : ℕ). get_or (set y x.left (w - 1)) x.right 0) h.holding.uses (used_count x.left c.0)
+      let v = uses_of xs z.u a.node - 1 in
+      sym (get_or-take z.nodes (set uses a.node v) b.node 0 (omega (arith, h.node)))
+      ∙ ap (λ (y : List ℕ). get_or y b.node 0) (take-set-lt z.nodes uses a.node v (omega (arith, h.node)))
+      ∙ ap₂ (λ (y : List ℕ) (w : ℕ). get_or (set y a.node (w - 1)) b.node 0) h.holding.uses (used_count a.node c.0)
 
   -- `release_children` can be called
-  pub children_pre : ChildrenPre xs z.u st.free x
-  children_pre = record {
-    long = h.granted.numbers_long;
-    room = λ k. omega (arith, slots_below, free_room x.left (children_in k).0 (children_live k).0 slots_are);
-    first = λ k. omega (arith, (children_in k).0, h.node, nodes_in_lem h.granted);
-    second = λ k. omega (arith, (children_in k).1, h.node, nodes_in_lem h.granted);
-    first_used = λ k. omega (arith, (children_live k).0, used_count x.left (children_in k).0);
-    second_used = λ k. omega (arith, (children_live k).1, second_count k);
+  used_children : (y : NodeRecord) → x ≡ y → ChildrenUsed xs z.u st.free y
+  used_children Identity k = tt
+  used_children (Letter q c) k = tt
+  used_children (Product a b) k = record {
+    room = omega (arith, slots_below, free_room a.node (children_in k).0 (children_live k).0 slots_are);
+    first = omega (arith, (children_in k).0, h.node, nodes_in_lem h.granted);
+    second = omega (arith, (children_in k).1, h.node, nodes_in_lem h.granted);
+    first_used = omega (arith, (children_live k).0, used_count a.node (children_in k).0);
+    second_used = omega (arith, (children_live k).1, second_count k);
   }
+
+  pub children_pre : ChildrenPre xs z.u st.free x
+  children_pre = record { long = h.granted.numbers_long; used = used_children x refl }
 
   -- it leaves the slots of the model's pack after the children are used
   module _ {r : ℕ} {t : List ℕ} (c : ChildrenReleased xs z.u st.free x r t) where
     freed : SlotsAre z.l z.limit z.u z.nodes n st.slots r (value_of p) (use_children (node_at p n) (before p n)) ws t
     unfolding use_children use_node
-    freed = go (dec_lt x.kind 2)
+    freed = go x refl c.released
       where
-        go : Dec (x.kind < 2)
+        go : (y : NodeRecord) → x ≡ y → ReleasedAs xs z.u st.free y r t
             → SlotsAre z.l z.limit z.u z.nodes n st.slots r (value_of p) (use_children (node_at p n) (before p n)) ws t
-        go (yes k) =
-            let e = c.leaf k in
-            rw (sym h.said, leaf_uses x (before p n) k, e.0, e.1) slots_are
-        go (no ne) =
-            let k : 2 ≤ x.kind = omega arith in
-            let one = slots_release x.left (children_in k).0 (children_live k).0 slots_are h.granted.numbers_long
-            (nodes_in_lem h.granted) (omega (arith, h.node)) slots_below (c.first k) in
+        go Identity k e = let leaf : node_at p n ≡ identity = sym h.said ∙ ap node_said k in rw (leaf, e.0, e.1) slots_are
+        go (Letter q d) k e = let leaf : node_at p n ≡ letter q d = sym h.said ∙ ap node_said k in rw (leaf, e.0, e.1) slots_are
+        go (Product a b) k both =
+            let one = slots_release a.node (children_in k).0 (children_live k).0 slots_are h.granted.numbers_long
+            (nodes_in_lem h.granted) (omega (arith, h.node)) slots_below both.first in
             rw (is_product k)
-            (slots_release x.right (children_in k).1 (children_live k).1 one
-            (omega (arith, h.granted.numbers_long, (c.first k).only.long)) (nodes_in_lem h.granted) (omega (arith, h.node)) slots_below
-            (c.second k))
+            (slots_release b.node (children_in k).1 (children_live k).1 one
+            (omega (arith, h.granted.numbers_long, both.first.only.long)) (nodes_in_lem h.granted) (omega (arith, h.node)) slots_below
+            both.second)
 
 -- ---- after the children are released: r slots are free, t is the number store, ws' has the value's word as scratch word
 

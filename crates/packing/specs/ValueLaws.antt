@@ -1,7 +1,7 @@
 -- What the functions over slots leave, shown from what their callees leave. Assumes nothing.
 use Rattle.std.specs.Prelude.{◌≡◌, ℕ, ◌+◌, ◌-◌, ◌*◌, ◌/◌, ◌%◌, ◌≤◌, ◌<◌, max, take, drop, replicate, Ok, Err}
 use Rattle.std.proofs.Math.Path.{refl, sym, ap}
-use Rattle.std.proofs.Common.{◌∙◌, inr, add-mul, one-mul, arith}
+use Rattle.std.proofs.Common.{◌∙◌, subst, inr, add-mul, one-mul, arith}
 use Rattle.std.proofs.Math.Bool.{true, false}
 use mathlib.Core.List.{List, [], ◌∷◌}
 use Rattle.std.proofs.Math.Nat.{add-zero}
@@ -26,12 +26,14 @@ use Rattle.layout.specs.Rows.{row_count, uses_row, node_slot, node_phase, free_r
 use Rattle.layout.specs.Only.{Only, only_none, only_then, only_of, only_written}
 use Rattle.layout.specs.Words.{scratch_place, slot_place, slot_ends}
 use Rattle.records.specs.declared.NodeRecord.{NodeRecord}
-use Rattle.records.specs.Records.{said_identity, said_letter, said_product}
+use Rattle.records.specs.declared.Factor.{Factor}
+use Rattle.records.specs.declared.NodeRecord.TheVariants.{Identity, Letter, Product}
+use Rattle.records.specs.Records.{node_said}
 use Rattle.packing.specs.declared.Slots.{Slots}
 use Rattle.packing.specs.declared.ValueHeld.{ValueHeld}
 use Rattle.model.specs.Interface.{expansion_limit}
 use Rattle.packing.specs.Values.{slot_of, phase_of, HeldPre, held_at, held_value, EvaluatePre, value_of_record, Evaluated, uses_of}
-use Rattle.packing.specs.Values.{ReleasePre, Released, ChildrenPre, ChildrenReleased, taken, KeepPre, Kept}
+use Rattle.packing.specs.Values.{ReleasePre, Released, BothUsed, ChildrenPre, ReleasedAs, ChildrenReleased, taken, KeepPre, Kept}
 
 -- ---- what is held of a node
 
@@ -59,19 +61,13 @@ module _ (z : Shape) (xs : List ℕ) (n : ℕ) where
 -- ---- evaluation
 
 module _ (z : Shape) (x : NodeRecord) (ws xs : List ℕ) where
-  value_identity : x.kind ≡ 0 → value_of_record z ws xs x ≡ as_value (identity_word z.l)
+  value_identity : x ≡ Identity → value_of_record z ws xs x ≡ as_value (identity_word z.l)
   unfolding value_of_record node_value
-  value_identity e = ap (node_value z.l (held_value z ws xs)) (said_identity x e)
+  value_identity e = ap (λ (y : NodeRecord). node_value z.l (held_value z ws xs) (node_said y)) e
 
-  value_letter : x.kind ≡ 1 → value_of_record z ws xs x ≡ as_value (single z.l x.left x.left_phase)
+  value_letter : {q c : ℕ} → x ≡ Letter q c → value_of_record z ws xs x ≡ as_value (single z.l q c)
   unfolding value_of_record node_value
-  value_letter e = ap (node_value z.l (held_value z ws xs)) (said_letter x e)
-
-  value_product : (x.kind ≡ 0 → ⊥) → (x.kind ≡ 1 → ⊥)
-      → value_of_record z ws xs x
-      ≡ multiply z.l (scaled x.left_phase (held_value z ws xs x.left)) (scaled x.right_phase (held_value z ws xs x.right))
-  unfolding value_of_record node_value
-  value_product f g = ap (node_value z.l (held_value z ws xs)) (said_product x f g)
+  value_letter e = ap (λ (y : NodeRecord). node_value z.l (held_value z ws xs) (node_said y)) e
 
   -- the scratch word is a value's
   evaluated : {ws' : List ℕ} {e : ℕ} (v : Value) → value_of_record z ws xs x ≡ v → ws' ≡ put ws (scratch_place z.limit) v.word
@@ -82,58 +78,58 @@ module _ (z : Shape) (x : NodeRecord) (ws xs : List ℕ) where
   }
 
   -- zeros came back for the scratch word, which is at o
-  pub evaluated_identity : (w : List ℕ) (o : ℕ) → o ≡ scratch_place z.limit → x.kind ≡ 0 → z.limit + 2 * z.l ≤ length ws
+  pub evaluated_identity : (w : List ℕ) (o : ℕ) → o ≡ scratch_place z.limit → x ≡ Identity → z.limit + 2 * z.l ≤ length ws
       → w ≡ replicate (length (take (o + 2 * z.l - o) (drop o ws))) 0
       → Evaluated z x ws xs (put_mid o (o + 2 * z.l - o) ws w) 0
   evaluated_identity w o s k h e =
       evaluated (as_value (identity_word z.l)) (value_identity k)
       (zeros_lent ws o (2 * z.l) w (omega arith) e ∙ ap (λ (i : ℕ). put ws i (identity_word z.l)) s) refl
 
-  pub evaluated_letter : (ws' : List ℕ) (o : ℕ) → o ≡ scratch_place z.limit → x.kind ≡ 1
-      → ws' ≡ put ws o (single z.l x.left x.left_phase)
+  pub evaluated_letter : {q c : ℕ} (ws' : List ℕ) (o : ℕ) → o ≡ scratch_place z.limit → x ≡ Letter q c
+      → ws' ≡ put ws o (single z.l q c)
       → Evaluated z x ws xs ws' 0
-  evaluated_letter ws' o s k e =
-      evaluated (as_value (single z.l x.left x.left_phase)) (value_letter k)
-      (e ∙ ap (λ (i : ℕ). put ws i (single z.l x.left x.left_phase)) s) refl
+  evaluated_letter {q} {c} ws' o s k e =
+      evaluated (as_value (single z.l q c)) (value_letter k)
+      (e ∙ ap (λ (i : ℕ). put ws i (single z.l q c)) s) refl
 
 -- the phases of a product, remainder by remainder
 turns_sum : (e a p b q : ℕ) → (e + a + p % 4 + b + q % 4) % 4 ≡ ((a + p) % 4 + (b + q) % 4 + e) % 4
 turns_sum e a p b q =
     same4 (e + a + p % 4 + b + q % 4) ((a + p) % 4 + (b + q) % 4 + e) (p / 4 + q / 4) ((a + p) / 4 + (b + q) / 4) (omega arith)
 
-module _ {z : Shape} {x : NodeRecord} {ws xs : List ℕ} (a b : ValueHeld) (o : ℕ) where
+module _ {z : Shape} {l r : Factor} {ws xs : List ℕ} (a b : ValueHeld) (o : ℕ) where
   -- the words of both children, and the scratch word, for `product_in`
-  pub stored_pre : EvaluatePre z x ws xs → 2 ≤ x.kind → a ≡ held_at z xs x.left → b ≡ held_at z xs x.right
+  pub stored_pre : EvaluatePre z (Product l r) ws xs → a ≡ held_at z xs l.node → b ≡ held_at z xs r.node
       → o ≡ scratch_place z.limit
       → StoredPre z.l ws a.at b.at o
-  stored_pre pre k e f g =
-      let p : a.at + 2 * z.l ≤ z.limit = held_ends z xs x.left (pre.first k) e in
-      let q : b.at + 2 * z.l ≤ z.limit = held_ends z xs x.right (pre.second k) f in
+  stored_pre pre e f g =
+      let p : a.at + 2 * z.l ≤ z.limit = held_ends z xs l.node pre.inputs.0.held e in
+      let q : b.at + 2 * z.l ≤ z.limit = held_ends z xs r.node pre.inputs.1.held f in
       let s : z.limit + 2 * z.l ≤ length ws = pre.scratch in
       rw g (record { p_in = omega arith; q_in = omega arith; o_in = s; p_clear = inr (inr p); q_clear = inr (inr q) })
 
   -- all that is summed is small
-  pub phases_small : {ws' : List ℕ} {e : ℕ} → EvaluatePre z x ws xs → 2 ≤ x.kind → a ≡ held_at z xs x.left → b ≡ held_at z xs x.right
+  pub phases_small : {ws' : List ℕ} {e : ℕ} → EvaluatePre z (Product l r) ws xs → a ≡ held_at z xs l.node → b ≡ held_at z xs r.node
       → StoredProduct z.l ws a.at b.at o ws' e → (e < 4) × (a.phase < 4) × (b.phase < 4)
-  phases_small pre k g h s = (
+  phases_small pre g h s = (
     omega (arith, s.phased.turns, phase_lt z.l (part ws a.at (2 * z.l)) (part ws b.at (2 * z.l))),
-    omega (arith, held_phase z xs x.left g, pre.first_phase k),
-    omega (arith, held_phase z xs x.right h, pre.second_phase k),
+    omega (arith, held_phase z xs l.node g, pre.inputs.0.phase),
+    omega (arith, held_phase z xs r.node h, pre.inputs.1.phase),
   )
 
-  pub evaluated_product : {ws' : List ℕ} {e : ℕ} → (x.kind ≡ 0 → ⊥) → (x.kind ≡ 1 → ⊥) → a ≡ held_at z xs x.left
-      → b ≡ held_at z xs x.right → o ≡ scratch_place z.limit → StoredProduct z.l ws a.at b.at o ws' e
-      → Evaluated z x ws xs ws' ((e + a.phase + x.left_phase % 4 + b.phase + x.right_phase % 4) % 4)
-  unfolding multiply scaled held_value
-  evaluated_product f g p q c s =
-      let u = held_place z xs x.left p in
-      let v = held_place z xs x.right q in
-      evaluated z x ws xs (multiply z.l (scaled x.left_phase (held_value z ws xs x.left))
-      (scaled x.right_phase (held_value z ws xs x.right)))
-      (value_product z x ws xs f g)
+  pub evaluated_product : {ws' : List ℕ} {e : ℕ} → a ≡ held_at z xs l.node
+      → b ≡ held_at z xs r.node → o ≡ scratch_place z.limit → StoredProduct z.l ws a.at b.at o ws' e
+      → Evaluated z (Product l r) ws xs ws' ((e + a.phase + l.phase % 4 + b.phase + r.phase % 4) % 4)
+  unfolding multiply scaled held_value value_of_record node_value
+  evaluated_product p q c s =
+      let u = held_place z xs l.node p in
+      let v = held_place z xs r.node q in
+      evaluated z (Product l r) ws xs (multiply z.l (scaled l.phase (held_value z ws xs l.node))
+      (scaled r.phase (held_value z ws xs r.node)))
+      refl
       (s.store ∙ rw (c, u, v) refl)
-      (rw (s.phased.turns, held_phase z xs x.left p, held_phase z xs x.right q, u, v)
-      (turns_sum _ _ x.left_phase _ x.right_phase))
+      (rw (s.phased.turns, held_phase z xs l.node p, held_phase z xs r.node q, u, v)
+      (turns_sum _ _ l.phase _ r.phase))
 
 -- ---- giving up a use
 
@@ -178,45 +174,40 @@ module _ {s t : List ℕ} {u free n : ℕ} (k : ℕ) (pre : ReleasePre s u free 
             ∙ sym (if_true _ _ f);
       }
 
-module _ {s : List ℕ} {u free : ℕ} {x : NodeRecord} where
-  pub children_none : x.kind < 2 → ChildrenReleased s u free x free s
-  children_none h = record {
-    only = only_none _ u s;
-    leaf = λ _. (refl, refl);
-    between = free;
-    store = s;
-    first = λ k. absurd (omega arith);
-    second = λ k. absurd (omega arith);
-  }
+released_none : (s : List ℕ) (u free : ℕ) (x : NodeRecord) → ((a b : Factor) → x ≡ Product a b → ⊥) → ReleasedAs s u free x free s
+released_none s u free Identity other = (refl, refl)
+released_none s u free (Letter q c) other = (refl, refl)
+released_none s u free (Product a b) other = absurd (other a b refl)
 
-  pub first_pre : ChildrenPre s u free x → 2 ≤ x.kind → ReleasePre s u free x.left
-  first_pre pre k = record {
-    long = pre.long;
-    node = pre.first k;
-    room = omega (arith, pre.room k);
-    used = pre.first_used k;
-  }
+pub children_none : {s : List ℕ} {u free : ℕ} {x : NodeRecord} → ((a b : Factor) → x ≡ Product a b → ⊥) → ChildrenReleased s u free x free s
+children_none {s} {u} {free} {x} other = record { only = only_none _ u s; released = released_none s u free x other }
 
-  pub second_pre : (r : ℕ) {t : List ℕ} → ChildrenPre s u free x → 2 ≤ x.kind → Released s u free x.left r t
-      → ReleasePre t u r x.right
-  second_pre r {t} pre k one =
-      let most : (when eqb (uses_of s u x.left) 1 then 1 else 0) ≤ 1 = by_if (λ (i : ℕ). i ≤ 1) _ _ _ (omega arith) (omega arith) in
+module _ {s : List ℕ} {u free : ℕ} {x : NodeRecord} {a b : Factor} (k : x ≡ Product a b) where
+  both_used : ChildrenPre s u free x → BothUsed s u free a.node b.node
+  both_used pre = rw k at pre.used
+
+  pub first_pre : ChildrenPre s u free x → ReleasePre s u free a.node
+  first_pre pre =
+      let both = both_used pre in
+      record { long = pre.long; node = both.first; room = omega (arith, both.room); used = both.first_used }
+
+  pub second_pre : (r : ℕ) {t : List ℕ} → ChildrenPre s u free x → Released s u free a.node r t → ReleasePre t u r b.node
+  second_pre r {t} pre one =
+      let both = both_used pre in
+      let most : (when eqb (uses_of s u a.node) 1 then 1 else 0) ≤ 1 = by_if (λ (i : ℕ). i ≤ 1) _ _ _ (omega arith) (omega arith) in
       record {
         long = omega (arith, pre.long, one.only.long);
-        node = pre.second k;
-        room = omega (arith, pre.room k, one.count);
-        used = rw one.uses (pre.second_used k);
+        node = both.second;
+        room = omega (arith, both.room, one.count);
+        used = rw one.uses both.second_used;
       }
 
-  pub children_both : (m r : ℕ) {v t : List ℕ} → 2 ≤ x.kind → Released s u free x.left m v → Released v u m x.right r t
+  pub children_both : (m r : ℕ) {v t : List ℕ} → Released s u free a.node m v → Released v u m b.node r t
       → ChildrenReleased s u free x r t
-  children_both m r {v} h a b = record {
-    only = only_then a.only b.only;
-    leaf = λ k. absurd (omega arith);
-    between = m;
-    store = v;
-    first = λ _. a;
-    second = λ _. b;
+  children_both m r {v} {t} one two = record {
+    only = only_then one.only two.only;
+    released = subst (λ (y : NodeRecord). ReleasedAs s u free y r t) (sym k)
+        (record { between = m; store = v; first = one; second = two });
   }
 
 -- ---- taking a slot

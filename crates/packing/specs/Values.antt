@@ -11,6 +11,7 @@ use Rattle.layout.specs.Only.{Only}
 use Rattle.layout.specs.Words.{scratch_place, slot_place}
 use Rattle.layout.specs.Shape.{longest_row}
 use Rattle.records.specs.declared.NodeRecord.{NodeRecord}
+use Rattle.records.specs.declared.NodeRecord.TheVariants.{Identity, Letter, Product}
 use Rattle.records.specs.Records.{node_said}
 use Rattle.packing.specs.declared.Slots.{Slots}
 use Rattle.packing.specs.declared.ValueHeld.{ValueHeld}
@@ -46,14 +47,20 @@ held_value z ws xs n = record {
 
 -- ---- evaluation
 
--- a product's two children are held, with phases 0 to 3; a letter's qubit has its bit
+-- a product's child is held, with a phase of 0 to 3
+pub record ChildHeld (z : Shape) (xs : List ℕ) (m : ℕ) : Type 0 where
+  pub held : HeldPre z xs m
+  pub phase : phase_of xs z.u m < 4
+
+-- a letter's qubit has its bit, a product's two children are held
+abbrev pub InputsHeld : Shape → List ℕ → NodeRecord → Type 0
+InputsHeld z xs Identity = Unit {0}
+InputsHeld z xs (Letter q c) = q < 64 * z.l
+InputsHeld z xs (Product a b) = ChildHeld z xs a.node × ChildHeld z xs b.node
+
 pub record EvaluatePre (z : Shape) (x : NodeRecord) (ws xs : List ℕ) : Type 0 where
   pub scratch : z.limit + 2 * z.l ≤ length ws
-  pub qubit : x.kind ≡ 1 → x.left < 64 * z.l
-  pub first : 2 ≤ x.kind → HeldPre z xs x.left
-  pub second : 2 ≤ x.kind → HeldPre z xs x.right
-  pub first_phase : 2 ≤ x.kind → phase_of xs z.u x.left < 4
-  pub second_phase : 2 ≤ x.kind → phase_of xs z.u x.right < 4
+  pub inputs : InputsHeld z xs x
 
 -- the node's value, from those that memory has for its children
 unfoldable pub value_of_record : Shape → List ℕ → List ℕ → NodeRecord → Value
@@ -83,23 +90,40 @@ pub record Released (s : List ℕ) (u free n r : ℕ) (t : List ℕ) : Type 0 wh
   pub count : r ≡ free + (when eqb (uses_of s u n) 1 then 1 else 0)
   pub stack : row t u free_row ≡ (when eqb (uses_of s u n) 1 then set (row s u free_row) free (slot_of s u n) else row s u free_row)
 
--- both children are used; the second still is where the first is given up
+-- children a and b are used; the second still is where the first is given up
+pub record BothUsed (s : List ℕ) (u free a b : ℕ) : Type 0 where
+  pub room : free + 1 < u
+  pub first : a < u
+  pub second : b < u
+  pub first_used : 0 < uses_of s u a
+  pub second_used : 0 < get_or (set (row s u uses_row) a (uses_of s u a - 1)) b 0
+
+-- a product's are
+abbrev pub ChildrenUsed : List ℕ → ℕ → ℕ → NodeRecord → Type 0
+ChildrenUsed s u free Identity = Unit {0}
+ChildrenUsed s u free (Letter q c) = Unit {0}
+ChildrenUsed s u free (Product a b) = BothUsed s u free a.node b.node
+
 pub record ChildrenPre (s : List ℕ) (u free : ℕ) (x : NodeRecord) : Type 0 where
   pub long : row_count * u ≤ length s
-  pub room : 2 ≤ x.kind → free + 1 < u
-  pub first : 2 ≤ x.kind → x.left < u
-  pub second : 2 ≤ x.kind → x.right < u
-  pub first_used : 2 ≤ x.kind → 0 < uses_of s u x.left
-  pub second_used : 2 ≤ x.kind → 0 < get_or (set (row s u uses_row) x.left (uses_of s u x.left - 1)) x.right 0
+  pub used : ChildrenUsed s u free x
 
--- nothing for a leaf; for a product its first child is released, then its second: `between` slots are free in between, in `store`
-pub record ChildrenReleased (s : List ℕ) (u free : ℕ) (x : NodeRecord) (r : ℕ) (t : List ℕ) : Type 0 where
-  pub only : Only (uses_row ∷ free_row ∷ []) u s t
-  pub leaf : x.kind < 2 → (r ≡ free) × (t ≡ s)
+-- the first child is released, then the second: `between` slots are free in between, in `store`
+pub record BothReleased (s : List ℕ) (u free a b r : ℕ) (t : List ℕ) : Type 0 where
   pub between : ℕ
   pub store : List ℕ
-  pub first : 2 ≤ x.kind → Released s u free x.left between store
-  pub second : 2 ≤ x.kind → Released store u between x.right r t
+  pub first : Released s u free a between store
+  pub second : Released store u between b r t
+
+-- nothing for a leaf, for a product its children
+abbrev pub ReleasedAs : List ℕ → ℕ → ℕ → NodeRecord → ℕ → List ℕ → Type 0
+ReleasedAs s u free Identity r t = (r ≡ free) × (t ≡ s)
+ReleasedAs s u free (Letter q c) r t = (r ≡ free) × (t ≡ s)
+ReleasedAs s u free (Product a b) r t = BothReleased s u free a.node b.node r t
+
+pub record ChildrenReleased (s : List ℕ) (u free : ℕ) (x : NodeRecord) (r : ℕ) (t : List ℕ) : Type 0 where
+  pub only : Only (uses_row ∷ free_row ∷ []) u s t
+  pub released : ReleasedAs s u free x r t
 
 -- ---- taking a slot
 

@@ -1,5 +1,6 @@
 // Slots: where nodes' values are while they are still to be used. Freed after the last use; the one freed last is reused first.
 ghost use Rattle.std.specs.Prelude.{◌≡◌};
+ghost use Rattle.records.specs.declared.NodeRecord.TheVariants.{Product};
 ghost use Rattle.packing.specs.Values.{HeldPre, held_at, EvaluatePre, Evaluated, ReleasePre, Released, ChildrenPre, ChildrenReleased};
 ghost use Rattle.packing.specs.Values.{TakePre, taken, KeepPre, Kept};
 
@@ -7,7 +8,7 @@ use super::{Slots, ValueHeld};
 use angle::Phase;
 use layout::{FREE, NODE_PHASE, NODE_SLOT, Shape, USES};
 use model::ExpansionLimit;
-use records::NodeRecord;
+use records::{Factor, NodeRecord};
 
 // What is held of node n.
 pub fn held(numbers: &[u32], shape: Shape, n: usize) -> ValueHeld
@@ -22,15 +23,21 @@ pub fn held(numbers: &[u32], shape: Shape, n: usize) -> ValueHeld
 }
 
 // The product of two nodes' values, each with its phase: its word, as the scratch word, and its phase.
-fn evaluate_product(words: &mut [u64], numbers: &[u32], shape: Shape, x: NodeRecord) -> Phase
-    requires { EvaluatePre shape x words.old numbers.now × ((x.kind ≡ 0 → ⊥) × (x.kind ≡ 1 → ⊥)) }
-    ensures { Evaluated shape x words.old numbers.now words.new result.0 }
+fn evaluate_product(
+    words: &mut [u64],
+    numbers: &[u32],
+    shape: Shape,
+    left: Factor,
+    right: Factor,
+) -> Phase
+    requires { EvaluatePre shape (Product left right) words.old numbers.now }
+    ensures { Evaluated shape (Product left right) words.old numbers.now words.new result.0 }
 {
-    let a = held(numbers, shape, x.left as usize);
-    let b = held(numbers, shape, x.right as usize);
+    let a = held(numbers, shape, left.node);
+    let b = held(numbers, shape, right.node);
     let at = layout::scratch_at(shape.limit);
     let e = product::product_in(words, a.at, b.at, at, shape.l);
-    Phase(((e.0 as u32 + a.phase + x.left_phase % 4 + b.phase + x.right_phase % 4) % 4) as u8)
+    Phase(((e.0 as u32 + a.phase + left.phase % 4 + b.phase + right.phase % 4) % 4) as u8)
 }
 
 // A node's word, as the scratch word, and its phase.
@@ -39,16 +46,18 @@ pub fn evaluate(words: &mut [u64], numbers: &[u32], shape: Shape, x: NodeRecord)
     ensures { Evaluated shape x words.old numbers.now words.new result.0 }
 {
     let at = layout::scratch_at(shape.limit);
-    if x.kind == 0 {
-        let e = at + 2 * shape.l;
-        store::zero_words(&mut words[at..e]);
-        return Phase(0);
+    match x {
+        NodeRecord::Identity => {
+            let e = at + 2 * shape.l;
+            store::zero_words(&mut words[at..e]);
+            Phase(0)
+        }
+        NodeRecord::Letter { qubit, letter } => {
+            letter::put_letter(words, at, shape.l, qubit, letter);
+            Phase(0)
+        }
+        NodeRecord::Product { left, right } => evaluate_product(words, numbers, shape, left, right),
     }
-    if x.kind == 1 {
-        letter::put_letter(words, at, shape.l, x.left as usize, x.left_phase);
-        return Phase(0);
-    }
-    evaluate_product(words, numbers, shape, x)
 }
 
 // Gives up one use of a node; its slot is free after the last. How many slots are free then.
@@ -71,11 +80,11 @@ pub fn release_children(numbers: &mut [u32], u: usize, free: usize, x: NodeRecor
     requires { ChildrenPre numbers.old u free x }
     ensures { ChildrenReleased numbers.old u free x result numbers.new }
 {
-    if x.kind < 2 {
+    let NodeRecord::Product { left, right } = x else {
         return free;
-    }
-    let one = release(numbers, u, free, x.left as usize);
-    release(numbers, u, one, x.right as usize)
+    };
+    let one = release(numbers, u, free, left.node);
+    release(numbers, u, one, right.node)
 }
 
 // The slot freed last, or a new one within the limit.

@@ -5,11 +5,10 @@ use Rattle.store.specs.Row.{row}
 use Rattle.model.specs.Lists.{when◌then◌else◌}
 use Rattle.model.specs.Program.{Program}
 use Rattle.model.specs.Roots.{relevant}
-use Rattle.theory.specs.ByNode.{ChildrenBefore, Ordered, children_before}
+use Rattle.theory.specs.ByNode.{ChildrenBefore, Ordered, OfChildren, children_before, children_of}
 use Rattle.layout.specs.declared.Shape.{Shape}
 use Rattle.layout.specs.Rows.{row_count, relevant_row}
 use Rattle.layout.specs.Shape.{Sized}
-use Rattle.records.specs.Records.{node_record, product_of}
 use Rattle.records.specs.Nodes.{nodes_in, node_here, nodes_count, node_here_lem}
 use Rattle.records.specs.Given.{nodes_in_lem, Given}
 
@@ -18,7 +17,7 @@ pub record NodeInRows (ns : List ℕ) (u n : ℕ) (xs : List ℕ) : Type 0 where
   pub long : row_count * u ≤ length xs
   pub record_long : n * 5 + 5 ≤ length ns
   pub node : n < u
-  pub children : 2 ≤ (node_record ns n).kind → ((node_record ns n).left < u) × ((node_record ns n).right < u)
+  pub children : OfChildren (λ i. i < u) (node_here ns n)
 
 -- so have count nodes; children stand before their products
 pub record NodesInRows (ns : List ℕ) (u count : ℕ) (xs : List ℕ) : Type 0 where
@@ -31,17 +30,13 @@ module _ {ns : List ℕ} {u count : ℕ} {xs : List ℕ} (h : NodesInRows ns u c
   pub children_here : ChildrenBefore n (node_here ns n)
   children_here = rw (node_here_lem count ns n b) at (children_before (nodes_in count ns) h.ordered n (omega (arith, nodes_count count ns)))
 
-  -- a product's
-  pub children_under : 2 ≤ (node_record ns n).kind → ((node_record ns n).left < n) × ((node_record ns n).right < n)
-  children_under k = rw (product_of (node_record ns n) k) at children_here
-
   -- each of them, in a store as long
   pub node_in_rows : {ys : List ℕ} → length ys ≡ length xs → NodeInRows ns u n ys
   node_in_rows e = record {
     long = omega (arith, h.long);
     record_long = omega (arith, h.nodes_long);
     node = omega (arith, h.fits);
-    children = λ k. let c = children_under k in (omega (arith, c.0, h.fits), omega (arith, c.1, h.fits));
+    children = children_of n (node_here ns n) children_here (λ i k. omega (arith, h.fits));
   }
 
 -- row RELEVANT tells the relevant nodes

@@ -1,25 +1,35 @@
 -- A program's records as the code reads them, and the model's nodes, operations and rows. Assumes nothing.
 use Rattle.std.specs.Prelude.{◌≡◌, refl, List, [], map, ℕ, zero, suc, ◌+◌, ◌*◌, ◌≤◌, ◌<◌, get_or}
-use Rattle.std.proofs.Common.{ap, ◌∙◌, add-zero, arith, ltb-true}
+use Rattle.std.proofs.Common.{ap, ◌∙◌, add-zero, add_assoc, arith, ltb-true}
 use Rattle.std.proofs.Math.ListN.{get_or-map}
 use Rattle.store.specs.Part.{part, part_at}
 use Rattle.store.specs.Chunk.{chunks, chunks_at}
 use Rattle.model.specs.Program.{Node, identity, letter, product, node_of_kind, node_of, kind_of, Operation, operation_of, PauliRef, row_of}
 use Rattle.model.specs.Results.{no_operation}
+use Rattle.records.specs.declared.Factor.{Factor}
 use Rattle.records.specs.declared.NodeRecord.{NodeRecord}
+use Rattle.records.specs.declared.NodeRecord.TheVariants.{Identity, Letter, Product}
 use Rattle.records.specs.declared.OperationRecord.{OperationRecord}
 use Rattle.records.specs.declared.RowRecord.{RowRecord}
 
 -- ---- a record's fields, in the order of 01
 
+abbrev pub factor_record : List ℕ → ℕ → Factor
+factor_record s at = record { node = get_or s at 0; phase = get_or s (at + 1) 0 }
+
+unfoldable pub record_of_kind : ℕ → List ℕ → ℕ → NodeRecord
+record_of_kind zero s n = Identity
+record_of_kind (suc zero) s n = Letter (get_or s (n * 5 + 1) 0) (get_or s (n * 5 + 2) 0)
+record_of_kind (suc (suc k)) s n = Product (factor_record s (n * 5 + 1)) (factor_record s (n * 5 + 3))
+
 unfoldable pub node_record : List ℕ → ℕ → NodeRecord
-node_record s n = record {
-  kind = get_or s (n * 5) 0;
-  left = get_or s (n * 5 + 1) 0;
-  left_phase = get_or s (n * 5 + 2) 0;
-  right = get_or s (n * 5 + 3) 0;
-  right_phase = get_or s (n * 5 + 4) 0;
-}
+node_record s n = record_of_kind (get_or s (n * 5) 0) s n
+
+pub product_record : (k : ℕ) (s : List ℕ) (n : ℕ) → 2 ≤ k → record_of_kind k s n ≡ Product (factor_record s (n * 5 + 1)) (factor_record s (n * 5 + 3))
+unfolding record_of_kind
+product_record zero s n h = absurd (omega arith)
+product_record (suc zero) s n h = absurd (omega arith)
+product_record (suc (suc k)) s n h = refl
 
 unfoldable pub operation_record : List ℕ → ℕ → OperationRecord
 operation_record s i = record {
@@ -41,13 +51,10 @@ row_record s i = record {
 
 -- ---- what a record says, in the model's words
 
-unfoldable pub node_said_of_kind : ℕ → NodeRecord → Node
-node_said_of_kind zero r = identity
-node_said_of_kind (suc zero) r = letter r.left r.left_phase
-node_said_of_kind (suc (suc k)) r = product r.left r.left_phase r.right r.right_phase
-
-unfoldable pub node_said : NodeRecord → Node
-node_said r = node_said_of_kind r.kind r
+abbrev pub node_said : NodeRecord → Node
+node_said Identity = identity
+node_said (Letter q c) = letter q c
+node_said (Product a b) = product a.node a.phase b.node b.phase
 
 unfoldable pub operation_said : OperationRecord → Operation
 operation_said r = record {
@@ -63,51 +70,6 @@ operation_said r = record {
 unfoldable pub row_said : RowRecord → PauliRef
 row_said r = record { node = r.node; phase = r.phase }
 
--- ---- a node, for code that tests its kind
-
-pub said_identity : (r : NodeRecord) → r.kind ≡ 0 → node_said r ≡ identity
-unfolding node_said node_said_of_kind
-said_identity r e = ap (λ (k : ℕ). node_said_of_kind k r) e
-
-pub said_letter : (r : NodeRecord) → r.kind ≡ 1 → node_said r ≡ letter r.left r.left_phase
-unfolding node_said node_said_of_kind
-said_letter r e = ap (λ (k : ℕ). node_said_of_kind k r) e
-
-said_of_kind : (P : Node → Type 0) (k : ℕ) (r : NodeRecord) → P identity → P (letter r.left r.left_phase)
-    → (2 ≤ k → P (product r.left r.left_phase r.right r.right_phase)) → P (node_said_of_kind k r)
-unfolding node_said_of_kind
-said_of_kind P zero r i l p = i
-said_of_kind P (suc zero) r i l p = l
-said_of_kind P (suc (suc k)) r i l p = p (omega arith)
-
--- kinds 0, 1, and 2 on: what holds of each holds of the node
-pub said_by : (P : Node → Type 0) (r : NodeRecord) → P identity → P (letter r.left r.left_phase)
-    → (2 ≤ r.kind → P (product r.left r.left_phase r.right r.right_phase)) → P (node_said r)
-unfolding node_said
-said_by P r i l p = said_of_kind P r.kind r i l p
-
--- of a node that is no product: what f makes of the identity and of a letter
-pub leaf_of : {A : Type 0} (f : Node → A) (x : A) (r : NodeRecord) → r.kind < 2 → f identity ≡ x → ((q c : ℕ) → f (letter q c) ≡ x)
-    → f (node_said r) ≡ x
-leaf_of f x r h i l = said_by (λ node. f node ≡ x) r i (l r.left r.left_phase) (λ k. absurd (omega arith))
-
--- the kind of a node that is neither the identity nor a letter
-pub product_kind : (k : ℕ) → (k ≡ 0 → ⊥) × (k ≡ 1 → ⊥) → 2 ≤ k
-product_kind k h = omega (arith, h.0, h.1)
-
-pub product_of : (r : NodeRecord) → 2 ≤ r.kind → node_said r ≡ product r.left r.left_phase r.right r.right_phase
-unfolding node_said node_said_of_kind
-product_of r h = go r.kind h
-  where
-    go : (k : ℕ) → 2 ≤ k → node_said_of_kind k r ≡ product r.left r.left_phase r.right r.right_phase
-    go zero h = absurd (omega arith)
-    go (suc zero) h = absurd (omega arith)
-    go (suc (suc k)) h = refl
-
-pub said_product : (r : NodeRecord) → (r.kind ≡ 0 → ⊥) → (r.kind ≡ 1 → ⊥)
-    → node_said r ≡ product r.left r.left_phase r.right r.right_phase
-said_product r f g = product_of r (product_kind r.kind (f, g))
-
 -- ---- record i of the counted ones is the model's i
 
 -- for any width and any reading f of a record's numbers
@@ -119,15 +81,15 @@ said_at f w count s i l = get_or-map f (chunks w count s) i [] ∙ ap f (chunks_
 part_first : (s : List ℕ) (b n : ℕ) → 0 < n → get_or (part s b n) 0 0 ≡ get_or s b 0
 part_first s b n h = part_at s b n 0 h ∙ ap (λ (t : ℕ). get_or s t 0) (add-zero b)
 
-node_of_lem : (k : ℕ) (s : List ℕ) (n : ℕ) → node_of_kind k (part s (n * 5) 5) ≡ node_said_of_kind k (node_record s n)
-unfolding node_of_kind node_said_of_kind node_record
+node_of_lem : (k : ℕ) (s : List ℕ) (n : ℕ) → node_of_kind k (part s (n * 5) 5) ≡ node_said (record_of_kind k s n)
+unfolding node_of_kind record_of_kind
 node_of_lem zero s n = refl
 node_of_lem (suc zero) s n = simp (part_at, ltb-true)
-node_of_lem (suc (suc k)) s n = simp (part_at, ltb-true)
+node_of_lem (suc (suc k)) s n = simp (part_at, ltb-true, add_assoc)
 
 pub node_said_lem : (count : ℕ) (s : List ℕ) (n : ℕ) → n < count
     → get_or (map node_of (chunks 5 count s)) n identity ≡ node_said (node_record s n)
-unfolding node_of node_of_kind node_said node_record
+unfolding node_of node_of_kind node_record
 node_said_lem count s n l =
     said_at node_of 5 count s n l
     ∙ ap (λ (k : ℕ). node_of_kind k (part s (n * 5) 5)) (part_first s (n * 5) 5 (omega arith))

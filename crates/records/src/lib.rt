@@ -2,16 +2,21 @@
 #![tactic(auto)]
 
 ghost use Rattle.std.specs.Prelude.{◌≡◌, ◌+◌, ◌*◌, ◌≤◌, length};
-ghost use Rattle.records.specs.Records.{node_record, operation_record, row_record};
+ghost use Rattle.records.specs.Records.{factor_record, node_record, operation_record, row_record};
 
-// A node: kind 0 identity; 1 a letter on a qubit, these in the left factor's two fields; 2 a product of nodes with phases.
+// What a product multiplies: a node, with a phase.
 #[derive(Clone, Copy)]
-pub struct NodeRecord {
-    pub kind: u32,
-    pub left: u32,
-    pub left_phase: u32,
-    pub right: u32,
-    pub right_phase: u32,
+pub struct Factor {
+    pub node: usize,
+    pub phase: u32,
+}
+
+// A node: kind 0 the identity, 1 a letter on a qubit, 2 a product of two nodes before it.
+#[derive(Clone, Copy)]
+pub enum NodeRecord {
+    Identity,
+    Letter { qubit: usize, letter: u32 },
+    Product { left: Factor, right: Factor },
 }
 
 // An operation: kind 1 rotate, 2 measure, 3 conditional.
@@ -34,17 +39,31 @@ pub struct RowRecord {
     pub phase: u32,
 }
 
+fn factor_at(nodes: &[u32], at: usize) -> Factor
+    requires { at + 2 ≤ length nodes.now }
+    ensures { result ≡ factor_record nodes.now at }
+{
+    Factor {
+        node: nodes[at] as usize,
+        phase: nodes[at + 1],
+    }
+}
+
 pub fn node_at(nodes: &[u32], n: usize) -> NodeRecord
     requires { n * 5 + 5 ≤ length nodes.now }
     ensures { result ≡ node_record nodes.now n }
 {
     let at = n * 5;
-    NodeRecord {
-        kind: nodes[at],
-        left: nodes[at + 1],
-        left_phase: nodes[at + 2],
-        right: nodes[at + 3],
-        right_phase: nodes[at + 4],
+    match nodes[at] {
+        0 => NodeRecord::Identity,
+        1 => NodeRecord::Letter {
+            qubit: nodes[at + 1] as usize,
+            letter: nodes[at + 2],
+        },
+        _ => NodeRecord::Product {
+            left: factor_at(nodes, at + 1),
+            right: factor_at(nodes, at + 3),
+        },
     }
 }
 

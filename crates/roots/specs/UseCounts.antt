@@ -2,9 +2,9 @@
 use Rattle.std.specs.Prelude.{◌≡◌, List, [], ◌∷◌, ℕ, ◌*◌, ◌≤◌, ◌<◌, length, get_or}
 use Rattle.store.specs.Row.{row}
 use Rattle.model.specs.Packing.{one_use_more, count_uses}
+use Rattle.theory.specs.ByNode.{OfChildren}
 use Rattle.layout.specs.Rows.{row_count, uses_row, entries}
 use Rattle.layout.specs.Only.{Only}
-use Rattle.records.specs.Records.{node_record}
 use Rattle.records.specs.Nodes.{nodes_in, node_here}
 use Rattle.packing_states.specs.Counts.{count_node}
 use Rattle.packing_states.specs.NodeRows.{NodeInRows, NodesInRows}
@@ -27,8 +27,7 @@ pub record Added (s : List ℕ) (u n : ℕ) (t : List ℕ) : Type 0 where
 -- a product's children have entries, and room for two uses more
 pub record UsePre (ns s : List ℕ) (u n : ℕ) : Type 0 where
   pub node : NodeInRows ns u n s
-  pub uses : 2 ≤ (node_record ns n).kind
-      → (get_or (row s u uses_row) (node_record ns n).left 0 < 4294967294) × (get_or (row s u uses_row) (node_record ns n).right 0 < 4294967294)
+  pub uses : OfChildren (λ m. get_or (row s u uses_row) m 0 < 4294967294) (node_here ns n)
 
 -- node n's turn in the model's count
 pub record ChildrenUsed (ns s : List ℕ) (u n : ℕ) (t : List ℕ) : Type 0 where

@@ -1,7 +1,7 @@
 -- One use more; counting the uses of one node's children, and of all nodes', the last node first. Assumes nothing.
 use Rattle.std.specs.Prelude.{◌≡◌, refl, Bool, true, false, List, [], ◌∷◌, eqb, length, get_or, set, take}
 use Rattle.std.proofs.Math.Path.{sym, ap}
-use Rattle.std.proofs.Common.{◌∙◌, get_or-take, eq-eqb, ne_eqb}
+use Rattle.std.proofs.Common.{◌∙◌, subst, get_or-take, eq-eqb, ne_eqb}
 use Prim.Native.Nat.{ℕ, suc, ◌+◌, ◌-◌, ◌*◌, ◌≤◌, ◌<◌}
 use native.Mathlib.Omega.{arith}
 use Rattle.std.proofs.Math.Seq.{take-set-lt}
@@ -10,13 +10,16 @@ use Rattle.model.specs.Lists.{when◌then◌else◌}
 use Rattle.model.specs.Program.{Node, identity, letter, product}
 use Rattle.model.specs.Packing.{one_use_more, count_children, count_uses}
 use Rattle.theory.specs.Cases.{by_if, if_true, if_false}
-use Rattle.theory.specs.ByNode.{ChildrenBefore}
+use Rattle.theory.specs.ByNode.{ChildrenBefore, OfChildren, children_of}
 use Rattle.layout.specs.Rows.{row_count, uses_row, entries, entries_at, written_row}
 use Rattle.layout.specs.Only.{Only, only_none, only_then, only_written}
-use Rattle.records.specs.Records.{node_record, leaf_of, product_of}
+use Rattle.records.specs.declared.Factor.{Factor}
+use Rattle.records.specs.declared.NodeRecord.{NodeRecord}
+use Rattle.records.specs.declared.NodeRecord.TheVariants.{Identity, Letter, Product}
+use Rattle.records.specs.Records.{node_record, node_said}
 use Rattle.records.specs.Nodes.{nodes_in, node_here, node_here_lem}
 use Rattle.packing_states.specs.Counts.{more_at, count_node, count_node_most}
-use Rattle.packing_states.specs.NodeRows.{children_here, children_under, node_in_rows}
+use Rattle.packing_states.specs.NodeRows.{children_here, node_in_rows}
 use Rattle.roots.specs.UseCounts.{AddPre, Added, UsePre, ChildrenUsed, CountPre, UsesCounted}
 
 -- ---- one use more
@@ -31,46 +34,64 @@ added {s} {t} {u} {n} {x} pre e w = record {
 
 -- ---- one node
 
-pub leaf_used : (ns s : List ℕ) (u n : ℕ) → (node_record ns n).kind < 2 → ChildrenUsed ns s u n s
+-- no product
+abbrev IsLeaf : Node → Type 0
+IsLeaf identity = Unit {0}
+IsLeaf (letter q c) = Unit {0}
+IsLeaf (product a p b q) = ⊥
+
+leaf_counts : (node : Node) (uses : List ℕ) → IsLeaf node → count_children node uses ≡ uses
 unfolding count_children
-leaf_used ns s u n h =
+leaf_counts identity uses h = refl
+leaf_counts (letter q c) uses h = refl
+leaf_counts (product a p b q) uses h = absurd h
+
+leaf_of : (x : NodeRecord) → ((a b : Factor) → x ≡ Product a b → ⊥) → IsLeaf (node_said x)
+leaf_of Identity other = tt
+leaf_of (Letter q c) other = tt
+leaf_of (Product a b) other = other a b refl
+
+pub leaf_used : (ns s : List ℕ) (u n : ℕ) {x : NodeRecord} → x ≡ node_record ns n → ((a b : Factor) → x ≡ Product a b → ⊥)
+    → ChildrenUsed ns s u n s
+leaf_used ns s u n {x} here other =
     let uses = row s u uses_row in
-    let same = leaf_of (λ (node : Node). count_children node uses) uses (node_record ns n) h refl (λ q c. refl) in
-    record { only = only_none _ u s; uses = by_if (λ (x : List ℕ). uses ≡ x) _ _ _ refl (sym same) }
+    let same = ap (λ (y : NodeRecord). count_children (node_said y) uses) (sym here) ∙ leaf_counts (node_said x) uses (leaf_of x other) in
+    record { only = only_none _ u s; uses = by_if (λ (y : List ℕ). uses ≡ y) _ _ _ refl (sym same) }
 
 pub unused : (ns s : List ℕ) (u n : ℕ) → get_or (row s u uses_row) n 0 ≡ 0 → ChildrenUsed ns s u n s
 unused ns s u n e = record { only = only_none _ u s; uses = sym (if_true _ _ (eq-eqb (get_or (row s u uses_row) n 0) 0 e)) }
 
-pub first_add : (ns s : List ℕ) (u n : ℕ) → UsePre ns s u n → 2 ≤ (node_record ns n).kind → AddPre s u (node_record ns n).left
-first_add ns s u n pre h = record { long = pre.node.long; node = (pre.node.children h).0; uses = omega (arith, (pre.uses h).0) }
+module _ {ns s : List ℕ} {u n : ℕ} {a b : Factor} (here : Product a b ≡ node_record ns n) where
+  module _ (pre : UsePre ns s u n) where
+    inside : (a.node < u) × (b.node < u)
+    inside = subst (λ (x : NodeRecord). OfChildren (λ i. i < u) (node_said x)) (sym here) pre.node.children
 
-module _ (ns s s₁ : List ℕ) (u n : ℕ) (h : 2 ≤ (node_record ns n).kind) (w : Added s u (node_record ns n).left s₁) where
-  pub second_add : UsePre ns s u n → AddPre s₁ u (node_record ns n).right
-  second_add pre =
-      let a = (node_record ns n).left in
-      let b = (node_record ns n).right in
-      let long : b < length (row s u uses_row) =
-      omega (
-        arith,
-        (pre.node.children h).1,
-        row_length s u row_count uses_row pre.node.long
-            (let z : uses_row < row_count = omega arith in z),
-      ) in
-      record {
-        long = omega (arith, pre.node.long, w.only.long);
-        node = (pre.node.children h).1;
-        uses = rw (w.uses, more_at (row s u uses_row) a b long)
-            (by_if (λ (k : ℕ). get_or (row s u uses_row) b 0 + k < 4294967295) (eqb a b) 1 0 (omega (arith, (pre.uses h).1))
-            (omega (arith, (pre.uses h).1)));
-      }
+    few_uses : (get_or (row s u uses_row) a.node 0 < 4294967294) × (get_or (row s u uses_row) b.node 0 < 4294967294)
+    few_uses =
+        subst (λ (x : NodeRecord). OfChildren (λ m. get_or (row s u uses_row) m 0 < 4294967294) (node_said x)) (sym here) pre.uses
 
-  pub both_used : {t : List ℕ} → (get_or (row s u uses_row) n 0 ≡ 0 → ⊥) → Added s₁ u (node_record ns n).right t → ChildrenUsed ns s u n t
+    pub first_add : AddPre s u a.node
+    first_add = record { long = pre.node.long; node = inside.0; uses = omega (arith, few_uses.0) }
+
+    pub second_add : {s₁ : List ℕ} → Added s u a.node s₁ → AddPre s₁ u b.node
+    second_add w =
+        let long : b.node < length (row s u uses_row) =
+        omega (arith, inside.1, row_length s u row_count uses_row pre.node.long (let z : uses_row < row_count = omega arith in z)) in
+        record {
+          long = omega (arith, pre.node.long, w.only.long);
+          node = inside.1;
+          uses = rw (w.uses, more_at (row s u uses_row) a.node b.node long)
+              (by_if (λ (k : ℕ). get_or (row s u uses_row) b.node 0 + k < 4294967295) (eqb a.node b.node) 1 0
+              (omega (arith, few_uses.1)) (omega (arith, few_uses.1)));
+        }
+
+  pub both_used : {s₁ t : List ℕ} → (get_or (row s u uses_row) n 0 ≡ 0 → ⊥) → Added s u a.node s₁ → Added s₁ u b.node t → ChildrenUsed ns s u n t
   unfolding count_children
-  both_used {t} ne v = record {
+  both_used ne w v = record {
     only = only_then w.only v.only;
-    uses = v.uses ∙ ap (one_use_more (node_record ns n).right) w.uses
+    uses = v.uses ∙ ap (one_use_more b.node) w.uses
         ∙ sym (if_false _ _ (ne_eqb (get_or (row s u uses_row) n 0) 0 ne)
-        ∙ ap (λ (x : Node). count_children x (row s u uses_row)) (product_of (node_record ns n) h));
+        ∙ ap (λ (x : NodeRecord). count_children (node_said x) (row s u uses_row)) (sym here));
   }
 
 -- ---- the counted entries of the row
@@ -131,7 +152,7 @@ module _ (ns s : List ℕ) (u count : ℕ) where
     pub uses_need : UsePre ns x u (n - 1)
     uses_need = record {
       node = node_in_rows pre.nodes (n - 1) below i.only.long;
-      uses = λ b. let under = children_under pre.nodes (n - 1) below b in (few _ under.0, few _ under.1);
+      uses = children_of (n - 1) (node_here ns (n - 1)) (children_here pre.nodes (n - 1) below) few;
     }
 
     module _ (y : List ℕ) (w : ChildrenUsed ns x u (n - 1) y) where

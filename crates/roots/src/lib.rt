@@ -12,6 +12,7 @@ ghost use Rattle.roots.specs.Prepared.{PreparePre, Prepared};
 ghost use Rattle.roots.specs.UseCounts.{AddPre, Added, UsePre, ChildrenUsed, CountPre, UsesCounted};
 
 use layout::{FIRST_ROOT, NEXT_ROOT, NO_AXIS, RELEVANT, ROOT_AXIS, ROOT_SIGN, Shape, USES};
+use records::NodeRecord;
 
 // One use more of a node.
 fn add_use(numbers: &mut [u32], u: usize, node: usize)
@@ -100,15 +101,14 @@ fn use_children(nodes: &[u32], numbers: &mut [u32], u: usize, n: usize)
     requires { UsePre nodes.now numbers.old u n }
     ensures { ChildrenUsed nodes.now numbers.old u n numbers.new }
 {
-    let x = records::node_at(nodes, n);
-    if x.kind < 2 {
+    let NodeRecord::Product { left, right } = records::node_at(nodes, n) else {
         return;
-    }
+    };
     if store::read(&numbers[..], u, USES, n) == 0 {
         return;
     }
-    add_use(numbers, u, x.left as usize);
-    add_use(numbers, u, x.right as usize);
+    add_use(numbers, u, left.node);
+    add_use(numbers, u, right.node);
 }
 
 // One use for each edge out of a used product; users stand after what they use.

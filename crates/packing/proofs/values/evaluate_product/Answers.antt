@@ -1,35 +1,28 @@
 -- Both children's words are within the limit, so the product's place, behind it, meets neither. Assumes nothing.
-use Rattle.records.specs.Records.{product_kind}
 use Rattle.packing.specs.ValueLaws.{stored_pre, phases_small, evaluated_product}
 use native.Mathlib.Omega.{arith}
 use Rattle.packing.proofs.values.evaluate_product.Goals as goal
 
 pub held-a-requires : goal.held-a-requires
-held-a-requires c = c.requires.0.first (product_kind _ c.requires.1)
+held-a-requires c = c.requires.inputs.0.held
 
 pub held-b-requires : goal.held-b-requires
-held-b-requires c = c.requires.0.second (product_kind _ c.requires.1)
+held-b-requires c = c.requires.inputs.1.held
 
 pub product_in-e-requires : goal.product_in-e-requires
-product_in-e-requires c =
-    stored_pre _ _ _ c.requires.0 (product_kind _ c.requires.1) c.held-a.ensures c.held-b.ensures c.scratch_at-at.ensures
+product_in-e-requires c = stored_pre _ _ _ c.requires c.held-a.ensures c.held-b.ensures c.scratch_at-at.ensures
 
 pub overflow_add-result : goal.overflow_add-result
-overflow_add-result c =
-    omega (arith, phases_small _ _ _ c.requires.0 (product_kind _ c.requires.1) c.held-a.ensures c.held-b.ensures c.product_in-e.ensures)
+overflow_add-result c = omega (arith, phases_small _ _ _ c.requires c.held-a.ensures c.held-b.ensures c.product_in-e.ensures)
 
 pub overflow_add-result-2 : goal.overflow_add-result-2
-overflow_add-result-2 c =
-    omega (arith, phases_small _ _ _ c.requires.0 (product_kind _ c.requires.1) c.held-a.ensures c.held-b.ensures c.product_in-e.ensures)
+overflow_add-result-2 c = omega (arith, phases_small _ _ _ c.requires c.held-a.ensures c.held-b.ensures c.product_in-e.ensures)
 
 pub overflow_add-result-3 : goal.overflow_add-result-3
-overflow_add-result-3 c =
-    omega (arith, phases_small _ _ _ c.requires.0 (product_kind _ c.requires.1) c.held-a.ensures c.held-b.ensures c.product_in-e.ensures)
+overflow_add-result-3 c = omega (arith, phases_small _ _ _ c.requires c.held-a.ensures c.held-b.ensures c.product_in-e.ensures)
 
 pub overflow_add-result-4 : goal.overflow_add-result-4
-overflow_add-result-4 c =
-    omega (arith, phases_small _ _ _ c.requires.0 (product_kind _ c.requires.1) c.held-a.ensures c.held-b.ensures c.product_in-e.ensures)
+overflow_add-result-4 c = omega (arith, phases_small _ _ _ c.requires c.held-a.ensures c.held-b.ensures c.product_in-e.ensures)
 
 pub returns : goal.returns
-returns c =
-    evaluated_product _ _ _ c.requires.1.0 c.requires.1.1 c.held-a.ensures c.held-b.ensures c.scratch_at-at.ensures c.product_in-e.ensures
+returns c = evaluated_product _ _ _ c.held-a.ensures c.held-b.ensures c.scratch_at-at.ensures c.product_in-e.ensures

@@ -2,14 +2,14 @@
 use Rattle.packing.specs.ValueLaws.{children_none, first_pre, second_pre, children_both}
 use Rattle.packing.proofs.values.release_children.Goals as goal
 
-pub returns-then-x-lt2 : goal.returns-then-x-lt2
-returns-then-x-lt2 c = children_none c.if-x-lt2.true
+pub returns-in_default : goal.returns-in_default
+returns-in_default c = children_none c.in_default.not-Product
 
 pub release-one-requires : goal.release-one-requires
-release-one-requires c = first_pre c.requires c.if-x-lt2.false
+release-one-requires c = first_pre c.in-Product.is c.requires
 
 pub release-requires : goal.release-requires
-release-requires c = second_pre _ c.requires c.if-x-lt2.false c.release-one.ensures
+release-requires c = second_pre c.in-Product.is _ c.requires c.release-one.ensures
 
 pub returns : goal.returns
-returns c = children_both _ _ c.if-x-lt2.false c.release-one.ensures c.release.ensures
+returns c = children_both c.in-Product.is _ _ c.release-one.ensures c.release.ensures
