@@ -13,8 +13,5 @@ keep_layer-st-requires c = zeros_need _ _ _ _ c.requires c.loop-k-test.true c.lo
 pub loop-k-preserved : goal.loop-k-preserved
 loop-k-preserved c = zeros_turn _ _ _ _ c.requires c.loop-k-test.true c.loop-k.invariant c.keep_layer-st.ensures
 
-pub shape_of-numbers : goal.shape_of-numbers
-shape_of-numbers c = c.loop-k.invariant.only.long
-
 pub returns : goal.returns
 returns c = zeros_end _ _ _ _ c.loop-k-test.false c.loop-k.invariant
