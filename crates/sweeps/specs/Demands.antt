@@ -1,5 +1,5 @@
 -- Sweeps: what their functions demand of the stores and leave in them. Assumes nothing.
-use Rattle.std.specs.Prelude.{◌≡◌, true, false, List, [], ◌∷◌, ◌++◌, ℕ, ◌+◌, ◌-◌, ◌*◌, ◌≤◌, ◌<◌, length}
+use Rattle.std.specs.Prelude.{◌≡◌, true, false, Option, MatchOption, List, [], ◌∷◌, ◌++◌, ℕ, ◌+◌, ◌-◌, ◌*◌, ◌≤◌, ◌<◌, length}
 use Rattle.model.specs.Items.{Rot, drop_zero_rots}
 use Rattle.model.specs.Layering.{move_rotation, move_rotations, sweep, drop_zero_layers, sweeps_from}
 use Rattle.theory.specs.SegmentAxes.{AllHave, LayersHave, ShiftHas}
@@ -8,6 +8,7 @@ use Rattle.layout.specs.Only.{Only}
 use Rattle.layout.specs.Shape.{longest_row}
 use Rattle.axes.specs.declared.Sizes.{Sizes}
 use Rattle.axes.specs.Held.{stored_axes, Stored}
+use Rattle.commuting.specs.Commuting.{commutes_from}
 use Rattle.items.specs.View.{item_rows, tagged_at, rot_at, rots_in}
 use Rattle.layering_states.specs.Sweeping.{after_shift, sweep_step, sweep_on, enough, after_sweep}
 use Rattle.layers.specs.declared.Laid.{Laid}
@@ -21,6 +22,12 @@ abbrev pub size_of : Moving → ℕ
 size_of st = st.laid.len + st.laid.merged + st.stay
 
 -- ---- one rotation
+
+-- the place of a rotation of the sweep, from a place up to an end, that anticommutes with an axis; none, where none does
+abbrev pub Blocked : Sizes → List ℕ → List ℕ → ℕ → ℕ → ℕ → Option ℕ → Type 0
+Blocked z ws s from end axis r =
+    MatchOption r (commutes_from z ws s swept_row end axis from ≡ true)
+    (λ at. (from ≤ at) × (at < end) × (commutes_from z ws s swept_row end axis from ≡ false))
 
 pub record MovePre (z : Sizes) (ws s : List ℕ) (i : ℕ) (st : Moving) : Type 0 where
   pub stored : Stored z ws s

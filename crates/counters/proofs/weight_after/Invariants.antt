@@ -5,6 +5,3 @@ use Rattle.counters.proofs.weight_after.Given as goal
 
 abbrev pub invariant-loop-i : goal.invariant-loop-i
 invariant-loop-i l = (l.i ≤ l.k) × WeightTo l.operations l.words l.numbers l.shape.u l.shape.l l.k l.i l.n
-
-abbrev pub decreases-loop-i : goal.decreases-loop-i
-decreases-loop-i l = l.k - l.i

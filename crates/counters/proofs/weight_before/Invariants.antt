@@ -7,6 +7,3 @@ use Rattle.counters.proofs.weight_before.Given as goal
 abbrev pub invariant-loop-i : goal.invariant-loop-i
 invariant-loop-i l =
     (l.i ≤ l.i-end) × (l.i-end ≡ l.shape.operations) × SourceTo l.operations l.words l.numbers l.shape.u l.shape.l l.shape.operations l.i l.n
-
-abbrev pub decreases-loop-i : goal.decreases-loop-i
-decreases-loop-i l = l.i-end - l.i

@@ -3,9 +3,6 @@ use Rattle.depth.specs.Looking.{reached_short, asks_none, asks_walk}
 use native.Mathlib.Omega.{arith}
 use Rattle.depth.proofs.asks.Goals as goal
 
-pub overflow_sub-v : goal.overflow_sub-v
-overflow_sub-v c = omega (arith, c.requires.1)
-
 pub read_wide-requires : goal.read_wide-requires
 read_wide-requires c = (
   c.requires.0.stored.numbers_long,

@@ -8,9 +8,6 @@ use Rattle.depth.proofs.bound.Goals as goal
 pub loop-rest-init : goal.loop-rest-init
 loop-rest-init c = bits_first c.ranges.sig.fits
 
-pub overflow_cast-rest : goal.overflow_cast-rest
-overflow_cast-rest c = omega (arith, trailing_le 64 c.loop-rest.rest)
-
 pub loop-rest-smaller : goal.loop-rest-smaller
 loop-rest-smaller c = clear_lt _ (omega arith)
 

@@ -11,8 +11,5 @@ turn-st-requires c = depth_need _ _ _ _ c.requires c.loop-i-test.true c.loop-i.i
 pub loop-i-preserved : goal.loop-i-preserved
 loop-i-preserved c = depth_turn _ _ _ _ c.requires c.loop-i-test.true c.loop-i.invariant c.turn-st.ensures
 
-pub shape_of-numbers : goal.shape_of-numbers
-shape_of-numbers c = c.loop-i.invariant.only.long
-
 pub returns : goal.returns
 returns c = depth_end _ _ _ _ c.loop-i-test.false c.loop-i.invariant

@@ -5,6 +5,3 @@ use Rattle.depth.proofs.over_items.Given as goal
 
 abbrev pub invariant-loop-i : goal.invariant-loop-i
 invariant-loop-i l = DepthAt l.z l.words l.initial.numbers l.count l.i l.st l.numbers
-
-abbrev pub decreases-loop-i : goal.decreases-loop-i
-decreases-loop-i l = l.count - l.i

@@ -3,9 +3,6 @@ use Rattle.depth.specs.Lists.{put_last}
 use native.Mathlib.Omega.{arith}
 use Rattle.depth.proofs.put_last.Goals as goal
 
-pub link-requires : goal.link-requires
-link-requires c = c.requires
-
 pub write-requires : goal.write-requires
 write-requires c = (omega (arith, c.requires.begun.long, c.link.ensures.only.long), omega arith, c.requires.here)
 
@@ -16,9 +13,6 @@ write-requires-2 c = (
   omega
       (arith, c.requires.begun.high, c.requires.begun.level),
 )
-
-pub shape_of-numbers : goal.shape_of-numbers
-shape_of-numbers c = omega (arith, c.link.ensures.only.long, c.write.ensures.long, c.write-2.ensures.long)
 
 pub returns : goal.returns
 returns c = put_last c.requires c.link.ensures c.write.ensures c.write-2.ensures

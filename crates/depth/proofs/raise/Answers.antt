@@ -8,9 +8,6 @@ use Rattle.depth.proofs.raise.Goals as goal
 pub loop-rest-init : goal.loop-rest-init
 loop-rest-init c = raise_start c.ranges.sig.fits
 
-pub overflow_cast-rest : goal.overflow_cast-rest
-overflow_cast-rest c = omega (arith, trailing_le 64 c.loop-rest.rest)
-
 pub raise_one-requires : goal.raise_one-requires
 raise_one-requires c = raise_pre c.loop-rest.invariant c.requires
 
@@ -19,9 +16,6 @@ loop-rest-smaller c = clear_lt _ (omega arith)
 
 pub loop-rest-preserved : goal.loop-rest-preserved
 loop-rest-preserved c = raise_turn c.loop-rest.invariant (omega arith) c.raise_one.ensures
-
-pub shape_of-numbers : goal.shape_of-numbers
-shape_of-numbers c = c.loop-rest.invariant.only.long
 
 pub returns : goal.returns
 returns c = raise_end c.loop-rest.invariant (omega arith)

@@ -19,9 +19,6 @@ returns-then-v-st c = rotation_low c.requires c.level.ensures refl c.if-v-st.tru
 pub enter-requires : goal.enter-requires
 enter-requires c = rotation_pre c.requires c.level.ensures refl c.if-v-st.false
 
-pub shape_of-numbers : goal.shape_of-numbers
-shape_of-numbers c = c.enter.ensures.only.long
-
 pub returns : goal.returns
 returns c =
     rotation_put c.requires c.level.ensures refl c.signature_of-sig.ensures c.if-v-st.false c.enter.ensures

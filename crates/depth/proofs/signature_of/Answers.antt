@@ -5,9 +5,6 @@ use Rattle.depth.specs.Turns.{signature_read, signature_made}
 use native.Mathlib.Omega.{arith}
 use Rattle.depth.proofs.signature_of.Goals as goal
 
-pub read_wide-requires : goal.read_wide-requires
-read_wide-requires c = (c.requires.0.numbers_long, omega arith, held_entry c.requires.0 _ c.requires.1)
-
 pub returns-then-z-gt1 : goal.returns-then-z-gt1
 returns-then-z-gt1 c = signature_read c.requires.0 c.requires.1 c.if-z-gt1.true c.read_wide.ensures
 

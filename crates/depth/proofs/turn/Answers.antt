@@ -7,9 +7,6 @@ use Rattle.depth.specs.Turns.{turn_barrier, turn_rotation}
 use native.Mathlib.Omega.{arith}
 use Rattle.depth.proofs.turn.Goals as goal
 
-pub overflow_add-result : goal.overflow_add-result
-overflow_add-result c = omega (arith, c.requires.here, c.requires.short)
-
 pub returns-then-not-is_rotation : goal.returns-then-not-is_rotation
 returns-then-not-is_rotation c = turn_barrier c.requires c.item_at-item.ensures (barrier_tag _ c.is_rotation.ensures c.if-not-is_rotation.true)
 
@@ -20,9 +17,6 @@ rotation-reached-requires c = record {
   angle = ap (λ (x : Tagged). x.angle % 2)
       c.item_at-item.ensures;
 }
-
-pub shape_of-numbers : goal.shape_of-numbers
-shape_of-numbers c = c.rotation-reached.ensures.only.long
 
 pub returns : goal.returns
 returns c = turn_rotation c.requires c.item_at-item.ensures (rotation_tag _ c.is_rotation.ensures c.if-not-is_rotation.false) c.rotation-reached.ensures

@@ -3,17 +3,8 @@ use Rattle.depth.specs.Looking.{walk_start, walk_axes, walk_found, walk_less, wa
 use native.Mathlib.Omega.{arith}
 use Rattle.depth.proofs.walk.Goals as goal
 
-pub overflow_sub-v : goal.overflow_sub-v
-overflow_sub-v c = omega (arith, c.requires.high)
-
-pub read-p-requires : goal.read-p-requires
-read-p-requires c = (c.requires.stored.numbers_long, omega arith, omega (arith, c.requires.high, c.requires.level))
-
 pub loop-p-init : goal.loop-p-init
 loop-p-init c = walk_start c.requires c.read-p.ensures
-
-pub axis_at-other-requires : goal.axis_at-other-requires
-axis_at-other-requires c = record { long = c.requires.stored.numbers_long; rows = omega arith; here = c.loop-p-test.true }
 
 pub anticommute-requires : goal.anticommute-requires
 anticommute-requires c = walk_axes c.requires c.loop-p-test.true c.loop-p.invariant c.axis_at-other.ensures
@@ -22,9 +13,6 @@ pub returns-then-anticommute : goal.returns-then-anticommute
 returns-then-anticommute c =
     walk_found c.requires c.loop-p-test.true c.loop-p.invariant c.axis_at-other.ensures c.anticommute.ensures
     c.if-anticommute.true
-
-pub read-p-requires-in-loop-p : goal.read-p-requires-in-loop-p
-read-p-requires-in-loop-p c = (c.requires.stored.numbers_long, omega arith, c.loop-p-test.true)
 
 pub loop-p-smaller : goal.loop-p-smaller
 loop-p-smaller c =

@@ -15,8 +15,5 @@ keep_at-k-requires c =
 pub loop-i-preserved : goal.loop-i-preserved
 loop-i-preserved c = (omega arith, dropped_more c.requires c.loop-i.invariant.1 (omega arith) refl c.keep_at-k.ensures)
 
-pub shape_of-numbers : goal.shape_of-numbers
-shape_of-numbers c = c.loop-i.invariant.1.only.long
-
 pub returns : goal.returns
 returns c = dropped_all c.requires (omega arith) c.loop-i.invariant.1

@@ -5,6 +5,3 @@ use Rattle.item_lists.proofs.drop_zeros.Given as goal
 
 abbrev pub invariant-loop-i : goal.invariant-loop-i
 invariant-loop-i l = (l.i ≤ l.n) × DroppedTo l.initial.numbers l.u l.c l.d l.i l.k l.numbers
-
-abbrev pub decreases-loop-i : goal.decreases-loop-i
-decreases-loop-i l = l.n - l.i

@@ -7,11 +7,6 @@ use Rattle.item_lists.proofs.t_count.Goals as goal
 pub loop-i-init : goal.loop-i-init
 loop-i-init c = (omega arith, omega arith, sum_none _ _ _ _ _ _ _)
 
-pub odd_at-k-requires : goal.odd_at-k-requires
-odd_at-k-requires c =
-    let p = c.requires in
-    record { long = p.long; rows = p.rows; here = let f = p.fits in omega arith }
-
 pub overflow_add-k : goal.overflow_add-k
 overflow_add-k c = let z = odd_small _ c.odd_at-k.ensures in omega arith
 

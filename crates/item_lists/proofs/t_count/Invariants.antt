@@ -7,6 +7,3 @@ use Rattle.item_lists.proofs.t_count.Given as goal
 
 abbrev pub invariant-loop-i : goal.invariant-loop-i
 invariant-loop-i l = (l.k ≤ l.i) × (l.from ≤ l.i) × SumTo item_said (λ (x : Item). angle_of x % 2) l.numbers l.u l.b l.end l.from l.i l.k
-
-abbrev pub decreases-loop-i : goal.decreases-loop-i
-decreases-loop-i l = l.end - l.i

@@ -10,11 +10,6 @@ use Rattle.item_lists.proofs.t_count_rots.Goals as goal
 pub loop-i-init : goal.loop-i-init
 loop-i-init c = (omega arith, omega arith, sum_none _ _ _ _ _ _ _)
 
-pub angle_at-requires : goal.angle_at-requires
-angle_at-requires c =
-    let p = c.requires in
-    record { long = p.long; rows = p.rows; here = let f = p.fits in omega arith }
-
 pub loop-i-preserved : goal.loop-i-preserved
 unfolding rot_said
 loop-i-preserved c = (omega arith, omega arith, sum_more _ _ _ _ _ _ _ _ _ _ (omega arith) (ap (λ (y : ℕ). y % 2) c.angle_at.ensures) c.loop-i.invariant.2)

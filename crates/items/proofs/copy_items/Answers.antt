@@ -14,8 +14,5 @@ copy_item-requires c =
 pub loop-i-preserved : goal.loop-i-preserved
 loop-i-preserved c = (omega arith, copy_more c.requires c.loop-i.invariant.1 (omega arith) c.copy_item.ensures)
 
-pub shape_of-numbers : goal.shape_of-numbers
-shape_of-numbers c = c.loop-i.invariant.1.only.long
-
 pub returns : goal.returns
 returns c = copy_all c.requires (omega arith) c.loop-i.invariant.1

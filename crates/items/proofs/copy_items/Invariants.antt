@@ -5,6 +5,3 @@ use Rattle.items.proofs.copy_items.Given as goal
 
 abbrev pub invariant-loop-i : goal.invariant-loop-i
 invariant-loop-i l = (l.i ≤ l.n) × ItemsCopied l.initial.numbers l.u l.c l.from l.d l.to l.i l.numbers
-
-abbrev pub decreases-loop-i : goal.decreases-loop-i
-decreases-loop-i l = l.n - l.i

@@ -9,9 +9,6 @@ loop-st-init c = pass_start _ _ _ _
 pub segment-st-requires : goal.segment-st-requires
 segment-st-requires c = pass_need _ _ _ _ c.requires c.loop-st.invariant c.loop-st-test.true
 
-pub loop-st-smaller : goal.loop-st-smaller
-loop-st-smaller c = omega (arith, c.segment-st.ensures.further, c.loop-st-test.true)
-
 pub loop-st-preserved : goal.loop-st-preserved
 loop-st-preserved c = pass_turn _ _ _ _ c.requires c.loop-st.invariant c.segment-st.ensures
 

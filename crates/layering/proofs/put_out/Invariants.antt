@@ -5,6 +5,3 @@ use Rattle.layering.proofs.put_out.Given as goal
 
 abbrev pub invariant-loop-i : goal.invariant-loop-i
 invariant-loop-i l = OutTo l.u l.initial.numbers l.n l.out l.i l.numbers
-
-abbrev pub decreases-loop-i : goal.decreases-loop-i
-decreases-loop-i l = l.n - l.i

@@ -14,8 +14,5 @@ join_item-st-requires c = joined_need _ _ _ _ _ c.requires c.loop-i-test.true c.
 pub loop-i-preserved : goal.loop-i-preserved
 loop-i-preserved c = joined_turn _ _ _ _ _ c.requires c.loop-i-test.true c.loop-i.invariant c.join_item-st.ensures
 
-pub shape_of-numbers : goal.shape_of-numbers
-shape_of-numbers c = c.loop-i.invariant.only.long
-
 pub returns : goal.returns
 returns c = joined_end _ _ _ _ _ c.loop-i-test.false c.loop-i.invariant

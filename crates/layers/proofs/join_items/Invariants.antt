@@ -5,6 +5,3 @@ use Rattle.layers.proofs.join_items.Given as goal
 
 abbrev pub invariant-loop-i : goal.invariant-loop-i
 invariant-loop-i l = JoinedTo l.z l.words l.initial.numbers l.from l.end l.i l.st l.numbers
-
-abbrev pub decreases-loop-i : goal.decreases-loop-i
-decreases-loop-i l = l.end - l.i

@@ -5,6 +5,3 @@ use Rattle.results.proofs.write_operations.Given as goal
 
 abbrev pub invariant-loop-i : goal.invariant-loop-i
 invariant-loop-i l = (l.i ≤ l.k) × OperationsLaid l.operations l.numbers l.u l.i l.initial.to l.to
-
-abbrev pub decreases-loop-i : goal.decreases-loop-i
-decreases-loop-i l = l.k - l.i

@@ -6,6 +6,3 @@ use Rattle.results.proofs.write_rows.Given as goal
 
 abbrev pub invariant-loop-i : goal.invariant-loop-i
 invariant-loop-i l = (l.i ≤ l.i-end) × (l.i-end ≡ 2 * l.shape.qubits) × RowsLaid l.changed l.shape l.numbers l.i l.initial.to l.to
-
-abbrev pub decreases-loop-i : goal.decreases-loop-i
-decreases-loop-i l = l.i-end - l.i

@@ -7,6 +7,3 @@ use Rattle.start.proofs.build_items.Given as goal
 abbrev pub invariant-loop-i : goal.invariant-loop-i
 invariant-loop-i l =
     (l.i ≤ l.i-end) × (l.i-end ≡ l.shape.operations) × ItemsBuilt l.shape l.axes l.operations l.words l.initial.numbers l.i l.k l.numbers
-
-abbrev pub decreases-loop-i : goal.decreases-loop-i
-decreases-loop-i l = l.i-end - l.i

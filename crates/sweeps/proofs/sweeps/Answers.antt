@@ -14,8 +14,5 @@ loop-s-smaller c = sweeps_less _ _ _ _ c.loop-s-test.true c.loop-s.invariant c.s
 pub loop-s-preserved : goal.loop-s-preserved
 loop-s-preserved c = sweeps_again _ _ _ _ c.loop-s-test.true c.loop-s.invariant c.sweep_once-s.ensures
 
-pub shape_of-numbers : goal.shape_of-numbers
-shape_of-numbers c = c.loop-s.invariant.only.long
-
 pub returns : goal.returns
 returns c = sweeps_last _ _ _ _ c.loop-s-test.false c.loop-s.invariant

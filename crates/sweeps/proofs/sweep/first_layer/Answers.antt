@@ -6,4 +6,6 @@ pub copy_items-requires : goal.copy_items-requires
 copy_items-requires c = first_copy _ _ c.args.merged c.requires c.begin_of-end.ensures
 
 pub returns : goal.returns
-returns c = first_laid _ _ _ c.requires c.begin_of-end.ensures c.copy_items.ensures
+returns c =
+    let none = c.default.ensures in
+    rw (none.0, none.1.0) (first_laid _ _ _ c.requires c.begin_of-end.ensures c.copy_items.ensures)

@@ -9,8 +9,5 @@ close-closed-requires c = lay_close _ _ _ c.requires
 pub copy_items-requires : goal.copy_items-requires
 copy_items-requires c = lay_copy _ _ _ c.requires c.close-closed.ensures
 
-pub overflow_add-laid : goal.overflow_add-laid
-overflow_add-laid c = omega (arith, lay_fits _ _ _ c.requires c.close-closed.ensures, c.requires.short)
-
 pub returns : goal.returns
 returns c = lay_laid _ _ _ c.requires c.close-closed.ensures c.copy_items.ensures

@@ -11,8 +11,5 @@ move_rotation-s-requires c = moved_need _ _ _ _ _ _ c.requires c.loop-i-test.tru
 pub loop-i-preserved : goal.loop-i-preserved
 loop-i-preserved c = moved_turn _ _ _ _ _ _ c.requires c.loop-i-test.true c.loop-i.invariant c.move_rotation-s.ensures
 
-pub shape_of-numbers : goal.shape_of-numbers
-shape_of-numbers c = c.loop-i.invariant.only.long
-
 pub returns : goal.returns
 returns c = moved_end _ _ _ _ _ _ c.loop-i-test.false c.loop-i.invariant

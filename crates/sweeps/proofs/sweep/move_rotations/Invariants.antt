@@ -5,6 +5,3 @@ use Rattle.sweeps.proofs.sweep.move_rotations.Given as goal
 
 abbrev pub invariant-loop-i : goal.invariant-loop-i
 invariant-loop-i l = MovedTo l.z l.words l.initial.numbers l.initial.s l.from l.end l.i l.s l.numbers
-
-abbrev pub decreases-loop-i : goal.decreases-loop-i
-decreases-loop-i l = l.end - l.i

@@ -3,12 +3,6 @@ use Rattle.sweeps.specs.Sweeping.{layer_moves, layer_lay, layer_swept}
 use native.Mathlib.Omega.{arith}
 use Rattle.sweeps.proofs.sweep.sweep_layer.Goals as goal
 
-pub begin_of-from-requires : goal.begin_of-from-requires
-begin_of-from-requires c = record { long = c.requires.stored.numbers_long; row = omega arith; here = omega (arith, c.requires.layer) }
-
-pub begin_of-end-requires : goal.begin_of-end-requires
-begin_of-end-requires c = record { long = c.requires.stored.numbers_long; row = omega arith; here = omega (arith, c.requires.layer) }
-
 pub move_rotations-s-requires : goal.move_rotations-s-requires
 move_rotations-s-requires c = layer_moves _ _ _ _ _ c.requires c.begin_of-from.ensures c.begin_of-end.ensures
 

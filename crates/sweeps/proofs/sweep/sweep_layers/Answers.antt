@@ -11,8 +11,5 @@ sweep_layer-s-requires c = swept_need _ _ _ _ _ c.requires c.loop-k-test.true c.
 pub loop-k-preserved : goal.loop-k-preserved
 loop-k-preserved c = swept_turn _ _ _ _ _ c.requires c.loop-k-test.true c.loop-k.invariant c.sweep_layer-s.ensures
 
-pub shape_of-numbers : goal.shape_of-numbers
-shape_of-numbers c = c.loop-k.invariant.only.long
-
 pub returns : goal.returns
 returns c = swept_end_lem _ _ _ _ _ c.loop-k-test.false c.loop-k.invariant

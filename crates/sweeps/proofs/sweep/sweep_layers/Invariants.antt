@@ -5,6 +5,3 @@ use Rattle.sweeps.proofs.sweep.sweep_layers.Given as goal
 
 abbrev pub invariant-loop-k : goal.invariant-loop-k
 invariant-loop-k l = SweptTo l.z l.words l.initial.numbers l.initial.s l.count l.k l.s l.numbers
-
-abbrev pub decreases-loop-k : goal.decreases-loop-k
-decreases-loop-k l = l.count - l.k

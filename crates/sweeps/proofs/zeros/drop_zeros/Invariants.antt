@@ -5,6 +5,3 @@ use Rattle.sweeps.proofs.zeros.drop_zeros.Given as goal
 
 abbrev pub invariant-loop-k : goal.invariant-loop-k
 invariant-loop-k l = ZerosTo l.u l.initial.numbers l.count l.merged l.k l.st l.numbers
-
-abbrev pub decreases-loop-k : goal.decreases-loop-k
-decreases-loop-k l = l.count - l.k

@@ -3,17 +3,8 @@ use Rattle.sweeps.specs.Zeros.{keep_need, layer_left, layer_close, layer_stays}
 use native.Mathlib.Omega.{arith}
 use Rattle.sweeps.proofs.zeros.keep_layer.Goals as goal
 
-pub begin_of-from-requires : goal.begin_of-from-requires
-begin_of-from-requires c = record { long = c.requires.long; row = omega arith; here = omega (arith, c.requires.layer) }
-
-pub begin_of-end-requires : goal.begin_of-end-requires
-begin_of-end-requires c = record { long = c.requires.long; row = omega arith; here = omega (arith, c.requires.layer) }
-
 pub keep_rotations-len-requires : goal.keep_rotations-len-requires
 keep_rotations-len-requires c = keep_need _ _ _ _ c.requires c.begin_of-from.ensures c.begin_of-end.ensures
-
-pub shape_of-numbers-then-len-st : goal.shape_of-numbers-then-len-st
-shape_of-numbers-then-len-st c = c.keep_rotations-len.ensures.only.long
 
 pub returns-then-len-st : goal.returns-then-len-st
 returns-then-len-st c =

@@ -11,8 +11,5 @@ keep_rotation-len-requires c = kept_need _ _ _ _ _ c.requires c.loop-i-test.true
 pub loop-i-preserved : goal.loop-i-preserved
 loop-i-preserved c = kept_turn _ _ _ _ _ c.requires c.loop-i-test.true c.loop-i.invariant c.keep_rotation-len.ensures
 
-pub shape_of-numbers : goal.shape_of-numbers
-shape_of-numbers c = c.loop-i.invariant.only.long
-
 pub returns : goal.returns
 returns c = kept_end _ _ _ _ _ c.loop-i-test.false c.loop-i.invariant

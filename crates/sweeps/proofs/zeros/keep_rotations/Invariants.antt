@@ -5,6 +5,3 @@ use Rattle.sweeps.proofs.zeros.keep_rotations.Given as goal
 
 abbrev pub invariant-loop-i : goal.invariant-loop-i
 invariant-loop-i l = KeptTo l.u l.initial.numbers l.from l.end l.to l.i l.len l.numbers
-
-abbrev pub decreases-loop-i : goal.decreases-loop-i
-decreases-loop-i l = l.end - l.i
