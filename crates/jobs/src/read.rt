@@ -11,12 +11,10 @@ pub fn past_blanks(s: &[u8], from: usize) -> usize
     requires { from ≤ length s.now }
     ensures { (from ≤ result) × (result ≤ length s.now) }
 {
-    for i in from..s.len() {
-        if b' ' < s[i] {
-            return i;
-        }
+    match s[from..].iter().position(|b| b' ' < *b) {
+        Some(n) => from + n,
+        None => s.len(),
     }
-    s.len()
 }
 
 // The place of the first blank from a place on.
@@ -24,12 +22,10 @@ fn at_blank(s: &[u8], from: usize) -> usize
     requires { from ≤ length s.now }
     ensures { (from ≤ result) × (result ≤ length s.now) }
 {
-    for i in from..s.len() {
-        if s[i] <= b' ' {
-            return i;
-        }
+    match s[from..].iter().position(|b| *b <= b' ') {
+        Some(n) => from + n,
+        None => s.len(),
     }
-    s.len()
 }
 
 // A number with one digit more; a byte that is no digit counts as 0.
@@ -37,47 +33,28 @@ fn with_digit(v: u32, c: u8) -> u32 {
     if 99999999 < v {
         return v;
     }
-    if c < b'0' {
+    if !c.is_ascii_digit() {
         return v * 10;
     }
-    if b'9' < c {
-        return v * 10;
-    }
-    v * 10 + (c - b'0') as u32
+    v * 10 + u32::from(c - b'0')
 }
 
 // The number that a text between blanks says.
 fn value(s: &[u8]) -> u32 {
-    if s.len() == 0 {
-        return 0;
+    match s {
+        [b'-', ..] => NONE,
+        _ => s.iter().fold(0, |v, c| with_digit(v, *c)),
     }
-    if s[0] == b'-' {
-        return NONE;
-    }
-    let mut v: u32 = 0;
-    for i in 0..s.len() {
-        v = with_digit(v, s[i]);
-    }
-    v
 }
 
 // A number, and the place behind it.
-#[derive(Clone, Copy)]
-struct Got {
-    v: u32,
-    next: usize,
-}
-
-fn number(s: &[u8], from: usize) -> Got
+fn number(s: &[u8], from: usize) -> (u32, usize)
     requires { from ≤ length s.now }
-    ensures { result.next ≤ length s.now }
+    ensures { result.1 ≤ length s.now }
 {
     let a = past_blanks(s, from);
     let e = at_blank(s, a);
-    Got {
-        v: value(&s[a..e]),
-        next: e,
-    }
+    (value(&s[a..e]), e)
 }
 
 // Reads so many numbers; the place behind them.
@@ -86,10 +63,10 @@ pub fn numbers(s: &[u8], from: usize, count: usize, to: &mut [u32]) -> usize
     ensures { result ≤ length s.now }
 {
     let mut at = from;
-    for i in 0..count {
-        let g = number(s, at);
-        to[i] = g.v;
-        at = g.next;
+    for x in &mut to[..count] {
+        let (v, next) = number(s, at);
+        *x = v;
+        at = next;
     }
     at
 }
@@ -100,12 +77,12 @@ pub fn pass_over(s: &[u8], from: usize, count: usize) -> usize
     ensures { result ≤ length s.now }
 {
     let mut at = from;
-    for i in 0..count {
+    for _ in 0..count {
         if at == s.len() {
             return at;
         }
-        let g = number(s, at);
-        at = g.next;
+        let (_, next) = number(s, at);
+        at = next;
     }
     at
 }
@@ -172,21 +149,19 @@ pub fn counts(h: Header) -> Counts {
 }
 
 fn strategy(v: u32) -> Strategy {
-    if v == 0 {
-        return Strategy::Merge;
+    match v {
+        0 => Strategy::Merge,
+        _ => Strategy::Litinski,
     }
-    Strategy::Litinski
 }
 
 // The lazy setting: 0 off, 1 on; else the place of a named operation, plus 2.
 fn lazy(v: u32) -> Lazy {
-    if v == 0 {
-        return Lazy::Off;
+    match v {
+        0 => Lazy::Off,
+        1 => Lazy::On,
+        _ => Lazy::From(v as usize - 2),
     }
-    if v == 1 {
-        return Lazy::On;
-    }
-    Lazy::From(v as usize - 2)
 }
 
 pub fn options(h: Header) -> Options {

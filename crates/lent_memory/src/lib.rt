@@ -2,18 +2,20 @@
 // printed is held to a kept file. See oracle/README.md, "Memory".
 #![tactic(auto)]
 
-mod numbers;
+mod number;
 mod out;
-mod words;
+mod slices;
 
+pub use number::Number;
+pub use slices::{fill as fill_slice, unchanged_to};
 use std::io;
 
 // Each place holds a number that no run stores.
 pub fn fill(w: &mut [u64], m: &mut [u32], result_operations: &mut [u32], result_rows: &mut [u32]) {
-    words::fill(w);
-    numbers::fill(m);
-    numbers::fill(result_operations);
-    numbers::fill(result_rows);
+    slices::fill(w);
+    slices::fill(m);
+    slices::fill(result_operations);
+    slices::fill(result_rows);
 }
 
 // A line for each slice.
@@ -25,11 +27,11 @@ pub fn print(
     result_rows: &[u32],
 ) -> io::Result<()> {
     rt.print("words")?;
-    words::print(rt, w)?;
+    slices::print(rt, w)?;
     rt.print("numbers")?;
-    numbers::print(rt, m)?;
+    slices::print(rt, m)?;
     rt.print("operations")?;
-    numbers::print(rt, result_operations)?;
+    slices::print(rt, result_operations)?;
     rt.print("rows")?;
-    numbers::print(rt, result_rows)
+    slices::print(rt, result_rows)
 }

@@ -1,4 +1,5 @@
 // What is printed of places that hold the same.
+use crate::number::Number;
 use std::io;
 
 // How often a number comes, where that is more than once.
@@ -16,7 +17,7 @@ pub fn unchanged(rt: &impl Print, count: usize) -> io::Result<()> {
 }
 
 // A number that so many places hold.
-pub fn repeated(rt: &impl Print, v: u64, count: usize) -> io::Result<()> {
+pub fn repeated<T: Number>(rt: &impl Print, v: T, count: usize) -> io::Result<()> {
     print!(rt; " {v}")?;
     times(rt, count)
 }

@@ -106,7 +106,7 @@ pub fn listing(
     let mut operations = [0u32; 768];
     let mut rows = [0u32; 512];
     let t = listing_read::read(text, &mut nodes, &mut operations, &mut rows);
-    let Text::Job { counts, limit } = t else {
+    let Ok(Text { counts, limit }) = t else {
         return refused(output, Refusal::BadText);
     };
     run(

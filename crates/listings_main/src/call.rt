@@ -23,7 +23,7 @@ fn list(
 ) -> Listed
     ensures { result.size ≤ length out.new }
 {
-    output::fill(out);
+    lent_memory::fill_slice(out);
     lent_memory::fill(words, numbers, operations, rows);
     listing::listing(text, out, words, numbers, operations, rows)
 }
@@ -56,11 +56,11 @@ fn lend(
     operations: &mut [u32],
     rows: &mut [u32],
 ) -> io::Result<()> {
-    let b = jobs::least(h.output, out.len());
-    let w = jobs::least(h.words, words.len());
-    let n = jobs::least(h.numbers, numbers.len());
-    let o = jobs::least(h.operations, operations.len());
-    let r = jobs::least(h.rows, rows.len());
+    let b = h.output.min(out.len());
+    let w = h.words.min(words.len());
+    let n = h.numbers.min(numbers.len());
+    let o = h.operations.min(operations.len());
+    let r = h.rows.min(rows.len());
     call(
         rt,
         text,

@@ -25,11 +25,7 @@ fn bytes_to(from: usize, count: usize, end: usize) -> usize
     requires { from ≤ end }
     ensures { (from ≤ result) × (result ≤ end) }
 {
-    from + jobs::least(count, end - from)
-}
-
-fn wide(x: u32) -> usize {
-    x as usize
+    from + count.min(end - from)
 }
 
 pub fn read(input: &[u8], at: usize) -> Header
@@ -40,11 +36,11 @@ pub fn read(input: &[u8], at: usize) -> Header
     let from = behind_newline(jobs::numbers(input, at, 6, &mut v), input.len());
     Header {
         from,
-        to: bytes_to(from, wide(v[0]), input.len()),
-        output: wide(v[1]),
-        words: wide(v[2]),
-        numbers: wide(v[3]),
-        operations: wide(v[4]),
-        rows: wide(v[5]),
+        to: bytes_to(from, v[0] as usize, input.len()),
+        output: v[1] as usize,
+        words: v[2] as usize,
+        numbers: v[3] as usize,
+        operations: v[4] as usize,
+        rows: v[5] as usize,
     }
 }

@@ -2,8 +2,8 @@
 ghost use Rattle.std.specs.Prelude.{◌<◌, ◌≤◌, length, IfOk};
 ghost use Rattle.jobs.specs.Within.{Within, room_of};
 
-use crate::{numbers, out};
-use jobs::{Job, Room};
+use crate::out;
+use jobs::{Lent, Room, Stores};
 use model::{Counts, Options};
 use std::io;
 
@@ -39,33 +39,37 @@ fn call(
 // A job that is read, in the memory that it is lent.
 fn lend(
     rt: &impl Print,
-    j: Job,
+    c: Counts,
+    o: Options,
+    l: Lent,
     records: &[u32],
     words: &mut [u64],
     numbers: &mut [u32],
     result_operations: &mut [u32],
     result_rows: &mut [u32],
 ) -> io::Result<()>
-    requires { Within j.lent (room_of (length records.now) (length words.old) (length numbers.old)
+    requires { Within l (room_of (length records.now) (length words.old) (length numbers.old)
         (length result_operations.old) (length result_rows.old)) }
 {
-    let l = j.lent;
-    let w = l.words;
-    let m = l.numbers;
-    let o = l.result_operations;
-    let r = l.result_rows;
+    let s = l.stores;
     call(
         rt,
-        j.counts,
-        j.options,
+        c,
+        o,
         jobs::part(records, 0, l.nodes),
         jobs::part(records, l.operations_from, l.operations),
         jobs::part(records, l.rows_from, l.rows),
-        &mut words[..w],
-        &mut numbers[..m],
-        &mut result_operations[..o],
-        &mut result_rows[..r],
+        &mut words[..s.words],
+        &mut numbers[..s.numbers],
+        &mut result_operations[..s.result_operations],
+        &mut result_rows[..s.result_rows],
     )
+}
+
+// Copies as much as there is room for.
+fn keep(from: &[u32], to: &mut [u32]) {
+    let n = from.len().min(to.len());
+    to[..n].copy_from_slice(&from[..n]);
 }
 
 // Reads the job at a place of the input, runs it, and prints what comes of it; the place of the next job.
@@ -85,20 +89,24 @@ pub fn run(
 {
     let room = Room {
         records: records.len(),
-        words: words.len(),
-        numbers: numbers.len(),
-        result_operations: result_operations.len(),
-        result_rows: result_rows.len(),
+        stores: Stores {
+            words: words.len(),
+            numbers: numbers.len(),
+            result_operations: result_operations.len(),
+            result_rows: result_rows.len(),
+        },
     };
     let j = jobs::read_job(input, at, records, room);
-    if !j.has_room {
+    let Some(lent) = j.lent else {
         out::no_room(rt)?;
         return Ok(j.next);
-    }
-    numbers::copy(&records[..], kept);
+    };
+    keep(&records[..], kept);
     lend(
         rt,
-        j,
+        j.counts,
+        j.options,
+        lent,
         &records[..],
         words,
         numbers,

@@ -3,7 +3,6 @@
 
 mod job;
 mod memory;
-mod numbers;
 mod out;
 
 use std::io;

@@ -1,5 +1,4 @@
 // What is printed of a job.
-use crate::numbers;
 use model::{Counters, Refusal};
 use optimize::Rewritten;
 use std::io;
@@ -55,7 +54,7 @@ pub fn no_room(rt: &impl Print) -> io::Result<()> {
 
 // Whether the program is what it was; the end of a job.
 pub fn program(rt: &impl Print, records: &[u32], kept: &[u32]) -> io::Result<()> {
-    if numbers::equal(records, kept) {
+    if records == kept {
         return rt.println("program =\nend");
     }
     rt.println("program changed\nend")

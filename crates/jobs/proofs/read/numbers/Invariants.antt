@@ -2,5 +2,5 @@
 use Rattle.std.proofs.Common.{◌≤◌, length}
 use Rattle.jobs.proofs.read.numbers.Given as goal
 
-abbrev pub invariant-loop-i : goal.invariant-loop-i
-invariant-loop-i l = l.at ≤ length l.s
+abbrev pub invariant-loop-x : goal.invariant-loop-x
+invariant-loop-x l = l.at ≤ length l.s

@@ -2,5 +2,5 @@
 use Rattle.std.proofs.Common.{◌≤◌, length}
 use Rattle.jobs.proofs.read.pass_over.Given as goal
 
-abbrev pub invariant-loop-i : goal.invariant-loop-i
-invariant-loop-i l = l.at ≤ length l.s
+abbrev pub invariant-loop : goal.invariant-loop
+invariant-loop l = l.at ≤ length l.s

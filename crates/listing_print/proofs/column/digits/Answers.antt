@@ -1,5 +1,7 @@
 -- The loop's invariant: the digits behind byte i stand, and with what is left in front of it they give the whole. Assumes nothing.
-use lib.ListN.{length-set}
+use mathlib.Core.Path.{◌≡◌, sym, ap, ◌∙◌}
+use Prim.Native.Nat.{ℕ}
+use lib.ListN.{length-set, drop}
 use Rattle.listing_print.specs.Columns.{digits_first, digits_more, digits_last, digits_end}
 use native.Mathlib.Omega.{arith}
 use Rattle.listing_print.proofs.column.digits.Goals as goal
@@ -25,4 +27,11 @@ loop-i-preserved c = (
 )
 
 pub returns : goal.returns
-returns c = let i = c.loop-i.invariant in record { from = omega arith; long = i.1; digits = digits_end _ _ _ (omega arith) i.2 }
+returns c =
+    let i = c.loop-i.invariant in
+    let front : c.loop-i.i ≡ 0 = omega arith in
+    record {
+      from = omega arith;
+      long = i.1;
+      digits = ap (λ (k : ℕ). drop k c.loop-i.d) (sym front) ∙ digits_end _ _ _ (omega arith) i.2;
+    }

@@ -9,6 +9,3 @@ use Rattle.listing_print.proofs.column.digits.Given as goal
 
 abbrev pub invariant-loop-i : goal.invariant-loop-i
 invariant-loop-i l = (l.i ≤ columns) × (length l.d ≡ columns) × (decimal columns l.v [] ≡ unfinished l.i l.left l.d)
-
-abbrev pub decreases-loop-i : goal.decreases-loop-i
-decreases-loop-i l = l.i

@@ -7,10 +7,10 @@ use Rattle.listing_print.proofs.lines.operation.Goals as goal
 
 pub line-requires : goal.line-requires
 line-requires c =
-    room_as _ (ap line_of (operation_fields _ c.requires.0 c.wide.ensures c.wide-2.ensures c.wide-3.ensures
-    c.wide-4.ensures c.outcome.ensures c.outcome-2.ensures)) c.requires.1
+    room_as _ (ap line_of (operation_fields _ c.requires.0 c.from.ensures c.from-2.ensures c.from-3.ensures
+    c.from-4.ensures c.outcome.ensures c.outcome-2.ensures)) c.requires.1
 
 pub returns : goal.returns
 returns c =
-    printed_as (ap line_of (operation_fields _ c.requires.0 c.wide.ensures c.wide-2.ensures c.wide-3.ensures
-    c.wide-4.ensures c.outcome.ensures c.outcome-2.ensures)) c.line.ensures
+    printed_as (ap line_of (operation_fields _ c.requires.0 c.from.ensures c.from-2.ensures c.from-3.ensures
+    c.from-4.ensures c.outcome.ensures c.outcome-2.ensures)) c.line.ensures

@@ -8,11 +8,11 @@ use Rattle.listing_print.proofs.lines.row.Goals as goal
 pub line-requires : goal.line-requires
 line-requires c =
     room_as _
-    (ap line_of (row_fields _ c.requires.0 c.wide.ensures c.wide-2.ensures c.wide-3.ensures c.wide-4.ensures))
+    (ap line_of (row_fields _ c.requires.0 c.from.ensures c.from-2.ensures c.from-3.ensures c.from-4.ensures))
     c.requires.1
 
 pub returns : goal.returns
 returns c =
     printed_as
-    (ap line_of (row_fields _ c.requires.0 c.wide.ensures c.wide-2.ensures c.wide-3.ensures c.wide-4.ensures))
+    (ap line_of (row_fields _ c.requires.0 c.from.ensures c.from-2.ensures c.from-3.ensures c.from-4.ensures))
     c.line.ensures

@@ -6,7 +6,7 @@ use Rattle.std.specs.Io.KnownBytes.{Consumes}
 use Rattle.std.proofs.KnownBytes.{Consumes-trans}
 use borrow.Rule.Slice.PartMut.{put_mid, post_of}
 use lib.Seq.{take-add, take-append-le}
-use Rattle.tzap_list.proofs.input.read.Goals as goal
+use Rattle.reading.proofs.read_full.Goals as goal
 
 take_split : (a b : ℕ) (old new : List ℕ) → a ≤ b → take a new ≡ take a old → take a old ++ slice_range new a b ≡ take b new
 take_split a b old new h front =
@@ -25,11 +25,11 @@ loop-n-preserved g c =
     let from = c.loop-n.n in
     let room = length c.loop-n.to - from in
     let within = c.loop-n.invariant.0 in
-    let read = c.in-Bytes.ensures in
-    let part = slice_range-put_mid from room c.in-Bytes.more c.loop-n.to c.read_some-some.new.to within read.bound in
+    let read = c.in_ok-more.ensures in
+    let part = slice_range-put_mid from room c.in_ok-more.more c.loop-n.to c.read.new.buf within read.bound.0 in
     let front = take-put_mid_below _ _ _ _ _ (le_refl _) within in
-    let joined = take_split from (from + c.in-Bytes.more) c.loop-n.to (put_mid from room c.loop-n.to c.read_some-some.new.to) (omega arith) front in (
+    let joined = take_split from (from + c.in_ok-more.more) c.loop-n.to (put_mid from room c.loop-n.to c.read.new.buf) (omega arith) front in (
       search rules,
       subst (Consumes _ _) (ap (λ l. take from c.loop-n.to ++ l) (sym part) ∙ joined)
-          (Consumes-trans _ _ _ _ _ c.loop-n.invariant.1 read.bytes),
+          (Consumes-trans _ _ _ _ _ c.loop-n.invariant.1 read.bytes.0),
     )

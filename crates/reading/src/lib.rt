@@ -1,4 +1,6 @@
-// A reader, as standard input, read whole.
+// A reader, as standard input, read to its end, or as far as there is room.
+#![tactic(auto)]
+
 ghost use Rattle.std.specs.Prelude.{◌<◌, ◌≤◌, length, take, IfOk};
 ghost use Rattle.std.specs.Io.KnownBytes.{Consumes, IsAtEnd};
 
