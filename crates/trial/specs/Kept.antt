@@ -1,6 +1,6 @@
 -- Answers of the certificate, kept by place in row KEPT: 0 is that it was not asked for. Assumes nothing.
-use Rattle.std.specs.Prelude.{◌≡◌, refl, Bool, true, false, ◌≢◌, List, [], ◌∷◌, ℕ, ◌-◌, ◌≤◌, ◌<◌, get_or}
-use Rattle.std.proofs.Common.{sym, ap, ◌∙◌, arith}
+use Rattle.std.specs.Prelude.{◌≡◌, refl, Bool, true, false, ◌≢◌, List, [], ◌∷◌, ℕ, ◌-◌, ◌≤◌, ◌<◌, get_or, Option, Some, None, unwrap_or, if◌then◌else◌, ◌==◌}
+use Rattle.std.proofs.Common.{sym, ap, ◌∙◌, arith, ne_eqb}
 use Rattle.std.proofs.Math.Decide.{ℕ_discrete}
 use Rattle.store.specs.Row.{row, Written}
 use Rattle.model.specs.Lists.{any_of, member}
@@ -15,18 +15,15 @@ use Rattle.certificate.specs.Groups.{GroupsPre, group_in}
 use Rattle.trial.specs.Plain.{exchange_rows}
 use Rattle.trial.specs.Trying.{items_same}
 
--- 1 for yes, 2 for no
-unfoldable pub kept_number : Bool → ℕ
-kept_number true = 1
-kept_number false = 2
+-- 0 for none, 1 for yes, 2 for no
+abbrev pub kept_number : Option Bool → ℕ
+kept_number None = 0
+kept_number (Some true) = 1
+kept_number (Some false) = 2
 
-pub number_yes : {b : Bool} → b ≡ true → 1 ≡ kept_number b
-unfolding kept_number
-number_yes e = sym (ap kept_number e)
-
-pub number_no : {b : Bool} → b ≡ false → 2 ≡ kept_number b
-unfolding kept_number
-number_no e = sym (ap kept_number e)
+-- what a number stands for
+abbrev pub kept_answer : ℕ → Option Bool
+kept_answer k = if k == 1 then Some true else (if k == 2 then Some false else None)
 
 -- what is kept at a place
 abbrev pub kept_at : Sizes → List ℕ → ℕ → ℕ
@@ -37,10 +34,24 @@ pub record Says (k : ℕ) (b : Bool) : Type 0 where
   pub yes : k ≡ 1 → b ≡ true
   pub no : k ≡ 2 → b ≡ false
 
-says_number : (b : Bool) → Says (kept_number b) b
-unfolding kept_number
+says_number : (b : Bool) → Says (kept_number (Some b)) b
 says_number true = record { yes = λ e. refl; no = λ e. absurd (omega arith) }
 says_number false = record { yes = λ e. absurd (omega arith); no = λ e. refl }
+
+-- the answer that a number stands for
+says_answer : {k : ℕ} {a b : Bool} → kept_answer k ≡ Some a → Says k b → a ≡ b
+says_answer {k} {a} {b} e s = go (ℕ_discrete k 1) (ℕ_discrete k 2)
+  where
+    same : {c : Bool} → Some c ≡ Some a → c ≡ a
+    same d = ap (λ (o : Option Bool). unwrap_or o false) d
+
+    some_not : {c : Bool} → Some c ≡ None → ⊥
+    some_not d = cc
+
+    go : Dec (k ≡ 1) → Dec (k ≡ 2) → a ≡ b
+    go (yes d) n = sym (same (rw d at e)) ∙ sym (s.yes d)
+    go (no m) (yes d) = sym (same (rw d at e)) ∙ sym (s.no d)
+    go (no m) (no n) = absurd (some_not (sym (rw (ne_eqb k 1 m, ne_eqb k 2 n) at e)))
 
 -- it was not asked for
 pub says_none : {k : ℕ} (b : Bool) → k ≡ 0 → Says k b
@@ -75,14 +86,12 @@ module _ {z : Sizes} {ws xs : List ℕ} {left right : Group} {place : ℕ} (h : 
   kept_same : {r : Bool} → r ≡ commute_in z ws xs left right → AnswerKept z ws xs left right place r xs
   kept_same e = record { answer = e; one = record { own = h.kept; others = λ i n. refl }; only = only_none _ _ _ }
 
-  pub kept_yes : {k : ℕ} → k ≡ kept_at z xs place → k ≡ 1 → AnswerKept z ws xs left right place true xs
-  kept_yes e d = kept_same (sym (h.kept.yes (sym e ∙ d)))
-
-  pub kept_no : {k : ℕ} → k ≡ kept_at z xs place → k ≡ 2 → AnswerKept z ws xs left right place false xs
-  kept_no e d = kept_same (sym (h.kept.no (sym e ∙ d)))
+  pub kept_told : {k : ℕ} {r : Option Bool} {a : Bool} → k ≡ kept_at z xs place → r ≡ kept_answer k → r ≡ Some a
+      → AnswerKept z ws xs left right place a xs
+  kept_told e d f = kept_same (says_answer (sym (d ∙ ap kept_answer e) ∙ f) h.kept)
 
   -- the answer is written
-  pub kept_new : {r : Bool} {v : ℕ} {ys : List ℕ} → r ≡ commute_in z ws xs left right → v ≡ kept_number r
+  pub kept_new : {r : Bool} {v : ℕ} {ys : List ℕ} → r ≡ commute_in z ws xs left right → v ≡ kept_number (Some r)
       → Written xs z.u kept_row place v ys → AnswerKept z ws xs left right place r ys
   kept_new {r} {v} {ys} e d w =
       let long = h.groups.stores.held.numbers_long in

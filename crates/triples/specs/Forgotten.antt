@@ -7,7 +7,7 @@ use Rattle.layout.specs.Rows.{row_count, kept_row, written_row, entry_own, entry
 use Rattle.layout.specs.Only.{Only, only_none, only_then, only_written}
 use Rattle.axes.specs.declared.Sizes.{Sizes}
 use Rattle.trial.specs.Kept.{says_none}
-use Rattle.triples.specs.declared.Runs.{Runs}
+use Rattle.trial.specs.declared.ThreeGroups.{ThreeGroups}
 use Rattle.triples.specs.Pairs.{RunsPre, RunsKept}
 
 -- places from `from` up to e of a row
@@ -52,7 +52,7 @@ forgotten_all f h = record { none_kept = λ j a b. f.none_kept j a (omega arith)
 
 -- ---- three runs
 
-module _ {z : Sizes} {ws xs : List ℕ} {r : Runs} (h : RunsPre z ws xs r) where
+module _ {z : Sizes} {ws xs : List ℕ} {r : ThreeGroups} (h : RunsPre z ws xs r) where
   pub runs_forget : ForgetPre xs z.u r.first r.end
   runs_forget =
       let a = h.first_order in

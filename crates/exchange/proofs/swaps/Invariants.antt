@@ -5,9 +5,9 @@ use lib.ListN.{length}
 use Rattle.exchange.specs.Swaps.{SwapsAt}
 use Rattle.exchange.proofs.swaps.Given as goal
 
-abbrev pub invariant-loop-start : goal.invariant-loop-start
-invariant-loop-start l =
-    (length l.numbers ≡ length l.initial.numbers) × SwapsAt l.z l.rules l.words l.initial.numbers l.initial.st l.end l.st l.start l.numbers
+abbrev pub invariant-loop-at : goal.invariant-loop-at
+invariant-loop-at l =
+    (length l.numbers ≡ length l.initial.numbers) × SwapsAt l.z l.rules l.words l.initial.numbers l.initial.at.progress l.end l.at.progress l.at.start l.numbers
 
-abbrev pub decreases-loop-start : goal.decreases-loop-start
-decreases-loop-start l = l.end - l.start
+abbrev pub decreases-loop-at : goal.decreases-loop-at
+decreases-loop-at l = l.end - l.at.start

@@ -18,33 +18,33 @@ run_end-third-requires c =
 pub returns-then-third-end : goal.returns-then-third-end
 returns-then-third-end c = stop_second c.requires c.run_end-second.ensures c.run_end-third.ensures c.if-third-end.true
 
-pub run_end-third_end-requires : goal.run_end-third_end-requires
-run_end-third_end-requires c =
+pub run_end-requires : goal.run_end-requires
+run_end-requires c =
     run_pre c.requires _ (let a = c.run_end-second.ensures.after in let b = c.run_end-third.ensures.after in omega arith)
     (let a = c.run_end-third.ensures.within in omega (arith, c.if-third-end.false))
 
-pub try_triple-t-requires : goal.try_triple-t-requires
-try_triple-t-requires c =
-    runs_pre c.requires c.run_end-second.ensures c.run_end-third.ensures c.run_end-third_end.ensures
+pub try_triple-requires : goal.try_triple-requires
+try_triple-requires c =
+    runs_pre c.requires c.run_end-second.ensures c.run_end-third.ensures c.run_end.ensures
     c.if-second-end.false c.if-third-end.false
 
 pub replace-requires : goal.replace-requires
 replace-requires c =
-    replace_pre c.requires c.run_end-second.ensures c.run_end-third.ensures c.run_end-third_end.ensures
-    c.if-second-end.false c.if-third-end.false c.try_triple-t.ensures c.in-Better.is
+    replace_pre c.requires c.run_end-second.ensures c.run_end-third.ensures c.run_end.ensures
+    c.if-second-end.false c.if-third-end.false c.try_triple.ensures c.in-Some.is
 
-pub shape_of-numbers-in-Nothing : goal.shape_of-numbers-in-Nothing
-shape_of-numbers-in-Nothing c = c.try_triple-t.ensures.only.long
+pub shape_of-numbers-in_default : goal.shape_of-numbers-in_default
+shape_of-numbers-in_default c = c.try_triple.ensures.only.long
 
-pub returns-in-Nothing : goal.returns-in-Nothing
-returns-in-Nothing c =
-    goes_none c.requires c.run_end-second.ensures c.run_end-third.ensures c.run_end-third_end.ensures
-    c.if-second-end.false c.if-third-end.false c.try_triple-t.ensures c.in-Nothing.is
+pub returns-in_default : goal.returns-in_default
+returns-in_default c =
+    goes_none c.requires c.run_end-second.ensures c.run_end-third.ensures c.run_end.ensures
+    c.if-second-end.false c.if-third-end.false c.try_triple.ensures c.in_default.is
 
-pub shape_of-numbers-in-Better : goal.shape_of-numbers-in-Better
-shape_of-numbers-in-Better c = c.replace.ensures.only.long ∙ c.try_triple-t.ensures.only.long
+pub shape_of-numbers : goal.shape_of-numbers
+shape_of-numbers c = c.replace.ensures.only.long ∙ c.try_triple.ensures.only.long
 
-pub returns-in-Better : goal.returns-in-Better
-returns-in-Better c =
-    goes_swap c.requires c.run_end-second.ensures c.run_end-third.ensures c.run_end-third_end.ensures
-    c.if-second-end.false c.if-third-end.false c.try_triple-t.ensures c.in-Better.is c.replace.ensures
+pub returns : goal.returns
+returns c =
+    goes_swap c.requires c.run_end-second.ensures c.run_end-third.ensures c.run_end.ensures
+    c.if-second-end.false c.if-third-end.false c.try_triple.ensures c.in-Some.is c.replace.ensures

@@ -1,23 +1,13 @@
--- The loop's invariant: what is left decides. Assumes nothing.
-use mathlib.Core.Path.{refl, sym, ◌∙◌}
-use Rattle.trial.specs.Sharing.{axis_is, axis_here, axis_later, axis_none}
-use Rattle.trial.specs.Plain.{run_entry}
+-- An item about the axis, found in turn. Assumes nothing.
+use Rattle.std.proofs.Common.{refl, sym, ◌∙◌, rules, tests}
+use Rattle.layout.specs.Rows.{items_row}
+use Rattle.certificate.specs.Ranges.{any_over}
+use Rattle.trial.specs.Sharing.{axis_here, axis_from, axis_is, axis_turn, axis_none}
 use Rattle.trial.proofs.has_axis.Goals as goal
 
-pub item_at-y-requires : goal.item_at-y-requires
-item_at-y-requires c = run_entry c.requires _ c.loop-j-test.true
-
-pub returns-then-useful-axis : goal.returns-then-useful-axis
-returns-then-useful-axis c =
-    sym (axis_is _ _ _ _ _ _ _ ∙ c.loop-j.invariant
-    ∙ axis_here _ _ _ _ _ _ _ c.loop-j-test.true _ c.item_at-y.ensures c.useful.ensures refl
-    c.if-useful-axis.true)
-
-pub loop-j-preserved : goal.loop-j-preserved
-loop-j-preserved c =
-    c.loop-j.invariant
-    ∙ axis_later _ _ _ _ _ _ _ c.loop-j-test.true _ c.item_at-y.ensures c.useful.ensures refl
-    c.if-useful-axis.false
-
 pub returns : goal.returns
-returns c = sym (axis_is _ _ _ _ _ _ _ ∙ c.loop-j.invariant ∙ axis_none _ _ _ _ _ _ _ c.loop-j-test.false)
+returns c =
+    let a = c.args in
+    any_over _ _ _ (axis_here a.numbers.now a.u items_row a.eager a.axis) (λ j. axis_from a.numbers.now a.u items_row a.eager a.axis j a.e)
+    c.any.ensures.ran (λ x b q k. search (rules, tests)) (λ j low. axis_turn _ _ _ _ _ _ _ low) (λ j over. axis_none _ _ _ _ _ _ _ over)
+    ∙ sym (axis_is _ _ _ _ _ _ _)

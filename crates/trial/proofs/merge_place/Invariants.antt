@@ -1,13 +1,9 @@
 -- The loop's invariant: the place is sought among the rotations before j. Assumes nothing.
 use mathlib.Core.Path.{◌≡◌}
-use Prim.Native.Nat.{◌≤◌}
 use Rattle.axes.specs.Held.{stored_axes}
 use Rattle.trial.specs.Plain.{found_from}
 use Rattle.trial.proofs.merge_place.Given as goal
 
 abbrev pub invariant-loop-j : goal.invariant-loop-j
 invariant-loop-j l =
-    (l.j ≤ l.i) × (found_from l.z.l (stored_axes l.z l.words) l.numbers l.z.u l.i l.i ≡ found_from l.z.l (stored_axes l.z l.words) l.numbers l.z.u l.i l.j)
-
-abbrev pub decreases-loop-j : goal.decreases-loop-j
-decreases-loop-j l = l.j
+    found_from l.z.l (stored_axes l.z l.words) l.numbers l.z.u l.i l.i ≡ found_from l.z.l (stored_axes l.z l.words) l.numbers l.z.u l.i l.j

@@ -1,20 +1,16 @@
--- The loop's invariant: what is left decides. Assumes nothing.
-use mathlib.Core.Path.{sym, ◌∙◌}
-use native.Mathlib.Omega.{arith}
-use Rattle.trial.specs.Sharing.{shared_is, shared_here, shared_later, shared_none}
+-- A rotation of the first group that has its partner in the third, found in turn. Assumes nothing.
+use Rattle.std.proofs.Common.{sym, ◌∙◌, rules, tests}
+use Rattle.layout.specs.Rows.{items_row}
+use Rattle.items.specs.View.{rot_at, rots_to}
+use Rattle.certificate.specs.Ranges.{any_over}
+use Rattle.trial.specs.Sharing.{partnered, shared_from, shared_is, shared_turn, shared_none}
 use Rattle.trial.proofs.shares_axis.Goals as goal
 
-pub is_partnered-requires : goal.is_partnered-requires
-is_partnered-requires c = (c.requires.1, (let f = c.requires.0.fits in omega arith))
-
-pub returns-then-is_partnered : goal.returns-then-is_partnered
-returns-then-is_partnered c =
-    sym
-    (shared_is _ _ _ _ _ _ _ ∙ c.loop-i.invariant ∙ shared_here _ _ _ _ _ _ _ c.loop-i-test.true
-    c.is_partnered.ensures c.if-is_partnered.true)
-
-pub loop-i-preserved : goal.loop-i-preserved
-loop-i-preserved c = c.loop-i.invariant ∙ shared_later _ _ _ _ _ _ _ c.loop-i-test.true c.is_partnered.ensures c.if-is_partnered.false
-
 pub returns : goal.returns
-returns c = sym (shared_is _ _ _ _ _ _ _ ∙ c.loop-i.invariant ∙ shared_none _ _ _ _ _ _ _ c.loop-i-test.false)
+returns c =
+    let a = c.args in
+    let others = rots_to a.numbers.now a.u items_row a.t.third a.t.end in
+    any_over _ _ _ (λ i. partnered a.eager others (rot_at a.numbers.now a.u items_row i))
+    (λ i. shared_from a.numbers.now a.u items_row a.eager others i a.t.second)
+    c.any.ensures.ran (λ x b q k. search (rules, tests)) (λ i low. shared_turn _ _ _ _ _ _ _ low) (λ i over. shared_none _ _ _ _ _ _ _ over)
+    ∙ sym (shared_is _ _ _ _ _ _ _)

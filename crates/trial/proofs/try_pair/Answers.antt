@@ -1,5 +1,5 @@
 -- The exchange that is tried first, or the other. Assumes nothing.
-use mathlib.Core.Path.{◌∙◌}
+use Rattle.std.proofs.Common.{sym, ◌∙◌}
 use Rattle.trial.specs.Laying.{runs_pre, exchange_pre}
 use Rattle.trial.proofs.Pairs.{pair_kept, pair_none, pair_one, pair_other}
 use Rattle.trial.proofs.try_pair.Goals as goal
@@ -18,19 +18,13 @@ try_exchange-requires c =
     rw c.exchange_of-other.ensures
     (exchange_pre (pair_kept c.requires _ (rw c.exchange_of-one.ensures at c.try_exchange-tried.ensures)) _)
 
-pub shape_of-numbers-in-Better : goal.shape_of-numbers-in-Better
-shape_of-numbers-in-Better c = c.try_exchange-tried.ensures.tried.only.long
-
-pub returns-in-Better : goal.returns-in-Better
-returns-in-Better c =
+pub returns-then-is_some : goal.returns-then-is_some
+returns-then-is_some c =
     pair_one c.requires _ c.shares_axis.ensures c.if-not-shares_axis.false
-    (rw c.exchange_of-one.ensures at c.try_exchange-tried.ensures) c.in-Better.is
+    (rw c.exchange_of-one.ensures at c.try_exchange-tried.ensures) (sym c.is_some.ensures ∙ c.if-is_some.true)
 
-pub shape_of-numbers-in-Nothing : goal.shape_of-numbers-in-Nothing
-shape_of-numbers-in-Nothing c = c.try_exchange.ensures.tried.only.long ∙ c.try_exchange-tried.ensures.tried.only.long
-
-pub returns-in-Nothing : goal.returns-in-Nothing
-returns-in-Nothing c =
+pub returns : goal.returns
+returns c =
     pair_other c.requires _ c.shares_axis.ensures c.if-not-shares_axis.false
-    (rw c.exchange_of-one.ensures at c.try_exchange-tried.ensures) c.in-Nothing.is
+    (rw c.exchange_of-one.ensures at c.try_exchange-tried.ensures) (sym c.is_some.ensures ∙ c.if-is_some.false)
     (rw c.exchange_of-other.ensures at c.try_exchange.ensures)

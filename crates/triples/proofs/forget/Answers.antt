@@ -15,8 +15,7 @@ loop-i-preserved c = (
   omega arith,
   omega arith,
   c.write.ensures.long ∙ c.loop-i.invariant.2,
-  forgotten_more c.requires c.loop-i.invariant.3
-      c.loop-i-test.true c.write.ensures,
+  forgotten_more c.requires c.loop-i.invariant.3 c.loop-i-test.true (rw c.kept_number-none.ensures at c.write.ensures),
 )
 
 pub shape_of-numbers : goal.shape_of-numbers

@@ -1,36 +1,19 @@
--- The loop's invariant: those up to e are taken. Assumes nothing.
-use mathlib.Core.Path.{sym, ◌∙◌}
-use native.Mathlib.Omega.{arith}
-use Rattle.triples.specs.Runs.{items_part, run_begins, run_joins, run_stops, run_ends}
+-- The first item that does not join. Assumes nothing.
+use Rattle.std.proofs.Common.{◌≡◌, true, false, suc, arith, rules, tests}
+use Rattle.std.proofs.lemmas.Iterator.{first_from_Range, serves_from_Range}
+use Rattle.triples.specs.Runs.{item_joins, items_part, run_found}
 use Rattle.triples.proofs.run_end.Goals as goal
 
-pub loop-e-init : goal.loop-e-init
-loop-e-init c = (omega arith, (let h = c.requires.1 in omega arith), run_begins _ _ _ _ _ _ c.requires.1 c.requires.2)
-
-pub joins-requires : goal.joins-requires
-joins-requires c = (items_part _ _ (omega arith) c.loop-e-test.true c.requires.0, omega arith)
-
-pub returns-then-not-joins : goal.returns-then-not-joins
-returns-then-not-joins c = record {
-  cut = c.loop-e.invariant.2
-      ∙ run_stops _ _ _ _ _ _ _ (omega arith) c.loop-e-test.true
-      (sym c.joins.ensures ∙ c.if-not-joins.true);
-  after = c.loop-e.invariant.0;
-  within = c.loop-e.invariant.1;
-}
-
-pub loop-e-preserved : goal.loop-e-preserved
-loop-e-preserved c = (
-  omega arith,
-  omega arith,
-  c.loop-e.invariant.2
-      ∙ run_joins _ _ _ _ _ _ _ (omega arith) c.loop-e-test.true
-      (sym c.joins.ensures ∙ c.if-not-joins.false),
-)
+pub find-requires-clause-callable : goal.find-requires-clause-callable
+find-requires-clause-callable c =
+    serves_from_Range (λ x q k. search (rules, tests))
+    (λ x low high. search (rules, items_part c.args.start (suc x) (omega arith) high c.requires.0))
 
 pub returns : goal.returns
-returns c = record {
-  cut = c.loop-e.invariant.2 ∙ run_ends _ _ _ _ _ _ _ c.loop-e-test.false;
-  after = c.loop-e.invariant.0;
-  within = c.loop-e.invariant.1;
-}
+returns c =
+    let a = c.args in
+    rw c.unwrap_or.ensures
+    (run_found _ _ _ _ _ _ c.requires.1 c.requires.2 _
+    (first_from_Range _ _ _ _ (λ e. item_joins a.z a.window a.words.now a.numbers.now a.start a.end e ≡ false)
+    (λ e. item_joins a.z a.window a.words.now a.numbers.now a.start a.end e ≡ true) c.find.ensures.ran
+    (λ x q k. search (rules, tests)) (λ x q k. search (rules, tests))))
