@@ -14,7 +14,7 @@ ghost use Rattle.stream_states.specs.States.{SomePass, LeftS, SteppedAs, RulesAs
 ghost use Rattle.stream_items.specs.Waiting.{picked_by, PicksPre, TurnAt, TurnedAs};
 ghost use Rattle.stream_items.specs.WaitingList.{ListedAt, WaitAt, waited_all};
 ghost use Rattle.stream_items.specs.Items.{BlockingAt, unblocked, UnblockAt, RotationAt, AllAt, BarrierAt, barrier_put};
-ghost use Rattle.stream_items.specs.Behind.{named_item, begins_at, rules_then, state_then};
+ghost use Rattle.stream_items.specs.Behind.{named_item, begins_at};
 ghost use Rattle.stream_items.specs.Loop.{ItemAt, StreamAt, SomeStream, StreamedAs};
 
 use axes::Sizes;
@@ -262,29 +262,6 @@ fn begins(rules: StreamRules, x: Tagged) -> bool
     rules.is_at_once() && is_named(rules, x)
 }
 
-// The rules behind an item, where even rotations may begin to wait.
-fn rules_behind(rules: StreamRules, begin: bool) -> StreamRules
-    ensures { result ≡ rules_then begin rules }
-{
-    if !begin {
-        return rules;
-    }
-    StreamRules {
-        absorption: Absorption::Lazy,
-        ..rules
-    }
-}
-
-// The state behind an item: where even rotations begin to wait, none is named yet.
-fn state_behind(st: State, begin: bool) -> State
-    ensures { result ≡ state_then begin st }
-{
-    if !begin {
-        return st;
-    }
-    State { waiting: 0, ..st }
-}
-
 // All of the items, one after the other, and then all that still wait.
 pub fn stream_items(
     words: &mut [u64],
@@ -304,10 +281,12 @@ pub fn stream_items(
     let mut present = rules;
     for i in 0..items {
         let x = items::item_at(&numbers[..], shape.u, ITEMS, i);
-        let s = stream_item(words, numbers, shape, present, st, x)?;
-        let begin = begins(present, x);
-        st = state_behind(s, begin);
-        present = rules_behind(present, begin);
+        st = stream_item(words, numbers, shape, present, st, x)?;
+        // Where even rotations begin to wait, none is named yet.
+        if begins(present, x) {
+            st.waiting = 0;
+            present.absorption = Absorption::Lazy;
+        }
     }
     absorb_all(words, numbers, shape, present, st)
 }
