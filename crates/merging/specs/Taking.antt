@@ -1,6 +1,6 @@
 -- A carried rotation: absorbed at once, merged where `last` names a place that it reaches, or put out. Assumes nothing.
-use Rattle.std.specs.Prelude.{◌≡◌, ◌⊎◌, Bool, true, false, not, ◌&&◌, ℕ, zero, suc, ◌+◌, ◌-◌, ◌*◌, ◌%◌, ◌≤◌, ◌<◌, ltb, Option, Some, None, Result, Ok, Err}
-use Rattle.core.specs.Bool.{then_some}
+use Rattle.std.specs.Prelude.{◌≡◌, ◌⊎◌, Bool, true, false, not, ◌&&◌, ℕ, suc, ◌+◌, ◌-◌, ◌*◌, ◌%◌, ◌≤◌, ◌<◌, ltb, Option, Some, None, Result, Ok, Err}
+use Rattle.std.specs.Bool.{then_some}
 use Rattle.std.proofs.Math.Path.{refl, ap, ap₂}
 use Rattle.std.proofs.Common.{sym, ◌∙◌, subst, inl, inr, arith, lt-ltb, le-ltb, ltb-true, ltb-false, eq-eqb, ne_eqb}
 use Rattle.std.proofs.lemmas.Bool.{false≢true, eqb-false}
@@ -506,7 +506,7 @@ module _ {z : Shape} {c : StreamRules} {g : Rules} (rules : RulesAs c g) {st : S
               × (reaches (sizes_of z st.axes) c.lookback st.out j id ws xs ≡ false))
               → take_rotation z.l g c.merge p id k ≡ put_out_rotation p id k
           go (inl d) = take_nowhere d
-          go (inr d) = take_far d.1.0 d.1.1 refl
+          go (inr d) = take_far d.1 d.2 refl
 
       pub take_there : {j : ℕ} → r ≡ Some j → take_rotation z.l g c.merge p id k
           ≡ merge_at z.l g.absorption (count_merge p) j id ((angle_at p.out j + k) % 8)

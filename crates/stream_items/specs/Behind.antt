@@ -1,7 +1,7 @@
 -- 02, M-112: the rules and the state behind an item: behind the named barrier even rotations begin to wait. Assumes nothing.
 use Rattle.std.specs.Prelude.{◌≡◌, refl, Bool, false, ◌&&◌, List, [], ◌∷◌, ℕ, ◌-◌, eqb, get_or}
 use Rattle.std.proofs.Math.Path.{sym, ap, ap₂, subst}
-use Rattle.std.proofs.Common.{◌∙◌, true≢false, arith}
+use Rattle.std.proofs.Common.{◌∙◌, ◌⊎◌, inl, inr, true≢false, arith}
 use Rattle.std.proofs.Math.Bool.{true}
 use Rattle.model.specs.Lists.{when◌then◌else◌}
 use Rattle.model.specs.declared.Lazy.{Lazy}
@@ -50,6 +50,13 @@ rules_then begin c = record {
 unfoldable pub state_then : Bool → State → State
 state_then begin st = when begin then with_waiting 0 st else st
 
+-- no item is, where the setting names none
+pub named_unset : {setting : Lazy} (i : Item) → (setting ≡ Off) ⊎ (setting ≡ On) → false ≡ named_item setting i
+unfolding named_item
+named_unset (rotation t) e = refl
+named_unset (barrier o a s) (inl e) = ap (λ (x : Lazy). names x o) (sym e)
+named_unset (barrier o a s) (inr e) = ap (λ (x : Lazy). names x o) (sym e)
+
 -- whether x is named, by the setting
 module _ (setting : Lazy) (x : Tagged) where
   pub named_rotation : x.tag ≡ 0 → false ≡ named_item setting (item_said x)
@@ -60,12 +67,6 @@ module _ (setting : Lazy) (x : Tagged) where
     by_setting : {s : Lazy} → setting ≡ s → names s (x.tag - 1) ≡ named_item setting (item_said x)
     unfolding named_item
     by_setting e = ap₂ named_item (sym e) (sym (said_other x n))
-
-    pub named_off : setting ≡ Off → false ≡ named_item setting (item_said x)
-    named_off e = by_setting e
-
-    pub named_on : setting ≡ On → false ≡ named_item setting (item_said x)
-    named_on e = by_setting e
 
     pub named_from : {place : ℕ} → setting ≡ From place → eqb (x.tag - 1) place ≡ named_item setting (item_said x)
     named_from e = by_setting e

@@ -1,5 +1,5 @@
 -- One item of a stream: a rotation, behind those that wait and block it, or a barrier, behind all that wait. Assumes nothing.
-use Rattle.std.specs.Prelude.{◌≡◌, Bool, true, false, ℕ, ◌+◌, ◌-◌, ◌*◌, ◌%◌, ◌≤◌, ◌<◌, length, get_or, Result, Ok, Err}
+use Rattle.std.specs.Prelude.{◌≡◌, Bool, true, false, ℕ, ◌+◌, ◌-◌, ◌*◌, ◌%◌, ◌≤◌, ◌<◌, length, get_or, Result, Ok, Err, Some, None}
 use Rattle.std.proofs.Math.Path.{refl, sym, ap, subst}
 use Rattle.std.proofs.Common.{ap₂, ◌∙◌, true≢false, lt_of_lt_of_le, arith}
 use mathlib.Core.List.{List, [], ◌∷◌, ◌++◌}
@@ -41,6 +41,7 @@ use Rattle.stream_states.specs.Known.{axes_count, out_few}
 use Rattle.stream_states.specs.Carrying.{carried_same, CarryPass, CarryLeft, carry_left, carry_refused, carried_at, carried_id, carried_in}
 use Rattle.stream_states.specs.Carrying.{carried_turns}
 use Rattle.merging.specs.Carried.{CarryingAt}
+use Rattle.merging.specs.LookedUp.{none_told}
 use Rattle.stream_items.specs.Waiting.{picked_by}
 use Rattle.stream_items.specs.WaitingList.{WaitAt, waited_all}
 
@@ -62,7 +63,7 @@ its_word l p a = id_word _ (axis_image l p a).word (id_in l _ p.store (axis_imag
 
 -- the picks, by the image's id
 blocking_is : (l : ℕ) (p : Pass) (a id : ℕ) → a < length p.store.axes → id ≡ image_id l (carry_axis l p a) a
-    → absorb_blocking l p a ≡ absorb_waiting l (picked_by false l (carry_axis l p a).store.axes id) (carry_axis l p a) 0 (carry_axis l p a).out
+    → absorb_blocking l p a ≡ absorb_waiting l (picked_by (Some id) l (carry_axis l p a).store.axes) (carry_axis l p a) 0 (carry_axis l p a).out
 unfolding absorb_blocking picked_by anticommute
 blocking_is l p a id h e =
     ap (λ (w : List ℕ). absorb_waiting l (λ b. anticommutes l (word_of (carry_axis l p a).store.axes b) w) (carry_axis l p a) 0
@@ -81,15 +82,15 @@ module _ {z : Shape} {st : State} {a : ℕ} {ws xs : List ℕ} {r : Result State
     out_same : s.out ≡ st.out
     out_same = ap (λ (x : State). x.out) (carried_same h.carry call e)
 
-    pub wait_there : WaitAt z s false s.id ws' xs' n (carry_axis z.l p a)
+    pub wait_there : WaitAt z s (Some s.id) ws' xs' n (carry_axis z.l p a)
     wait_there = record {
       at = carried_at h.carry call e;
-      id_in = λ f. carried_in h.carry call e;
+      id_in = λ i f. let g : s.id ≡ i = cc in omega (arith, g, carried_in h.carry call e);
       few = omega (arith, absorbed_same, out_same, h.few);
     }
 
     pub blocked_as : {q : Result State ExpansionLimit} {ws'' xs'' : List ℕ}
-        → SteppedAs z lazy 0 s.out s q ws'' xs'' (waited_all z false s.id (carry_axis z.l p a))
+        → SteppedAs z lazy 0 s.out s q ws'' xs'' (waited_all z (Some s.id) (carry_axis z.l p a))
         → SteppedAs z lazy 0 st.out st q ws'' xs'' (absorb_blocking z.l p a)
     blocked_as {q} {ws''} {xs''} t =
         let f = ap (λ (x : State). x.merges) (carried_same h.carry call e) in
@@ -261,14 +262,14 @@ module _ {z : Shape} {c : StreamRules} {st : State} {ws xs : List ℕ} {m : Abso
     is_lazy_lem : m ≡ lazy
     is_lazy_lem = h.mode ∙ lazy_only c.absorption e
 
-    pub all_there : WaitAt z st true 0 ws xs n p
+    pub all_there : WaitAt z st None ws xs n p
     all_there = record {
       at = subst (λ (x : Absorption). PassAt z x n st ws xs p) is_lazy_lem h.at;
-      id_in = λ g. absurd (true≢false g);
+      id_in = λ i g. none_told i g;
       few = h.few;
     }
 
-    pub all_as : {r : Result State ExpansionLimit} {ws' xs' : List ℕ} → SteppedAs z lazy 0 st.out st r ws' xs' (waited_all z true 0 p)
+    pub all_as : {r : Result State ExpansionLimit} {ws' xs' : List ℕ} → SteppedAs z lazy 0 st.out st r ws' xs' (waited_all z None p)
         → SteppedAs z m 0 st.out st r ws' xs' (absorb_all_waiting z.l m p)
     unfolding absorb_all_waiting picked_by
     all_as {r} {ws'} {xs'} s =

@@ -1,7 +1,7 @@
 -- Lazy: what is done at one place of the list of waiting places. Assumes nothing.
-use Rattle.std.specs.Prelude.{◌≡◌, ◌⊎◌, Bool, true, not, ◌&&◌, ℕ, ◌+◌, ◌*◌, ◌≤◌, ◌<◌, length, None, Result, Ok}
+use Rattle.std.specs.Prelude.{◌≡◌, ◌⊎◌, Bool, true, not, ◌&&◌, ℕ, ◌+◌, ◌*◌, ◌≤◌, ◌<◌, length, None, Result, Ok, Option, Some}
 use Rattle.std.proofs.Math.Path.{refl, ap}
-use Rattle.std.proofs.Common.{sym, ap₂, ◌∙◌, subst, inr, arith, get_or-set_same, ne_eqb}
+use Rattle.std.proofs.Common.{sym, ap₂, ◌∙◌, subst, inr, arith, get_or-set_same, eqb, eq-eqb, ne_eqb}
 use Rattle.std.proofs.Math.Logic.{inl}
 use Rattle.std.proofs.Math.Bool.{false}
 use Rattle.std.proofs.lemmas.Bool.{false≢true}
@@ -55,6 +55,12 @@ waits_even x e n =
     same true = refl
     same false = refl
 
+-- where it is not both a rotation and by something
+pub waits_none : {t : Bool} (x : Tagged) → t ≡ not (eqb x.angle 0) → x.tag ≡ 0 → ((x.tag ≡ 0) × (x.angle ≡ 0)) ⊎ (x.tag ≡ 0 → ⊥)
+    → t ≡ is_waiting (item_said x)
+waits_none x e f (inl k) = e ∙ ap not (eq-eqb x.angle 0 k.1) ∙ waits_zero x f k.1
+waits_none x e f (inr n) = absurd (n f)
+
 -- a waiting one is a rotation, even and not 0
 waiting_tag : (x : Tagged) → is_waiting (item_said x) ≡ true → x.tag ≡ 0
 waiting_tag x e = go (ℕ_discrete x.tag 0)
@@ -69,39 +75,40 @@ waiting_angle x e = sym (ap is_waiting (said_rotation x (waiting_tag x e))) ∙ 
 clifford_some : (k : ℕ) → is_clifford k ≡ true → (k ≡ 0 → ⊥)
 clifford_some k e f = false≢true (sym (ap is_clifford f) ∙ e)
 
--- ---- which are picked: all, or those that anticommute with axis id
+-- ---- which are picked: all, or only those that anticommute with an axis
 
-unfoldable pub picked_by : Bool → ℕ → List (List ℕ) → ℕ → ℕ → Bool
-picked_by true l axes id b = true
-picked_by false l axes id b = anticommute l axes b id
+unfoldable pub picked_by : Option ℕ → ℕ → List (List ℕ) → ℕ → Bool
+picked_by None l axes b = true
+picked_by (Some id) l axes b = anticommute l axes b id
 
-pub record PicksPre (z : Sizes) (all : Bool) (b id : ℕ) (ws xs : List ℕ) : Type 0 where
+pub record PicksPre (z : Sizes) (only : Option ℕ) (b : ℕ) (ws xs : List ℕ) : Type 0 where
   pub held : Stored z ws xs
   pub there : b < z.axes
-  pub axis : all ≡ false → id < z.axes
+  pub axis : (id : ℕ) → only ≡ Some id → id < z.axes
 
-pub picks_all : (z : Sizes) (all : Bool) (b id : ℕ) (ws : List ℕ) → all ≡ true → true ≡ picked_by all z.l (stored_axes z ws) id b
+pub picks_all : (z : Sizes) {only : Option ℕ} (b : ℕ) (ws : List ℕ) → only ≡ None → true ≡ picked_by only z.l (stored_axes z ws) b
 unfolding picked_by
-picks_all z all b id ws e = ap (λ (t : Bool). picked_by t z.l (stored_axes z ws) id b) (sym e)
+picks_all z b ws e = ap (λ (o : Option ℕ). picked_by o z.l (stored_axes z ws) b) (sym e)
 
-pub picks_some : (z : Sizes) (all : Bool) (b id : ℕ) (ws : List ℕ) {r : Bool} → all ≡ false → r ≡ anticommute z.l (stored_axes z ws) b id
-    → r ≡ picked_by all z.l (stored_axes z ws) id b
+pub picks_some : (z : Sizes) {only : Option ℕ} {id : ℕ} (b : ℕ) (ws : List ℕ) {r : Bool} → only ≡ Some id
+    → r ≡ anticommute z.l (stored_axes z ws) b id
+    → r ≡ picked_by only z.l (stored_axes z ws) b
 unfolding picked_by
-picks_some z all b id ws e h = h ∙ ap (λ (t : Bool). picked_by t z.l (stored_axes z ws) id b) (sym e)
+picks_some z b ws e h = h ∙ ap (λ (o : Option ℕ). picked_by o z.l (stored_axes z ws) b) (sym e)
 
 -- ---- one place of the list
 
-pub record TurnAt (z : Shape) (st : State) (all : Bool) (id i : ℕ) (ws xs : List ℕ) (n : ℕ) (p : Pass) : Type 0 where
+pub record TurnAt (z : Shape) (st : State) (only : Option ℕ) (i : ℕ) (ws xs : List ℕ) (n : ℕ) (p : Pass) : Type 0 where
   pub at : PassAt z off n st ws xs p
   pub index : i < z.u
   pub kept : st.waiting ≤ i
   pub place : place_in z.u xs i < st.out
-  pub id_in : all ≡ false → id < st.axes
+  pub id_in : (id : ℕ) → only ≡ Some id → id < st.axes
   pub few : st.absorbed < 9223372036854775808
 
 -- the model's next state, where place j has its turn
-abbrev pub waited_at : Shape → Bool → ℕ → ℕ → List ℕ → Pass → Pass
-waited_at z all id j xs p = absorb_waiting_at z.l (picked_by all z.l p.store.axes id) p j (item_at xs z.u out_row j)
+abbrev pub waited_at : Shape → Option ℕ → ℕ → List ℕ → Pass → Pass
+waited_at z only j xs p = absorb_waiting_at z.l (picked_by only z.l p.store.axes) p j (item_at xs z.u out_row j)
 
 -- place i does not wait any more
 pub record GoneFrom (z : Shape) (st s : State) (xs : List ℕ) (i : ℕ) (q : Pass) : Type 0 where
@@ -117,11 +124,11 @@ abbrev pub TurnOf : Shape → State → State → List ℕ → ℕ → List ℕ 
 TurnOf z st s xs i xs' q = GoneFrom z st s xs i q ⊎ KeptIn z st s xs i xs'
 
 -- of the list: places behind i and those that are kept are as they were; place i does not wait any more, or is kept
-pub record TurnedAs (z : Shape) (st : State) (all : Bool) (id i : ℕ) (xs : List ℕ) (p : Pass) (r : Result State ExpansionLimit)
+pub record TurnedAs (z : Shape) (st : State) (only : Option ℕ) (i : ℕ) (xs : List ℕ) (p : Pass) (r : Result State ExpansionLimit)
     (ws' xs' : List ℕ) : Type 0 where
-  pub stepped : SteppedAs z off 0 1 st r ws' xs' (waited_at z all id (place_in z.u xs i) xs p)
+  pub stepped : SteppedAs z off 0 1 st r ws' xs' (waited_at z only (place_in z.u xs i) xs p)
   pub same : (k : ℕ) → (k < st.waiting) ⊎ (i < k) → place_in z.u xs' k ≡ place_in z.u xs k
-  pub turned : (s : State) → r ≡ Ok s → TurnOf z st s xs i xs' (waited_at z all id (place_in z.u xs i) xs p)
+  pub turned : (s : State) → r ≡ Ok s → TurnOf z st s xs i xs' (waited_at z only (place_in z.u xs i) xs p)
 
 -- an item that does not wait, or is not picked
 pub pass_over : (l : ℕ) (picks : ℕ → Bool) (p : Pass) (j : ℕ) (i : Item) → is_waiting i ≡ false → absorb_waiting_at l picks p j i ≡ p
@@ -141,7 +148,7 @@ module _ (l : ℕ) (picks : ℕ → Bool) (p : Pass) (j : ℕ) (x : Tagged) (wai
   not_picked : picks x.axis ≡ false → absorb_waiting_at l picks p j (item_said x) ≡ p
   not_picked e = as_rotation ∙ if_false _ _ (ap₂ (λ (s t : Bool). s && t) (waiting_angle x waits) e)
 
-module _ {z : Shape} {st : State} {all : Bool} {id i : ℕ} {ws xs : List ℕ} {n : ℕ} {p : Pass} (h : TurnAt z st all id i ws xs n p) where
+module _ {z : Shape} {st : State} {only : Option ℕ} {i : ℕ} {ws xs : List ℕ} {n : ℕ} {p : Pass} (h : TurnAt z st only i ws xs n p) where
   pub turn_read : (row_count * z.u ≤ length xs) × (waiting_row < row_count) × (i < z.u)
   turn_read = (h.at.granted.numbers_long, omega arith, h.index)
 
@@ -156,26 +163,26 @@ module _ {z : Shape} {st : State} {all : Bool} {id i : ℕ} {ws xs : List ℕ} {
     turn_small = omega (arith, j_in, out_few h.at, h.at.granted.sized.u_small)
 
     -- the answer, at the place that was read
-    at_place : {r : Result State ExpansionLimit} {ws' xs' : List ℕ} → SteppedAs z off 0 1 st r ws' xs' (waited_at z all id j xs p)
+    at_place : {r : Result State ExpansionLimit} {ws' xs' : List ℕ} → SteppedAs z off 0 1 st r ws' xs' (waited_at z only j xs p)
         → ((k : ℕ) → (k < st.waiting) ⊎ (i < k) → place_in z.u xs' k ≡ place_in z.u xs k)
-        → ((s : State) → r ≡ Ok s → TurnOf z st s xs i xs' (waited_at z all id j xs p)) → TurnedAs z st all id i xs p r ws' xs'
+        → ((s : State) → r ≡ Ok s → TurnOf z st s xs i xs' (waited_at z only j xs p)) → TurnedAs z st only i xs p r ws' xs'
     at_place {r} {ws'} {xs'} a b c = record {
-      stepped = subst (λ (x : ℕ). SteppedAs z off 0 1 st r ws' xs' (waited_at z all id x xs p)) place a;
+      stepped = subst (λ (x : ℕ). SteppedAs z off 0 1 st r ws' xs' (waited_at z only x xs p)) place a;
       same = b;
-      turned = λ s e. subst (λ (x : ℕ). TurnOf z st s xs i xs' (waited_at z all id x xs p)) place (c s e);
+      turned = λ s e. subst (λ (x : ℕ). TurnOf z st s xs i xs' (waited_at z only x xs p)) place (c s e);
     }
 
     -- it does not wait
     pub turned_over : {x : Tagged} {t : Bool} → x ≡ tagged_at xs z.u out_row j → t ≡ is_waiting (item_said x) → t ≡ false
-        → TurnedAs z st all id i xs p (Ok st) ws xs
+        → TurnedAs z st only i xs p (Ok st) ws xs
     turned_over {x} {t} e f g =
         let no : is_waiting (item_at xs z.u out_row j) ≡ false = ap (λ (y : Tagged). is_waiting (item_said y)) (sym e) ∙ sym f ∙ g in
-        let same = pass_over z.l (picked_by all z.l p.store.axes id) p j (item_at xs z.u out_row j) no in
+        let same = pass_over z.l (picked_by only z.l p.store.axes) p j (item_at xs z.u out_row j) no in
         at_place (subst (SteppedAs z off 0 1 st (Ok st) ws xs) (sym same) (as_next h.at.holds (omega arith) (omega arith)))
         (λ k o. refl) (λ s o. let y : st ≡ s = cc in inl (record {
           count = sym (ap (λ (v : State). v.waiting) y);
           quiet =
-              ap (λ (v : ℕ). is_waiting (get_or (waited_at z all id j xs p).out v outside)) (sym place)
+              ap (λ (v : ℕ). is_waiting (get_or (waited_at z only j xs p).out v outside)) (sym place)
               ∙ ap (λ (q : Pass). is_waiting (get_or q.out j outside)) same ∙ ap is_waiting (out_item h.at j j_in outside) ∙ no;
         }))
 
@@ -192,25 +199,25 @@ module _ {z : Shape} {st : State} {all : Bool} {id i : ℕ} {ws xs : List ℕ} {
       item_is = ap item_said (sym read)
 
       module _ {y : Sizes} (sizes : y ≡ sizes_of z st.axes) where
-        pub turn_picks : PicksPre y all x.axis id ws xs
+        pub turn_picks : PicksPre y only x.axis ws xs
         turn_picks = rw sizes (record { held = axes_stored h.at; there = x_rotation.0; axis = h.id_in })
 
         -- what the test says of the model's
-        picks_is : {s : Bool} → s ≡ picked_by all y.l (stored_axes y ws) id x.axis
-            → s ≡ picked_by all z.l p.store.axes id x.axis
+        picks_is : {s : Bool} → s ≡ picked_by only y.l (stored_axes y ws) x.axis
+            → s ≡ picked_by only z.l p.store.axes x.axis
         picks_is k =
-            k ∙ ap (λ (v : Sizes). picked_by all v.l (stored_axes v ws) id x.axis) sizes
-            ∙ ap (λ (axes : List (List ℕ)). picked_by all z.l axes id x.axis) h.at.holds.clifford.axes.are
+            k ∙ ap (λ (v : Sizes). picked_by only v.l (stored_axes v ws) x.axis) sizes
+            ∙ ap (λ (axes : List (List ℕ)). picked_by only z.l axes x.axis) h.at.holds.clifford.axes.are
 
         -- it is left to wait
-        pub turned_left : {s : Bool} {after : State} {xs' : List ℕ} → s ≡ picked_by all y.l (stored_axes y ws) id x.axis → s ≡ false
+        pub turned_left : {s : Bool} {after : State} {xs' : List ℕ} → s ≡ picked_by only y.l (stored_axes y ws) x.axis → s ≡ false
             → Written xs z.u waiting_row st.waiting j xs' → after ≡ with_waiting (st.waiting + 1) st
-            → TurnedAs z st all id i xs p (Ok after) ws xs'
+            → TurnedAs z st only i xs p (Ok after) ws xs'
         turned_left {s} {after} {xs'} k e wrote g =
-            let same = ap (absorb_waiting_at z.l (picked_by all z.l p.store.axes id) p j) item_is
-            ∙ not_picked z.l (picked_by all z.l p.store.axes id) p j x x_waits (sym (picks_is k) ∙ e) in
+            let same = ap (absorb_waiting_at z.l (picked_by only z.l p.store.axes) p j) item_is
+            ∙ not_picked z.l (picked_by only z.l p.store.axes) p j x x_waits (sym (picks_is k) ∙ e) in
             let fits : st.waiting < z.u = omega (arith, h.kept, h.index) in
-            subst (λ (v : State). TurnedAs z st all id i xs p (Ok v) ws xs') (sym g)
+            subst (λ (v : State). TurnedAs z st only i xs p (Ok v) ws xs') (sym g)
             (at_place (subst (SteppedAs z off 0 1 st (Ok (with_waiting (st.waiting + 1) st)) ws xs') (sym same)
             (as_next (with_list (st.waiting + 1) (only_written h.at.granted.numbers_long (omega arith) fits wrote) h.at.holds
             (λ o. absurd (never o))) (omega arith) (omega arith)))
@@ -234,21 +241,21 @@ module _ {z : Shape} {st : State} {all : Bool} {id i : ℕ} {ws xs : List ℕ} {
               (let b : st.waiting < z.u = omega (arith, h.kept, h.index) in b) wrote);
         }
 
-        pub turned_absorbed : {s : Bool} {r : Result State ExpansionLimit} {ws' xs' : List ℕ} → s ≡ picked_by all y.l (stored_axes y ws) id x.axis
+        pub turned_absorbed : {s : Bool} {r : Result State ExpansionLimit} {ws' xs' : List ℕ} → s ≡ picked_by only y.l (stored_axes y ws) x.axis
             → s ≡ true
             → LeftAbsorbed z st ws xs r ws' xs'
             → SteppedAs z off 0 1 st r ws' xs' (leave_zero j x.axis (absorb z.l p x.axis x.angle))
-            → TurnedAs z st all id i xs p r ws' xs'
+            → TurnedAs z st only i xs p r ws' xs'
         unfolding member any_of
         turned_absorbed {s} {r} {ws'} {xs'} k e left done =
-            let same = ap (absorb_waiting_at z.l (picked_by all z.l p.store.axes id) p j) item_is
-            ∙ picked z.l (picked_by all z.l p.store.axes id) p j x x_waits (sym (picks_is k) ∙ e) in
+            let same = ap (absorb_waiting_at z.l (picked_by only z.l p.store.axes) p j) item_is
+            ∙ picked z.l (picked_by only z.l p.store.axes) p j x x_waits (sym (picks_is k) ∙ e) in
             at_place (subst (SteppedAs z off 0 1 st r ws' xs') (sym same) done)
             (λ v o. ap (λ (q : List ℕ). get_or q v 0) (left.numbers.rows waiting_row (omega arith) refl))
             (λ v o. inl (record {
               count = left.list v o;
               quiet =
-                  ap (λ (q : ℕ). is_waiting (get_or (waited_at z all id j xs p).out q outside)) (sym place)
+                  ap (λ (q : ℕ). is_waiting (get_or (waited_at z only j xs p).out q outside)) (sym place)
                   ∙ ap (λ (q : Pass). is_waiting (get_or q.out j outside)) same ∙ zero_quiet;
             }))
           where

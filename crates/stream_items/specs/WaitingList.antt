@@ -1,5 +1,5 @@
 -- The list of waiting places, place by place: what is left of it is what the model absorbs. Assumes nothing.
-use Rattle.std.specs.Prelude.{◌≡◌, Bool, true, false, ℕ, zero, suc, ◌+◌, ◌-◌, ◌≤◌, ◌<◌, Result, Ok, Err}
+use Rattle.std.specs.Prelude.{◌≡◌, Bool, true, false, ℕ, zero, suc, ◌+◌, ◌-◌, ◌≤◌, ◌<◌, Result, Ok, Err, Option, Some}
 use Rattle.std.proofs.Math.Path.{refl, ap, ap₂}
 use Rattle.std.proofs.Common.{sym, ◌∙◌, subst, inl, inr, true≢false, arith}
 use mathlib.Core.List.{List, [], ◌∷◌}
@@ -34,16 +34,16 @@ use Rattle.stream_states.specs.Known.{axes_count, out_long, out_few, out_item}
 use Rattle.stream_items.specs.Waiting.{picked_by, TurnAt, TurnOf, TurnedAs, waited_at, pass_over}
 
 -- before the first of n places, where none is kept so far
-pub record ListedAt (z : Shape) (st : State) (n : ℕ) (all : Bool) (id : ℕ) (ws xs : List ℕ) (k : ℕ) (p : Pass) : Type 0 where
+pub record ListedAt (z : Shape) (st : State) (n : ℕ) (only : Option ℕ) (ws xs : List ℕ) (k : ℕ) (p : Pass) : Type 0 where
   pub at : PassAt z off k st ws xs p
   pub none : st.waiting ≡ 0
   pub list : Waits z xs n st.out
-  pub id_in : all ≡ false → id < st.axes
+  pub id_in : (id : ℕ) → only ≡ Some id → id < st.axes
   pub few : st.absorbed + st.out < 9223372036854775808
 
 -- those of the output that wait and are picked are absorbed
-abbrev pub waited_all : Shape → Bool → ℕ → Pass → Pass
-waited_all z all id p = absorb_waiting z.l (picked_by all z.l p.store.axes id) p 0 p.out
+abbrev pub waited_all : Shape → Option ℕ → Pass → Pass
+waited_all z only p = absorb_waiting z.l (picked_by only z.l p.store.axes) p 0 p.out
 
 -- a quiet front changes nothing
 skip : (l : ℕ) (picks : ℕ → Bool) (p : Pass) (j : ℕ) (is : List Item) (k : ℕ) → k ≤ length is
@@ -87,11 +87,11 @@ module _ (l : ℕ) (picks : ℕ → Bool) (p : Pass) (j : ℕ) where
   step_rest (barrier o a s) = refl
 
 -- places i to n of the list have not had their turn; outputs below `place` have
-pub record WaitNow (z : Shape) (st₀ : State) (n : ℕ) (all : Bool) (id : ℕ) (ws xs : List ℕ) (st : State) (i k : ℕ) (p : Pass) : Type 0 where
+pub record WaitNow (z : Shape) (st₀ : State) (n : ℕ) (only : Option ℕ) (ws xs : List ℕ) (st : State) (i k : ℕ) (p : Pass) : Type 0 where
   pub now : Pass
   pub place : ℕ
   pub inside : place ≤ st.out
-  pub whole : waited_all z all id p ≡ absorb_waiting z.l (picked_by all z.l p.store.axes id) now place (drop place p.out)
+  pub whole : waited_all z only p ≡ absorb_waiting z.l (picked_by only z.l p.store.axes) now place (drop place p.out)
   pub axes : now.store.axes ≡ p.store.axes
   pub rest : drop place now.out ≡ drop place p.out
   pub at : PassAt z off k st ws xs now
@@ -103,18 +103,18 @@ pub record WaitNow (z : Shape) (st₀ : State) (n : ℕ) (all : Bool) (id : ℕ)
   pub named : (j : ℕ) → place ≤ j → j < st.out → is_waiting (get_or now.out j outside) ≡ true → Named (place_in z.u xs) i n j
   pub waits : (j : ℕ) → j < place → is_waiting (get_or now.out j outside) ≡ true → Named (place_in z.u xs) 0 st.waiting j
 
-pub record Scan (z : Shape) (st₀ : State) (n : ℕ) (all : Bool) (id : ℕ) (ws₀ xs₀ ws xs : List ℕ) (st : State) (i : ℕ) : Type 0 where
+pub record Scan (z : Shape) (st₀ : State) (n : ℕ) (only : Option ℕ) (ws₀ xs₀ ws xs : List ℕ) (st : State) (i : ℕ) : Type 0 where
   pub index : i ≤ n
   pub left : LeftS z ws₀ xs₀ ws xs
   pub few : st.waiting ≤ i
   pub merges : st.merges ≤ st₀.merges
   pub absorbed : st.absorbed ≤ st₀.absorbed + i
-  pub at : (k : ℕ) (p : Pass) → ListedAt z st₀ n all id ws₀ xs₀ k p → WaitNow z st₀ n all id ws xs st i k p
+  pub at : (k : ℕ) (p : Pass) → ListedAt z st₀ n only ws₀ xs₀ k p → WaitNow z st₀ n only ws xs st i k p
 
-pub scan_first : {z : Shape} {st : State} {n : ℕ} {all : Bool} {id : ℕ} {ws xs : List ℕ}
-    → SomePass (λ m k p. ListedAt z st n all id ws xs k p)
-    → Scan z st n all id ws xs ws xs st 0
-scan_first {z} {st} {n} {all} {id} {ws} {xs} some = record {
+pub scan_first : {z : Shape} {st : State} {n : ℕ} {only : Option ℕ} {ws xs : List ℕ}
+    → SomePass (λ m k p. ListedAt z st n only ws xs k p)
+    → Scan z st n only ws xs ws xs st 0
+scan_first {z} {st} {n} {only} {ws} {xs} some = record {
   index = omega arith;
   left = left_none z ws xs;
   few = omega (arith, some.it.none);
@@ -141,8 +141,8 @@ scan_first {z} {st} {n} {all} {id} {ws} {xs} some = record {
 }
 
 -- outputs from `place` up to j do not wait if the list names none of them
-module _ {z : Shape} {st₀ : State} {n : ℕ} {all : Bool} {id : ℕ} {ws xs : List ℕ} {st : State} {i k : ℕ} {p : Pass}
-    (h : WaitNow z st₀ n all id ws xs st i k p) where
+module _ {z : Shape} {st₀ : State} {n : ℕ} {only : Option ℕ} {ws xs : List ℕ} {st : State} {i k : ℕ} {p : Pass}
+    (h : WaitNow z st₀ n only ws xs st i k p) where
   quiet_one : (j v : ℕ) → j ≤ st.out → ((x : ℕ) → i ≤ x → x < n → j ≤ place_in z.u xs x) → h.place ≤ v → v < j
       → is_waiting (get_or h.now.out v outside) ≡ false
   quiet_one j v b none c d = go (is_waiting (get_or h.now.out v outside)) refl
@@ -159,14 +159,14 @@ module _ {z : Shape} {st₀ : State} {n : ℕ} {all : Bool} {id : ℕ} {ws xs : 
 
   -- so they are passed over
   pass_to : (j : ℕ) → h.place ≤ j → j ≤ st.out → length p.out ≡ st.out → ((x : ℕ) → i ≤ x → x < n → j ≤ place_in z.u xs x)
-      → (waited_all z all id p ≡ absorb_waiting z.l (picked_by all z.l p.store.axes id) h.now j (drop j p.out))
+      → (waited_all z only p ≡ absorb_waiting z.l (picked_by only z.l p.store.axes) h.now j (drop j p.out))
       × (drop j h.now.out ≡ drop j p.out)
   pass_to j b c long none = (
     h.whole
-        ∙ skip z.l (picked_by all z.l p.store.axes id) h.now h.place (drop h.place p.out) (j - h.place)
+        ∙ skip z.l (picked_by only z.l p.store.axes) h.now h.place (drop h.place p.out) (j - h.place)
         (omega (arith, drop_long))
         (λ v d. ap is_waiting (same_behind v) ∙ quiet_one j (h.place + v) c none (omega arith) (omega arith))
-        ∙ ap₂ (λ (x : ℕ) (is : List Item). absorb_waiting z.l (picked_by all z.l p.store.axes id) h.now x is) there
+        ∙ ap₂ (λ (x : ℕ) (is : List Item). absorb_waiting z.l (picked_by only z.l p.store.axes) h.now x is) there
         (drops p.out),
     sym (drops h.now.out) ∙ ap (drop (j - h.place)) h.rest ∙ drops p.out,
   )
@@ -181,14 +181,14 @@ module _ {z : Shape} {st₀ : State} {n : ℕ} {all : Bool} {id : ℕ} {ws xs : 
       drop_long = lib.ListN.length-drop h.place p.out
 
 -- what a turn's call leaves
-abbrev pub TurnLeft : Shape → State → Bool → ℕ → ℕ → List ℕ → List ℕ → Result State ExpansionLimit → List ℕ → List ℕ → Type 0
-TurnLeft z st all id i ws xs r ws' xs' =
-    LeftS z ws xs ws' xs' × ((k : ℕ) (p : Pass) → TurnAt z st all id i ws xs k p → TurnedAs z st all id i xs p r ws' xs')
+abbrev pub TurnLeft : Shape → State → Option ℕ → ℕ → List ℕ → List ℕ → Result State ExpansionLimit → List ℕ → List ℕ → Type 0
+TurnLeft z st only i ws xs r ws' xs' =
+    LeftS z ws xs ws' xs' × ((k : ℕ) (p : Pass) → TurnAt z st only i ws xs k p → TurnedAs z st only i xs p r ws' xs')
 
-module _ {z : Shape} {st₀ : State} {n : ℕ} {all : Bool} {id : ℕ} {ws₀ xs₀ ws xs : List ℕ} {st : State} {i : ℕ}
-    (b : Scan z st₀ n all id ws₀ xs₀ ws xs st i) (more : i < n) where
-  module _ {k : ℕ} {p : Pass} (h : ListedAt z st₀ n all id ws₀ xs₀ k p) where
-    here : WaitNow z st₀ n all id ws xs st i k p
+module _ {z : Shape} {st₀ : State} {n : ℕ} {only : Option ℕ} {ws₀ xs₀ ws xs : List ℕ} {st : State} {i : ℕ}
+    (b : Scan z st₀ n only ws₀ xs₀ ws xs st i) (more : i < n) where
+  module _ {k : ℕ} {p : Pass} (h : ListedAt z st₀ n only ws₀ xs₀ k p) where
+    here : WaitNow z st₀ n only ws xs st i k p
     here = b.at k p h
 
     long : length p.out ≡ st.out
@@ -197,7 +197,7 @@ module _ {z : Shape} {st₀ : State} {n : ℕ} {all : Bool} {id : ℕ} {ws₀ xs
     few_places : n ≤ st₀.out
     few_places = rising_few n h.list.rising
 
-    turn_at : TurnAt z st all id i ws xs k here.now
+    turn_at : TurnAt z st only i ws xs k here.now
     turn_at = record {
       at = here.at;
       index = omega (arith, few_places, out_few h.at, more);
@@ -215,7 +215,7 @@ module _ {z : Shape} {st₀ : State} {n : ℕ} {all : Bool} {id : ℕ} {ws₀ xs
         go (yes e) = rw e (omega arith)
         go (no e) = let g = here.ahead.rises i x (omega arith) (omega arith) d in omega arith
 
-    passed : (waited_all z all id p ≡ absorb_waiting z.l (picked_by all z.l p.store.axes id) here.now (place_in z.u xs i)
+    passed : (waited_all z only p ≡ absorb_waiting z.l (picked_by only z.l p.store.axes) here.now (place_in z.u xs i)
         (drop (place_in z.u xs i) p.out)) × (drop (place_in z.u xs i) here.now.out ≡ drop (place_in z.u xs i) p.out)
     passed =
         pass_to here (place_in z.u xs i) (here.later i (omega arith) more) (let g = turn_at.place in omega arith) long from_turn
@@ -232,42 +232,42 @@ module _ {z : Shape} {st₀ : State} {n : ℕ} {all : Bool} {id : ℕ} {ws₀ xs
         zero_more is = ap (λ (v : ℕ). get_or is v outside) (let e : place_in z.u xs i + 0 ≡ place_in z.u xs i = omega arith in e)
 
     -- the rest, from the state after it
-    after : waited_all z all id p
-        ≡ absorb_waiting z.l (picked_by all z.l p.store.axes id) (waited_at z all id (place_in z.u xs i) xs here.now)
+    after : waited_all z only p
+        ≡ absorb_waiting z.l (picked_by only z.l p.store.axes) (waited_at z only (place_in z.u xs i) xs here.now)
         (suc (place_in z.u xs i)) (drop (suc (place_in z.u xs i)) p.out)
     unfolding absorb_waiting
     after =
         passed.0
-        ∙ ap (absorb_waiting z.l (picked_by all z.l p.store.axes id) here.now (place_in z.u xs i))
+        ∙ ap (absorb_waiting z.l (picked_by only z.l p.store.axes) here.now (place_in z.u xs i))
         (drop-cons p.out (place_in z.u xs i) outside (let g = turn_at.place in omega (arith, long)))
-        ∙ ap₂ (λ (x : Item) (axes : List (List ℕ)). absorb_waiting z.l (picked_by all z.l p.store.axes id)
-        (absorb_waiting_at z.l (picked_by all z.l axes id) here.now (place_in z.u xs i) x) (suc (place_in z.u xs i))
+        ∙ ap₂ (λ (x : Item) (axes : List (List ℕ)). absorb_waiting z.l (picked_by only z.l p.store.axes)
+        (absorb_waiting_at z.l (picked_by only z.l axes) here.now (place_in z.u xs i) x) (suc (place_in z.u xs i))
         (drop (suc (place_in z.u xs i)) p.out)) (sym item) (sym here.axes)
 
-  pub scan_turn : SomePass (λ m k p. ListedAt z st₀ n all id ws₀ xs₀ k p) → SomePass (λ m k p. TurnAt z st all id i ws xs k p)
+  pub scan_turn : SomePass (λ m k p. ListedAt z st₀ n only ws₀ xs₀ k p) → SomePass (λ m k p. TurnAt z st only i ws xs k p)
   scan_turn s = record { absorption = off; items = s.items; pass = (here s.it).now; it = turn_at s.it }
 
-  module _ {r : Result State ExpansionLimit} {ws' xs' : List ℕ} (call : TurnLeft z st all id i ws xs r ws' xs') where
+  module _ {r : Result State ExpansionLimit} {ws' xs' : List ℕ} (call : TurnLeft z st only i ws xs r ws' xs') where
     pub scan_left : LeftS z ws₀ xs₀ ws' xs'
     scan_left = left_then b.left call.0
 
-    step : {k : ℕ} {p : Pass} (h : ListedAt z st₀ n all id ws₀ xs₀ k p) → TurnedAs z st all id i xs (here h).now r ws' xs'
+    step : {k : ℕ} {p : Pass} (h : ListedAt z st₀ n only ws₀ xs₀ k p) → TurnedAs z st only i xs (here h).now r ws' xs'
     step {k} h = call.1 k (here h).now (turn_at h)
 
-    pub scan_limit : r ≡ Err expansion_limit → (k : ℕ) (p : Pass) → ListedAt z st₀ n all id ws₀ xs₀ k p
-        → SteppedAs z lazy 0 n st₀ (Err expansion_limit) ws' xs' (waited_all z all id p)
+    pub scan_limit : r ≡ Err expansion_limit → (k : ℕ) (p : Pass) → ListedAt z st₀ n only ws₀ xs₀ k p
+        → SteppedAs z lazy 0 n st₀ (Err expansion_limit) ws' xs' (waited_all z only p)
     scan_limit e k p h =
         as_limit (omega (
           arith,
           (step h).stepped.refused e,
           ap (λ (q : Pass). q.store.peak) (after h),
-          absorb_waiting_rises z.l (picked_by all z.l p.store.axes id) (waited_at z all id (place_in z.u xs i) xs (here h).now)
+          absorb_waiting_rises z.l (picked_by only z.l p.store.axes) (waited_at z only (place_in z.u xs i) xs (here h).now)
               (suc (place_in z.u xs i)) (drop (suc (place_in z.u xs i)) p.out),
         ))
 
     module _ {s : State} (e : r ≡ Ok s) where
-      module _ {k : ℕ} {p : Pass} (h : ListedAt z st₀ n all id ws₀ xs₀ k p) where
-        held : HoldsPass z off s ws' xs' (waited_at z all id (place_in z.u xs i) xs (here h).now)
+      module _ {k : ℕ} {p : Pass} (h : ListedAt z st₀ n only ws₀ xs₀ k p) where
+        held : HoldsPass z off s ws' xs' (waited_at z only (place_in z.u xs i) xs (here h).now)
         held = (step h).stepped.next s e
 
         same_out : s.out ≡ st.out
@@ -277,13 +277,13 @@ module _ {z : Shape} {st₀ : State} {n : ℕ} {all : Bool} {id : ℕ} {ws₀ xs
 
         -- outputs that have no turn
         same_item : (v : ℕ) → (v ≡ place_in z.u xs i → ⊥)
-            → is_waiting (get_or (waited_at z all id (place_in z.u xs i) xs (here h).now).out v outside) ≡ is_waiting
+            → is_waiting (get_or (waited_at z only (place_in z.u xs i) xs (here h).now).out v outside) ≡ is_waiting
             (get_or (here h).now.out v outside)
         same_item v d =
             ap is_waiting (step_other z.l _ (here h).now (place_in z.u xs i) (item_at xs z.u out_row (place_in z.u xs i)) v d)
 
         -- the places that are kept
-        kept_next : TurnOf z st s xs i xs' (waited_at z all id (place_in z.u xs i) xs (here h).now)
+        kept_next : TurnOf z st s xs i xs' (waited_at z only (place_in z.u xs i) xs (here h).now)
             → Rising (place_in z.u xs') 0 s.waiting (suc (place_in z.u xs i))
         kept_next (inl g) = record {
           below = λ v c d. omega (
@@ -333,7 +333,7 @@ module _ {z : Shape} {st₀ : State} {n : ℕ} {all : Bool} {id : ℕ} {ws₀ xs
 
         -- what waits behind it is named behind it
         named_next : (v : ℕ) → suc (place_in z.u xs i) ≤ v → v < s.out
-            → is_waiting (get_or (waited_at z all id (place_in z.u xs i) xs (here h).now).out v outside) ≡ true
+            → is_waiting (get_or (waited_at z only (place_in z.u xs i) xs (here h).now).out v outside) ≡ true
             → Named (place_in z.u xs') (i + 1) n v
         named_next v c d f =
             let x = (here h).named v (let g = (here h).later i (omega arith) more in omega arith) (omega (arith, same_out))
@@ -350,13 +350,13 @@ module _ {z : Shape} {st₀ : State} {n : ℕ} {all : Bool} {id : ℕ} {ws₀ xs
             }
 
         -- what waits before it is kept
-        waits_next : TurnOf z st s xs i xs' (waited_at z all id (place_in z.u xs i) xs (here h).now) → (v : ℕ)
+        waits_next : TurnOf z st s xs i xs' (waited_at z only (place_in z.u xs i) xs (here h).now) → (v : ℕ)
             → v < suc (place_in z.u xs i)
-            → is_waiting (get_or (waited_at z all id (place_in z.u xs i) xs (here h).now).out v outside) ≡ true
+            → is_waiting (get_or (waited_at z only (place_in z.u xs i) xs (here h).now).out v outside) ≡ true
             → Dec (v ≡ place_in z.u xs i) → Dec (v < (here h).place) → Named (place_in z.u xs') 0 s.waiting v
         waits_next (inl g) v c f (yes x) y =
             absurd (true≢false (sym f ∙ ap
-            (λ (w : ℕ). is_waiting (get_or (waited_at z all id (place_in z.u xs i) xs (here h).now).out w outside)) x
+            (λ (w : ℕ). is_waiting (get_or (waited_at z only (place_in z.u xs i) xs (here h).now).out w outside)) x
             ∙ g.quiet))
         waits_next (inr g) v c f (yes x) y = record {
           index = st.waiting;
@@ -373,7 +373,7 @@ module _ {z : Shape} {st₀ : State} {n : ℕ} {all : Bool} {id : ℕ} {ws₀ xs
               here = (step h).same w.index (inl w.high) ∙ w.here;
             }
           where
-            count_up : TurnOf z st s xs i xs' (waited_at z all id (place_in z.u xs i) xs (here h).now) → st.waiting ≤ s.waiting
+            count_up : TurnOf z st s xs i xs' (waited_at z only (place_in z.u xs i) xs (here h).now) → st.waiting ≤ s.waiting
             count_up (inl o) = omega (arith, o.count)
             count_up (inr o) = omega (arith, o.count)
         waits_next g v c f (no x) (no y) =
@@ -381,7 +381,7 @@ module _ {z : Shape} {st₀ : State} {n : ℕ} {all : Bool} {id : ℕ} {ws₀ xs
             ∙ quiet_one (here h) (place_in z.u xs i) v (let o = (turn_at h).place in omega arith) (from_turn h) (omega arith)
             (omega arith)))
 
-        fine_next : FinePass z k (waited_at z all id (place_in z.u xs i) xs (here h).now)
+        fine_next : FinePass z k (waited_at z only (place_in z.u xs i) xs (here h).now)
         fine_next =
             let inside : place_in z.u xs i < length (here h).now.out = omega (arith, (turn_at h).place, out_long (here h).at.holds) in
             record {
@@ -402,7 +402,7 @@ module _ {z : Shape} {st₀ : State} {n : ℕ} {all : Bool} {id : ℕ} {ws₀ xs
                   (here h).at.fine.inside;
             }
 
-        rest_next : drop (suc (place_in z.u xs i)) (waited_at z all id (place_in z.u xs i) xs (here h).now).out
+        rest_next : drop (suc (place_in z.u xs i)) (waited_at z only (place_in z.u xs i) xs (here h).now).out
             ≡ drop (suc (place_in z.u xs i)) p.out
         rest_next =
             step_rest z.l _ (here h).now (place_in z.u xs i) (item_at xs z.u out_row (place_in z.u xs i))
@@ -413,9 +413,9 @@ module _ {z : Shape} {st₀ : State} {n : ℕ} {all : Bool} {id : ℕ} {ws₀ xs
                 lib.Seq.drop-drop 1 (place_in z.u xs i) is
                 ∙ ap (λ (v : ℕ). drop v is) (let g : place_in z.u xs i + 1 ≡ suc (place_in z.u xs i) = omega arith in g)
 
-        now_next : WaitNow z st₀ n all id ws' xs' s (i + 1) k p
+        now_next : WaitNow z st₀ n only ws' xs' s (i + 1) k p
         now_next = record {
-          now = waited_at z all id (place_in z.u xs i) xs (here h).now;
+          now = waited_at z only (place_in z.u xs i) xs (here h).now;
           place = suc (place_in z.u xs i);
           inside = omega (arith, (turn_at h).place, same_out);
           whole = after h;
@@ -445,7 +445,7 @@ module _ {z : Shape} {st₀ : State} {n : ℕ} {all : Bool} {id : ℕ} {ws₀ xs
           waits = λ v c f. waits_next ((step h).turned s e) v c f (ℕ_discrete v (place_in z.u xs i)) (dec_lt v (here h).place);
         }
 
-      pub scan_next : SomePass (λ m k p. ListedAt z st₀ n all id ws₀ xs₀ k p) → Scan z st₀ n all id ws₀ xs₀ ws' xs' s (i + 1)
+      pub scan_next : SomePass (λ m k p. ListedAt z st₀ n only ws₀ xs₀ k p) → Scan z st₀ n only ws₀ xs₀ ws' xs' s (i + 1)
       scan_next some = record {
         index = omega arith;
         left = scan_left;
@@ -460,24 +460,24 @@ module _ {z : Shape} {st₀ : State} {n : ℕ} {all : Bool} {id : ℕ} {ws₀ xs
           count (inr g) = omega (arith, g.count, b.few)
 
 -- all places have had their turn
-pub scan_end : {z : Shape} {st₀ : State} {n : ℕ} {all : Bool} {id : ℕ} {ws₀ xs₀ ws xs : List ℕ} {st : State} {i : ℕ}
-    → Scan z st₀ n all id ws₀ xs₀ ws xs st i → n ≤ i → (k : ℕ) (p : Pass) → ListedAt z st₀ n all id ws₀ xs₀ k p
-    → SteppedAs z lazy 0 n st₀ (Ok st) ws xs (waited_all z all id p)
+pub scan_end : {z : Shape} {st₀ : State} {n : ℕ} {only : Option ℕ} {ws₀ xs₀ ws xs : List ℕ} {st : State} {i : ℕ}
+    → Scan z st₀ n only ws₀ xs₀ ws xs st i → n ≤ i → (k : ℕ) (p : Pass) → ListedAt z st₀ n only ws₀ xs₀ k p
+    → SteppedAs z lazy 0 n st₀ (Ok st) ws xs (waited_all z only p)
 unfolding absorb_waiting
-scan_end {z} {st₀} {n} {all} {id} {ws₀} {xs₀} {ws} {xs} {st} {i} b e k p h =
+scan_end {z} {st₀} {n} {only} {ws₀} {xs₀} {ws} {xs} {st} {i} b e k p h =
     let t = b.at k p h in
     let long : length p.out ≡ st.out = out_long h.at.holds ∙ sym t.long in
-    let is_now : waited_all z all id p ≡ t.now =
+    let is_now : waited_all z only p ≡ t.now =
     (pass_to t st.out t.inside (omega arith) long (λ x c d. absurd (omega arith))).0
-    ∙ ap (λ (m : ℕ). absorb_waiting z.l (picked_by all z.l p.store.axes id) t.now st.out (drop m p.out)) (sym long)
-    ∙ ap (absorb_waiting z.l (picked_by all z.l p.store.axes id) t.now st.out) (drop-length p.out) in
+    ∙ ap (λ (m : ℕ). absorb_waiting z.l (picked_by only z.l p.store.axes) t.now st.out (drop m p.out)) (sym long)
+    ∙ ap (absorb_waiting z.l (picked_by only z.l p.store.axes) t.now st.out) (drop-length p.out) in
     subst (SteppedAs z lazy 0 n st₀ (Ok st) ws xs) (sym is_now)
     (as_next (with_list st.waiting (only_none (waiting_row ∷ []) z.u xs) t.at.holds (λ o. record {
       rising = record { below = λ v c d. omega (arith, t.kept.below v c d, t.inside); rises = t.kept.rises };
       all = λ j c f. go t j c (ap is_waiting (out_item t.at j c outside) ∙ f) (dec_lt j t.place);
     })) (omega (arith, b.merges)) (omega (arith, b.absorbed, b.index)))
   where
-    go : (t : WaitNow z st₀ n all id ws xs st i k p) (j : ℕ) → j < st.out → is_waiting (get_or t.now.out j outside) ≡ true
+    go : (t : WaitNow z st₀ n only ws xs st i k p) (j : ℕ) → j < st.out → is_waiting (get_or t.now.out j outside) ≡ true
         → Dec (j < t.place)
         → Named (place_in z.u xs) 0 st.waiting j
     go t j c f (yes d) = t.waits j d f
@@ -485,15 +485,15 @@ scan_end {z} {st₀} {n} {all} {id} {ws₀} {xs₀} {ws} {xs} {st} {i} b e k p h
 
 -- ---- from the list that is there
 
-pub record WaitAt (z : Shape) (st : State) (all : Bool) (id : ℕ) (ws xs : List ℕ) (n : ℕ) (p : Pass) : Type 0 where
+pub record WaitAt (z : Shape) (st : State) (only : Option ℕ) (ws xs : List ℕ) (n : ℕ) (p : Pass) : Type 0 where
   pub at : PassAt z lazy n st ws xs p
-  pub id_in : all ≡ false → id < st.axes
+  pub id_in : (id : ℕ) → only ≡ Some id → id < st.axes
   pub few : st.absorbed + st.out < 9223372036854775808
 
-module _ {z : Shape} {st first : State} {all : Bool} {id : ℕ} {ws xs : List ℕ} {n : ℕ} {p : Pass} (e : first ≡ with_waiting 0 st)
-    (h : WaitAt z st all id ws xs n p) where
-  pub listed : ListedAt z first st.waiting all id ws xs n p
-  listed = subst (λ (s : State). ListedAt z s st.waiting all id ws xs n p) (sym e) (record {
+module _ {z : Shape} {st first : State} {only : Option ℕ} {ws xs : List ℕ} {n : ℕ} {p : Pass} (e : first ≡ with_waiting 0 st)
+    (h : WaitAt z st only ws xs n p) where
+  pub listed : ListedAt z first st.waiting only ws xs n p
+  listed = subst (λ (s : State). ListedAt z s st.waiting only ws xs n p) (sym e) (record {
     at = record { granted = h.at.granted; holds = without_list 0 h.at.holds; fine = h.at.fine; space = h.at.space };
     none = refl;
     list = h.at.holds.waits refl;

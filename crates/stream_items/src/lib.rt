@@ -14,7 +14,7 @@ ghost use Rattle.stream_states.specs.States.{SomePass, LeftS, SteppedAs, RulesAs
 ghost use Rattle.stream_items.specs.Waiting.{picked_by, PicksPre, TurnAt, TurnedAs};
 ghost use Rattle.stream_items.specs.WaitingList.{ListedAt, WaitAt, waited_all};
 ghost use Rattle.stream_items.specs.Items.{BlockingAt, unblocked, UnblockAt, RotationAt, AllAt, BarrierAt, barrier_put};
-ghost use Rattle.stream_items.specs.Behind.{named_item, begins_at, rules_then, state_then};
+ghost use Rattle.stream_items.specs.Behind.{named_item, begins_at};
 ghost use Rattle.stream_items.specs.Loop.{ItemAt, StreamAt, SomeStream, StreamedAs};
 
 use axes::Sizes;
@@ -28,24 +28,18 @@ use stream_states::StreamRules;
 fn waits(x: Tagged) -> bool
     ensures { result ≡ is_waiting (item_said x) }
 {
-    if x.tag != 0 {
-        return false;
-    }
-    if x.angle == 0 {
-        return false;
-    }
-    x.angle % 2 != 1
+    x.tag == 0 && x.angle != 0 && x.angle % 2 != 1
 }
 
-// Whether axis b is to be absorbed: all are, or those that anticommute with axis id.
-fn picks(words: &[u64], numbers: &[u32], z: Sizes, all: bool, b: usize, id: usize) -> bool
-    requires { PicksPre z all b id words.now numbers.now }
-    ensures { result ≡ picked_by all z.l (stored_axes z words.now) id b }
+// Whether axis b is to be absorbed: all are, or only those that anticommute with an axis.
+fn picks(words: &[u64], numbers: &[u32], z: Sizes, only: Option<usize>, b: usize) -> bool
+    requires { PicksPre z only b words.now numbers.now }
+    ensures { result ≡ picked_by only z.l (stored_axes z words.now) b }
 {
-    if all {
-        return true;
+    match only {
+        None => true,
+        Some(id) => axes::anticommute(words, numbers, z, b, id),
     }
-    axes::anticommute(words, numbers, z, b, id)
 }
 
 // Place i of the list has its turn: the output there is passed over if it does not wait, left to wait if it is not picked, else absorbed.
@@ -55,14 +49,13 @@ fn waiting_turn(
     numbers: &mut [u32],
     shape: Shape,
     st: State,
-    all: bool,
-    id: usize,
+    only: Option<usize>,
     i: usize,
 ) -> Result<State, ExpansionLimit>
-    requires { SomePass (λ m n p. TurnAt shape st all id i words.old numbers.old n p) }
+    requires { SomePass (λ m n p. TurnAt shape st only i words.old numbers.old n p) }
     ensures { LeftS shape words.old numbers.old words.new numbers.new
-        × ((n : ℕ) (p : Pass) → TurnAt shape st all id i words.old numbers.old n p
-        → TurnedAs shape st all id i numbers.old p result words.new numbers.new) }
+        × ((n : ℕ) (p : Pass) → TurnAt shape st only i words.old numbers.old n p
+        → TurnedAs shape st only i numbers.old p result words.new numbers.new) }
 {
     let j = store::read(&numbers[..], shape.u, WAITING, i) as usize;
     let x = items::item_at(&numbers[..], shape.u, OUT, j);
@@ -71,51 +64,52 @@ fn waiting_turn(
     }
     let axis = x.axis as usize;
     let z = axes::sizes_of(shape, st.axes);
-    if !picks(&words[..], &numbers[..], z, all, axis, id) {
+    if !picks(&words[..], &numbers[..], z, only, axis) {
         store::write(numbers, shape.u, WAITING, st.waiting, j as u32);
-        return Ok(steps::with_waiting(st, st.waiting + 1));
+        return Ok(State {
+            waiting: st.waiting + 1,
+            ..st
+        });
     }
     merging::absorb_place(words, numbers, shape, st, j, axis, x.angle)
 }
 
-// Goes over the n places of the list: rotations that wait are absorbed in order, all of them or those that anticommute with axis id.
+// Goes over the n places of the list: rotations that wait are absorbed in order, all of them or only those that anticommute with an axis.
 fn absorb_listed(
     words: &mut [u64],
     numbers: &mut [u32],
     shape: Shape,
     first: State,
     n: usize,
-    all: bool,
-    id: usize,
+    only: Option<usize>,
 ) -> Result<State, ExpansionLimit>
-    requires { SomePass (λ m k p. ListedAt shape first n all id words.old numbers.old k p) }
+    requires { SomePass (λ m k p. ListedAt shape first n only words.old numbers.old k p) }
     ensures { LeftS shape words.old numbers.old words.new numbers.new
-        × ((k : ℕ) (p : Pass) → ListedAt shape first n all id words.old numbers.old k p
-        → SteppedAs shape lazy 0 n first result words.new numbers.new (waited_all shape all id p)) }
+        × ((k : ℕ) (p : Pass) → ListedAt shape first n only words.old numbers.old k p
+        → SteppedAs shape lazy 0 n first result words.new numbers.new (waited_all shape only p)) }
 {
     let mut st = first;
     for i in 0..n {
-        st = waiting_turn(words, numbers, shape, st, all, id, i)?;
+        st = waiting_turn(words, numbers, shape, st, only, i)?;
     }
     Ok(st)
 }
 
-// Absorbs the rotations that wait, in order: all of them, or those that anticommute with axis id.
+// Absorbs the rotations that wait, in order: all of them, or only those that anticommute with an axis.
 fn absorb_waiting(
     words: &mut [u64],
     numbers: &mut [u32],
     shape: Shape,
     st: State,
-    all: bool,
-    id: usize,
+    only: Option<usize>,
 ) -> Result<State, ExpansionLimit>
-    requires { SomePass (λ m n p. WaitAt shape st all id words.old numbers.old n p) }
+    requires { SomePass (λ m n p. WaitAt shape st only words.old numbers.old n p) }
     ensures { LeftS shape words.old numbers.old words.new numbers.new
-        × ((n : ℕ) (p : Pass) → WaitAt shape st all id words.old numbers.old n p
-        → SteppedAs shape lazy 0 st.out st result words.new numbers.new (waited_all shape all id p)) }
+        × ((n : ℕ) (p : Pass) → WaitAt shape st only words.old numbers.old n p
+        → SteppedAs shape lazy 0 st.out st result words.new numbers.new (waited_all shape only p)) }
 {
-    let first = steps::with_waiting(st, 0);
-    absorb_listed(words, numbers, shape, first, st.waiting, all, id)
+    let first = State { waiting: 0, ..st };
+    absorb_listed(words, numbers, shape, first, st.waiting, only)
 }
 
 // Absorbs the rotations that wait and anticommute with the image of axis a.
@@ -133,7 +127,7 @@ fn absorb_blocking(
 {
     let image = carrying::carry(words, numbers, shape, st, a)?;
     let s = st.with_image(image);
-    absorb_waiting(words, numbers, shape, s, false, s.id)
+    absorb_waiting(words, numbers, shape, s, Some(s.id))
 }
 
 // Where even rotations wait, absorbs those that block axis a. By itself, so that `rotation` takes a rotation at one place, which the
@@ -194,11 +188,17 @@ fn absorb_all(
     if !rules.is_lazy() {
         return Ok(st);
     }
-    absorb_waiting(words, numbers, shape, st, true, 0)
+    absorb_waiting(words, numbers, shape, st, None)
 }
 
 // A barrier, once none waits: it is carried and put out, and a segment begins behind it.
-fn put_barrier(words: &mut [u64], numbers: &mut [u32], shape: Shape, st: State, x: Tagged) -> Result<State, ExpansionLimit>
+fn put_barrier(
+    words: &mut [u64],
+    numbers: &mut [u32],
+    shape: Shape,
+    st: State,
+    x: Tagged,
+) -> Result<State, ExpansionLimit>
     requires { SomePass (λ m n p. BarrierAt shape st x words.old numbers.old m n p) }
     ensures { LeftS shape words.old numbers.old words.new numbers.new
         × ((m : Absorption) (n : ℕ) (p : Pass) → BarrierAt shape st x words.old numbers.old m n p
@@ -215,10 +215,11 @@ fn put_barrier(words: &mut [u64], numbers: &mut [u32], shape: Shape, st: State, 
         angle: (to.turns + x.angle) % 4,
     };
     items::put_item(numbers, shape.u, OUT, out, moved);
-    let mut s = to;
-    s.out = out + 1;
-    s.start = out + 1;
-    Ok(s)
+    Ok(State {
+        out: out + 1,
+        start: out + 1,
+        ..to
+    })
 }
 
 // One item of a stream.
@@ -248,14 +249,9 @@ fn stream_item(
 fn is_named(rules: StreamRules, x: Tagged) -> bool
     ensures { result ≡ named_item rules.lazy (item_said x) }
 {
-    if x.tag == 0 {
-        return false;
-    }
-    let lazy = rules.lazy;
-    match lazy {
-        Lazy::Off => false,
-        Lazy::On => false,
-        Lazy::From(place) => (x.tag - 1) as usize == place,
+    match rules.lazy {
+        Lazy::Off | Lazy::On => false,
+        Lazy::From(place) => x.tag != 0 && (x.tag - 1) as usize == place,
     }
 }
 
@@ -263,36 +259,7 @@ fn is_named(rules: StreamRules, x: Tagged) -> bool
 fn begins(rules: StreamRules, x: Tagged) -> bool
     ensures { result ≡ begins_at rules x }
 {
-    if !rules.is_at_once() {
-        return false;
-    }
-    is_named(rules, x)
-}
-
-// The rules behind an item, where even rotations may begin to wait.
-fn rules_behind(rules: StreamRules, begin: bool) -> StreamRules
-    ensures { result ≡ rules_then begin rules }
-{
-    if !begin {
-        return rules;
-    }
-    let lazy = rules.lazy;
-    StreamRules {
-        lookback: rules.lookback,
-        absorption: Absorption::Lazy,
-        lazy,
-        merge: rules.merge,
-    }
-}
-
-// The state behind an item: where even rotations begin to wait, none is named yet.
-fn state_behind(st: State, begin: bool) -> State
-    ensures { result ≡ state_then begin st }
-{
-    if !begin {
-        return st;
-    }
-    steps::with_waiting(st, 0)
+    rules.is_at_once() && is_named(rules, x)
 }
 
 // All of the items, one after the other, and then all that still wait.
@@ -314,10 +281,12 @@ pub fn stream_items(
     let mut present = rules;
     for i in 0..items {
         let x = items::item_at(&numbers[..], shape.u, ITEMS, i);
-        let s = stream_item(words, numbers, shape, present, st, x)?;
-        let begin = begins(present, x);
-        st = state_behind(s, begin);
-        present = rules_behind(present, begin);
+        st = stream_item(words, numbers, shape, present, st, x)?;
+        // Where even rotations begin to wait, none is named yet.
+        if begins(present, x) {
+            st.waiting = 0;
+            present.absorption = Absorption::Lazy;
+        }
     }
     absorb_all(words, numbers, shape, present, st)
 }

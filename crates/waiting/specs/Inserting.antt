@@ -1,11 +1,13 @@
 -- A place comes into the list where it belongs, and not twice. Assumes nothing.
-use Rattle.std.specs.Prelude.{◌≡◌, refl, List, [], ◌∷◌, ℕ, ◌+◌, ◌-◌, ◌*◌, ◌^◌, ◌≤◌, ◌<◌, eqb, length}
-use Rattle.std.proofs.Common.{sym, ap, ◌∙◌, subst, arith, eq-eqb, ne_eqb, eqb-true}
+use Rattle.std.specs.Prelude.{◌≡◌, refl, List, [], ◌∷◌, ℕ, ◌+◌, ◌-◌, ◌*◌, ◌^◌, ◌≤◌, ◌<◌, eqb, length, get_or, ◌||◌}
+use Rattle.std.proofs.Common.{sym, ap, ◌∙◌, arith, eq-eqb, ne_eqb, eqb-true, true≢false}
 use mathlib.Core.Bool.{Bool, true, false}
 use Rattle.std.proofs.Math.Decide.{ℕ_discrete, dec_lt}
 use Rattle.std.proofs.lemmas.Bool.{eqb-false}
-use Rattle.store.specs.Row.{Written}
-use Rattle.model.specs.Lists.{when◌then◌else◌}
+use Rattle.std.specs.List.{CopiedTo, SameBelow, SameFrom}
+use Rattle.store.specs.Part.{part_ext}
+use Rattle.store.specs.Row.{row, Written, row_in, row_length, row_at}
+use Rattle.model.specs.Lists.{when◌then◌else◌, member, any_of}
 use Rattle.theory.specs.Cases.{if_true, if_false}
 use Rattle.layout.specs.Rows.{row_count, waiting_row}
 use Rattle.layout.specs.Only.{Only, only_none, only_then, only_written}
@@ -73,50 +75,41 @@ pub record MovedUp (u a n : ℕ) (xs xs' : List ℕ) : Type 0 where
   pub kept : (k : ℕ) → k < a → place_in u xs' k ≡ place_in u xs k
   pub moved : (k : ℕ) → a ≤ k → k < n → place_in u xs' (k + 1) ≡ place_in u xs k
 
--- what is read is written
-pub copied : {xs xs' : List ℕ} {u i v w : ℕ} → v ≡ w → Written xs u waiting_row i v xs' → Written xs u waiting_row i w xs'
-copied {xs} {xs'} {u} {i} e h = subst (λ (x : ℕ). Written xs u waiting_row i x xs') e h
+-- a row that is not this
+other_row : (r : ℕ) → member r (waiting_row ∷ []) ≡ false → r ≡ waiting_row → ⊥
+unfolding member any_of
+other_row r n e = true≢false (sym (ap (λ (t : Bool). t || false) (eq-eqb r waiting_row e)) ∙ n)
 
--- those from i on have
-pub record Moving (u a n : ℕ) (xs xs' : List ℕ) (i : ℕ) : Type 0 where
-  pub low : a ≤ i
-  pub high : i ≤ n
-  pub only : Only (waiting_row ∷ []) u xs xs'
-  pub kept : (k : ℕ) → k ≤ i → place_in u xs' k ≡ place_in u xs k
-  pub moved : (k : ℕ) → i ≤ k → k < n → place_in u xs' (k + 1) ≡ place_in u xs k
+-- by one copy, from b on, where the row begins
+module _ {u a n b : ℕ} (xs xs' : List ℕ) (long : row_count * u ≤ length xs) (low : a ≤ n) (fits : n < u) (row_b : b ≡ waiting_row * u)
+    (same : length xs' ≡ length xs) (copied : CopiedTo xs xs' (b + a) (b + a + 1) (b + n - (b + a)))
+    (below : SameBelow xs xs' (b + a + 1)) (from : SameFrom xs xs' (b + a + 1 + (b + n - (b + a)))) where
+  kept_row : (r : ℕ) → r < row_count → Dec (r < waiting_row) → (r ≡ waiting_row → ⊥) → row xs' u r ≡ row xs u r
+  unfolding row
+  kept_row r h d e =
+      part_ext xs' (r * u) u (row xs u r) (omega (arith, row_in u row_count r h, long, same)) (row_length xs u row_count r long h)
+      (λ i l. outside d i l ∙ sym (row_at xs u r i l))
+    where
+      outside : Dec (r < waiting_row) → (i : ℕ) → i < u → get_or xs' (r * u + i) 0 ≡ get_or xs (r * u + i) 0
+      outside (yes c) i l = below (r * u + i) 0 (omega (arith, row_in u waiting_row r c, row_b))
+      outside (no c) i l = from (r * u + i) 0 (omega (arith, row_in u r waiting_row (let k : waiting_row < r = omega arith in k), row_b))
 
-pub moving_first : (u a n : ℕ) (xs : List ℕ) → a ≤ n → Moving u a n xs xs n
-moving_first u a n xs h = record {
-  low = h;
-  high = omega arith;
-  only = only_none (waiting_row ∷ []) u xs;
-  kept = λ k b. refl;
-  moved = λ k b c. absurd (omega arith);
-}
-
-module _ {u a n : ℕ} {xs xs₁ : List ℕ} {i : ℕ} (long : row_count * u ≤ length xs) (fits : n < u) (m : Moving u a n xs xs₁ i) where
-  pub moving_long : row_count * u ≤ length xs₁
-  moving_long = omega (arith, long, m.only.long)
-
-  pub moving_next : {xs₂ : List ℕ} → a < i → Written xs₁ u waiting_row (i - 1 + 1) (place_in u xs₁ (i - 1)) xs₂ → Moving u a n xs xs₂ (i - 1)
-  moving_next {xs₂} more wrote = record {
-    low = omega arith;
-    high = omega (arith, m.high);
-    only = only_then m.only (only_written moving_long (omega arith) (omega (arith, m.high)) wrote);
-    kept = λ k b. place_other moving_long (omega (arith, m.high)) wrote k (omega arith) ∙ m.kept k (omega arith);
-    moved = λ k b c. go k b c (ℕ_discrete k (i - 1));
+  pub moved_up : MovedUp u a n xs xs'
+  moved_up = record {
+    only = record {
+      long = same;
+      rows = λ r h m. kept_row r h (dec_lt r waiting_row) (other_row r m);
+      behind = λ m i h. from i 0 (omega (arith, row_in u row_count waiting_row (let k : waiting_row < row_count = omega arith in k), row_b));
+    };
+    kept = λ k c. place xs' k (omega arith) ∙ below (b + k) 0 (omega arith) ∙ sym (place xs k (omega arith));
+    moved = λ k c d.
+        place xs' (k + 1) (omega arith) ∙ copied (b + (k + 1)) 0 (omega arith) (omega arith)
+        ∙ ap (λ (x : ℕ). get_or xs x 0) (let e : b + a + (b + (k + 1) - (b + a + 1)) ≡ b + k = omega arith in e)
+        ∙ sym (place xs k (omega arith));
   }
     where
-      go : (k : ℕ) → i - 1 ≤ k → k < n → Dec (k ≡ i - 1) → place_in u xs₂ (k + 1) ≡ place_in u xs k
-      go k b c (yes e) = rw e (place_own moving_long (omega (arith, m.high)) wrote ∙ m.kept (i - 1) (omega arith))
-      go k b c (no e) = place_other moving_long (omega (arith, m.high)) wrote (k + 1) (omega arith) ∙ m.moved k (omega arith) c
-
-pub moving_end : {u a n : ℕ} {xs xs' : List ℕ} {i : ℕ} → Moving u a n xs xs' i → i ≤ a → MovedUp u a n xs xs'
-moving_end m e = record {
-  only = m.only;
-  kept = λ k b. m.kept k (omega (arith, m.low));
-  moved = λ k b c. m.moved k (omega arith) c;
-}
+      place : (ys : List ℕ) (k : ℕ) → k < u → place_in u ys k ≡ get_or ys (b + k) 0
+      place ys k h = row_at ys u waiting_row k h ∙ ap (λ (x : ℕ). get_or ys (x + k) 0) (sym row_b)
 
 -- ---- the place is in the list
 

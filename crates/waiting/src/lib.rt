@@ -2,9 +2,7 @@
 #![tactic(auto)]
 
 ghost use Rattle.std.specs.Prelude.{◌≡◌, ◌+◌, ◌*◌, ◌≤◌, ◌<◌, length};
-ghost use Rattle.store.specs.Row.{Written};
-ghost use Rattle.layout.specs.Rows.{row_count, waiting_row};
-ghost use Rattle.waiting.specs.Places.{place_in};
+ghost use Rattle.layout.specs.Rows.{row_count};
 ghost use Rattle.waiting.specs.Inserting.{UpTo, is_last, MovedUp, InsertPre, Inserted};
 
 use layout::WAITING;
@@ -30,24 +28,13 @@ fn is_last(numbers: &[u32], u: usize, n: usize, j: usize) -> bool
     n != 0 && store::read(numbers, u, WAITING, n - 1) as usize == j
 }
 
-// Place i is copied to the next.
-fn copy_up(numbers: &mut [u32], u: usize, i: usize)
-    requires { (row_count * u ≤ length numbers.old) × (i + 1 < u) }
-    ensures { Written numbers.old u waiting_row (i + 1)
-        (place_in u numbers.old i) numbers.new }
-{
-    let v = store::read(&numbers[..], u, WAITING, i);
-    store::write(numbers, u, WAITING, i + 1, v);
-}
-
 // Places a to n move up by one.
 fn move_up(numbers: &mut [u32], u: usize, a: usize, n: usize)
     requires { (row_count * u ≤ length numbers.old) × (a ≤ n) × (n < u) }
     ensures { MovedUp u a n numbers.old numbers.new }
 {
-    for i in (a..n).rev() {
-        copy_up(numbers, u, i);
-    }
+    let base = WAITING * u;
+    numbers.copy_within(base + a..base + n, base + a + 1);
 }
 
 // Place j comes into the list of n places, unless it is there; how many there are then.

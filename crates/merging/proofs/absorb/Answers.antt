@@ -10,8 +10,8 @@ absorb-requires c = absorb_some c.requires
 pub returns-in_err-after : goal.returns-in_err-after
 returns-in_err-after c = rw (is_limit _ c.from_residual.ensures.0) (f_limit c.absorb.ensures.0, λ m n p h. absorbed_limit c.absorb.ensures h c.in_err-after.was)
 
-pub overflow_add-s : goal.overflow_add-s
-overflow_add-s c = omega (arith, c.requires.it.few)
+pub overflow_add-result : goal.overflow_add-result
+overflow_add-result c = omega (arith, c.requires.it.few)
 
 pub returns : goal.returns
 returns c = (

@@ -15,8 +15,8 @@ returns-then-lookback-out c = reach_far c.requires _ c.if-lookback-out.true
 pub loop-i-init : goal.loop-i-init
 loop-i-init c = passed_first c.requires
 
-pub overflow_add-j : goal.overflow_add-j
-overflow_add-j c = omega (arith, c.loop-i.invariant.low, c.ranges.out)
+pub overflow_add-i-start : goal.overflow_add-i-start
+overflow_add-i-start c = omega (arith, c.requires.before, c.ranges.out)
 
 pub blocks-requires : goal.blocks-requires
 blocks-requires c = blocks_pre c.requires c.loop-i.invariant c.loop-i-test.true

@@ -1,5 +1,6 @@
 -- It is not to wait, or it comes into the list. Assumes nothing.
 use Rattle.merging.specs.Steps.{place_quiet, insert_pre, place_named}
+use mathlib.Core.Path.{refl}
 use native.Mathlib.Omega.{arith}
 use Rattle.merging.proofs.name_place.Goals as goal
 

@@ -1,15 +1,15 @@
--- By the tag, then by the setting. Assumes nothing.
-use Rattle.stream_items.specs.Behind.{named_rotation, named_off, named_on, named_from}
+-- By the setting, then by the tag. Assumes nothing.
+use mathlib.Core.Path.{ap, ◌∙◌}
+use mathlib.Core.Bool.{not}
+use Rattle.std.proofs.Common.{eq-eqb}
+use Rattle.stream_items.specs.Behind.{named_rotation, named_unset, named_from}
 use Rattle.stream_items.proofs.is_named.Goals as goal
 
-pub returns-then-x-eq0 : goal.returns-then-x-eq0
-returns-then-x-eq0 c = named_rotation _ _ c.if-x-eq0.true
-
 pub returns-in-Off : goal.returns-in-Off
-returns-in-Off c = named_off _ _ c.if-x-eq0.false c.in-Off.is
+returns-in-Off c = named_unset _ c.in-Off.is
 
-pub returns-in-On : goal.returns-in-On
-returns-in-On c = named_on _ _ c.if-x-eq0.false c.in-On.is
+pub returns-then-x-ne0 : goal.returns-then-x-ne0
+returns-then-x-ne0 c = named_from _ _ c.if-x-ne0.true c.in-From.is
 
-pub returns-in-From : goal.returns-in-From
-returns-in-From c = named_from _ _ c.if-x-eq0.false c.in-From.is
+pub returns-else-x-ne0 : goal.returns-else-x-ne0
+returns-else-x-ne0 c = ap not (eq-eqb _ _ c.if-x-ne0.false) ∙ named_rotation _ _ c.if-x-ne0.false

@@ -2,13 +2,11 @@
 use Rattle.stream_items.specs.Waiting.{picks_all, picks_some}
 use Rattle.stream_items.proofs.picks.Goals as goal
 
-pub returns-then-all : goal.returns-then-all
-returns-then-all c = picks_all c.args.z c.args.all c.args.b c.args.id c.args.words.now c.if-all.true
+pub returns-in-None : goal.returns-in-None
+returns-in-None c = picks_all c.args.z c.args.b c.args.words.now c.in-None.is
 
 pub anticommute-requires : goal.anticommute-requires
-anticommute-requires c = (c.requires.held, c.requires.there, c.requires.axis c.if-all.false)
+anticommute-requires c = (c.requires.held, c.requires.there, c.requires.axis _ c.in-Some.is)
 
-pub returns : goal.returns
-returns c =
-    picks_some c.args.z c.args.all c.args.b c.args.id c.args.words.now c.if-all.false
-    c.anticommute.ensures
+pub returns-in-Some : goal.returns-in-Some
+returns-in-Some c = picks_some c.args.z c.args.b c.args.words.now c.in-Some.is c.anticommute.ensures

@@ -27,11 +27,11 @@ overflow_add-moved c =
 pub put_item-requires : goal.put_item-requires
 put_item-requires c = barrier_entry c.carry.ensures c.requires.it (with_next _ c.in_ok-image.was c.with_image-to.ensures)
 
-pub overflow_add-s : goal.overflow_add-s
-overflow_add-s c = omega (arith, barrier_small c.carry.ensures c.requires.it (with_next _ c.in_ok-image.was c.with_image-to.ensures))
+pub overflow_add-result : goal.overflow_add-result
+overflow_add-result c = omega (arith, barrier_small c.carry.ensures c.requires.it (with_next _ c.in_ok-image.was c.with_image-to.ensures))
 
-pub overflow_add-s-2 : goal.overflow_add-s-2
-overflow_add-s-2 c = omega (arith, barrier_small c.carry.ensures c.requires.it (with_next _ c.in_ok-image.was c.with_image-to.ensures))
+pub overflow_add-result-2 : goal.overflow_add-result-2
+overflow_add-result-2 c = omega (arith, barrier_small c.carry.ensures c.requires.it (with_next _ c.in_ok-image.was c.with_image-to.ensures))
 
 pub returns : goal.returns
 returns c = (

@@ -1,9 +1,12 @@
 -- Items i and later are still to be read, by the present rules. Assumes nothing.
 use Rattle.stream_items.specs.Loop.{reading_first, reading_entry, reading_turn, reading_left, reading_limit, reading_next}
 use Rattle.stream_items.specs.Loop.{reading_all, reading_end, reading_ended}
+use mathlib.Core.Path.{refl, sym, ◌∙◌}
+use Rattle.stream_items.specs.Behind.{state_begun, state_kept, rules_begun, rules_kept}
 use Rattle.stream_states.specs.States.{left_then}
 use native.Mathlib.Omega.{arith}
 use Rattle.steps.specs.State.{is_limit}
+use Rattle.stream_items.proofs.stream_items.Goals.{then-begins, else-begins}
 use Rattle.stream_items.proofs.stream_items.Goals as goal
 
 pub loop-i-init : goal.loop-i-init
@@ -15,17 +18,17 @@ item_at-x-requires c = reading_entry c.loop-i.invariant c.loop-i-test.true c.req
 pub stream_item-requires : goal.stream_item-requires
 stream_item-requires c = reading_turn c.loop-i.invariant c.loop-i-test.true c.item_at-x.ensures c.requires
 
-pub shape_of-words-in_err-s : goal.shape_of-words-in_err-s
-shape_of-words-in_err-s c = (reading_left c.loop-i.invariant c.loop-i-test.true c.item_at-x.ensures c.stream_item.ensures).words.long
+pub shape_of-words-in_err-st : goal.shape_of-words-in_err-st
+shape_of-words-in_err-st c = (reading_left c.loop-i.invariant c.loop-i-test.true c.item_at-x.ensures c.stream_item.ensures).words.long
 
-pub shape_of-numbers-in_err-s : goal.shape_of-numbers-in_err-s
-shape_of-numbers-in_err-s c = (reading_left c.loop-i.invariant c.loop-i-test.true c.item_at-x.ensures c.stream_item.ensures).numbers.long
+pub shape_of-numbers-in_err-st : goal.shape_of-numbers-in_err-st
+shape_of-numbers-in_err-st c = (reading_left c.loop-i.invariant c.loop-i-test.true c.item_at-x.ensures c.stream_item.ensures).numbers.long
 
-pub returns-in_err-s : goal.returns-in_err-s
-returns-in_err-s c = rw (is_limit _ c.from_residual.ensures.0) (
+pub returns-in_err-st : goal.returns-in_err-st
+returns-in_err-st c = rw (is_limit _ c.from_residual.ensures.0) (
   reading_left c.loop-i.invariant c.loop-i-test.true c.item_at-x.ensures c.stream_item.ensures,
   reading_limit
-      c.loop-i.invariant c.loop-i-test.true c.item_at-x.ensures c.stream_item.ensures c.in_err-s.was,
+      c.loop-i.invariant c.loop-i-test.true c.item_at-x.ensures c.stream_item.ensures c.in_err-st.was,
 )
 
 pub overflow_step-i : goal.overflow_step-i
@@ -36,8 +39,13 @@ loop-i-smaller c = omega (arith, c.loop-i-test.true)
 
 pub loop-i-preserved : goal.loop-i-preserved
 loop-i-preserved c =
-    rw (c.state_behind-st.ensures, c.rules_behind-present.ensures, c.begins-begin.ensures) (reading_next c.loop-i.invariant c.loop-i-test.true
-    c.item_at-x.ensures c.stream_item.ensures c.requires _ c.in_ok-s.was)
+    let next = reading_next c.loop-i.invariant c.loop-i-test.true c.item_at-x.ensures c.stream_item.ensures c.requires _ c.in_ok-st.was in
+    elim c.if-begins.branch [ then-begins w ↦
+      let begin = sym c.begins.ensures ∙ w.if-begins.true in
+      rw (w.st-is ∙ state_begun c.in_ok-st.st begin refl, w.present-is ∙ rules_begun c.loop-i.present begin) next
+    | else-begins w ↦
+      let begin = sym c.begins.ensures ∙ w.if-begins.false in
+      rw (w.st-is ∙ state_kept c.in_ok-st.st begin, w.present-is ∙ rules_kept c.loop-i.present begin) next ]
 
 pub absorb_all-requires : goal.absorb_all-requires
 absorb_all-requires c = reading_all c.loop-i.invariant c.loop-i-test.false c.requires

@@ -4,6 +4,7 @@ use Rattle.stream_states.specs.States.{left_none}
 use Rattle.merging.specs.Steps.{absorbed_left}
 use Rattle.stream_items.specs.Waiting.{turn_read, turn_entry, turn_small, turned_over, turn_picks, turned_left, left_kept}
 use Rattle.stream_items.specs.Waiting.{turn_merged, turned_absorbed}
+use mathlib.Core.Path.{refl}
 use native.Mathlib.Omega.{arith}
 use Rattle.stream_items.proofs.waiting_turn.Goals as goal
 
@@ -31,8 +32,8 @@ overflow_cast-j-then-not-picks c = omega (arith, turn_small c.requires.it c.read
 pub write-requires : goal.write-requires
 write-requires c = (c.requires.it.at.granted.numbers_long, omega arith, omega (arith, c.requires.it.kept, c.requires.it.index))
 
-pub overflow_add-st : goal.overflow_add-st
-overflow_add-st c = omega (arith, c.requires.it.kept, c.requires.it.index, c.requires.it.at.granted.sized.u_small)
+pub overflow_add-result : goal.overflow_add-result
+overflow_add-result c = omega (arith, c.requires.it.kept, c.requires.it.index, c.requires.it.at.granted.sized.u_small)
 
 pub returns-then-not-picks : goal.returns-then-not-picks
 returns-then-not-picks c = (
@@ -40,7 +41,7 @@ returns-then-not-picks c = (
       c.sizes_of-z.ensures c.write.ensures,
   λ n p h. turned_left h c.read-j.ensures c.item_at-x.ensures
       c.waits.ensures c.if-not-waits.false c.sizes_of-z.ensures c.picks.ensures
-      c.if-not-picks.true c.write.ensures c.with_waiting.ensures,
+      c.if-not-picks.true c.write.ensures refl,
 )
 
 pub absorb_place-requires : goal.absorb_place-requires
