@@ -135,7 +135,7 @@ module _ (o : Options) {z : Shape} {ns os rs : List ℕ} {d : Result Decided Pac
   pub conclude_stop : {e : PackingRefusal} {r : Refusal} → d ≡ Err e → packing_answer (Err e) ≡ Err r → {vs ys : List ℕ}
       → vs ≡ zeros ws → ys ≡ zeros xs → reply_of (Err r) (lent_of vs ys to rt) ≡ reply_in z o ns os rs (lent_of ws xs to rt)
   conclude_stop {e} {r} f g words numbers =
-      reply_stopped r to rt words numbers
+      reply_stopped r ws xs to rt words numbers
       ∙ sym (run_stopped (rules_of o) (program_in z ns os rs) (lent_of ws xs to rt) z.limit (run_in z o ns os rs) (Err r)
       (h.decision.refused e f ∙ g) (λ k. cc))
 

@@ -34,7 +34,7 @@ unfolding refused
 reply_refused e s = refl
 
 -- 9 and 10: the work stores are zero
-pub reply_stopped : (e : Refusal) {ws xs vs ys : List ℕ} (to rt : List ℕ) → vs ≡ zeros ws → ys ≡ zeros xs
+pub reply_stopped : (e : Refusal) (ws xs to rt : List ℕ) {vs ys : List ℕ} → vs ≡ zeros ws → ys ≡ zeros xs
     → reply_of (Err e) (lent_of vs ys to rt) ≡ stopped (Err e) (lent_of ws xs to rt)
 unfolding stopped
-reply_stopped e to rt words numbers = rw (words, numbers) refl
+reply_stopped e ws xs to rt words numbers = rw (words, numbers) refl

@@ -22,12 +22,7 @@ abbrev pub axes_in : Result Answered Refusal → ℕ
 axes_in (Ok a) = a.axes
 axes_in (Err e) = 0
 
-module _ {o : Options} {j : Job} {s s' : Lent} {e : Refusal} where
-  -- the core's refusal, with counters at 0
-  pub refused_called : {c : Counters} → c ≡ no_counters → CalledBy o j s (Err e) s' → Called o j s (Err e) c 0 0 s'
-  refused_called f call = subst (λ (c : Counters). Called o j s (Err e) c 0 0 s') (sym f) call
-
-  -- back: the counters that a refusal leaves are 0
-  pub refused_by : {c : Counters} → Called o j s (Err e) c 0 0 s' → CalledBy o j s (Err e) s'
-  refused_by call =
-      subst (λ (c : Counters). Called o j s (Err e) c 0 0 s') (sym (counters_are call) ∙ refused_counters o j s e (answer_is call)) call
+-- the counters that a refusal leaves are 0
+pub refused_called : {o : Options} {j : Job} {s s' : Lent} {e : Refusal} {c : Counters} → Called o j s (Err e) c 0 0 s' → CalledBy o j s (Err e) s'
+refused_called {o} {j} {s} {s'} {e} call =
+    subst (λ (c : Counters). Called o j s (Err e) c 0 0 s') (sym (counters_are call) ∙ refused_counters o j s e (answer_is call)) call

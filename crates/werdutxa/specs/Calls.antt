@@ -102,17 +102,17 @@ module _ {c c' : Counts} {o o' : Options} (n p q : List ℕ) (s : Lent) (e : c �
       → r ≡ number_of (checking o' (job_of c' n p q) s)
   check_number g h = h ∙ ap number_of (g ∙ ap₂ (λ (x : Counts) (y : Options). checking y (job_of x n p q) s) e f)
 
-  at : {x : Result Rewritten Refusal} {s' : Lent} → CalledBy o (job_of c n p q) s x s' → CalledBy o' (job_of c' n p q) s x s'
-  at call = called_at f (ap (λ (y : Counts). job_of y n p q) e) call
+  at : (x : Result Rewritten Refusal) {s' : Lent} → CalledBy o (job_of c n p q) s x s' → CalledBy o' (job_of c' n p q) s x s'
+  at x call = called_at f (ap (λ (y : Counts). job_of y n p q) e) call
 
   pub exported_call : {x : Rewritten} {s' : Lent} {counted : List ℕ} → CalledBy o (job_of c n p q) s (Ok x) s'
       → counted ≡ counted_by x.counters x.operations x.axes → ExportedCall o' (job_of c' n p q) s 0 counted s'
-  exported_call call d = exported (at call) refl d
+  exported_call {x} call d = exported (at (Ok x) call) refl d
 
   pub exported_refusal : {e : Refusal} {s' : Lent} {r : ℕ} → CalledBy o (job_of c n p q) s (Err e) s' → r ≡ refusal_number e
       → ExportedCall o' (job_of c' n p q) s r (replicate 14 0) s'
   unfolding counted_by
-  exported_refusal call a = exported (at call) a refl
+  exported_refusal {e} call a = exported (at (Err e) call) a refl
 
 pub exported_listing : {text out : List ℕ} {s : Lent} {l : Listed} {out' : List ℕ} {s' : Lent} {r size : ℕ}
     → ListingCalled text out s l.answer l.size out' s' → r ≡ number_of l.answer → size ≡ l.size
