@@ -121,7 +121,7 @@ fn carry_word(words: &mut [u64], numbers: &[u32], shape: Shape, id: usize) -> u3
 {
     let scratch = layout::scratch_at(shape.limit);
     let e = scratch + 2 * shape.l;
-    store::zero_words(&mut words[scratch..e]);
+    words[scratch..e].fill(0);
     carry_letters(words, numbers, shape, id)
 }
 

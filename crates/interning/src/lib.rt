@@ -146,7 +146,7 @@ pub fn clear_chains(numbers: &mut [u32], u: usize)
 {
     let a = layout::heads_at(u);
     let e = layout::links_at(u);
-    store::zero_numbers(&mut numbers[a..e]);
+    numbers[a..e].fill(0);
 }
 
 // Beside the next axis stands, where words are longer than one number, the signature of its word w.

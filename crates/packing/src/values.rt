@@ -49,7 +49,7 @@ pub fn evaluate(words: &mut [u64], numbers: &[u32], shape: Shape, x: NodeRecord)
     match x {
         NodeRecord::Identity => {
             let e = at + 2 * shape.l;
-            store::zero_words(&mut words[at..e]);
+            words[at..e].fill(0);
             Phase(0)
         }
         NodeRecord::Letter { qubit, letter } => {

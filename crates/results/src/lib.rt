@@ -161,7 +161,7 @@ fn operation_results(operations: &[u32], numbers: &[u32], u: usize, k: usize, to
     ensures { ResultsWritten operations.now numbers.now u k to.old to.new }
 {
     write_operations(operations, numbers, u, k, to);
-    store::zero_numbers(&mut to[6 * k..]);
+    to[6 * k..].fill(0);
 }
 
 // Row i, whose axis and sign are these: kept where it has none or nothing changed.
@@ -213,7 +213,7 @@ fn row_results(numbers: &[u32], shape: Shape, changed: bool, to: &mut [u32])
     ensures { to.new ≡ then_zeros to.old (rows_to changed shape numbers.now (2 * shape.qubits)) }
 {
     write_rows(numbers, shape, changed, to);
-    store::zero_numbers(&mut to[8 * shape.qubits..]);
+    to[8 * shape.qubits..].fill(0);
 }
 
 // Zeros in the words from a place on, and in all numbers.
@@ -221,8 +221,8 @@ pub fn clean(words: &mut [u64], numbers: &mut [u32], from: usize)
     requires { from ≤ length words.old }
     ensures { (words.new ≡ zeroed_from words.old from) × (numbers.new ≡ zeros numbers.old) }
 {
-    store::zero_words(&mut words[from..]);
-    store::zero_numbers(numbers);
+    words[from..].fill(0);
+    numbers.fill(0);
 }
 
 // The last step of an accepted run with k items and n axes: results, then zeros; axis words, then zeros; the numbers zero.

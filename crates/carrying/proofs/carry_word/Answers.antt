@@ -9,13 +9,13 @@ pub carry_letters-requires : goal.carry_letters-requires
 carry_letters-requires c =
     zeros_some c.requires c.scratch_at-scratch.ensures
     (zeros_lent _ _ _ _ (omega (arith, c.scratch_at-scratch.ensures, (carry_granted c.requires.it).words_long))
-    c.zero_words.ensures)
+    (c.fill.ensures.after (λ y h. h)))
 
 pub returns : goal.returns
 returns c =
     let zeros
     = zeros_lent c.args.words.now c.scratch_at-scratch.result (2 * c.args.shape.l)
-    c.zero_words.new.d (omega (arith, c.scratch_at-scratch.ensures, (carry_granted c.requires.it).words_long))
-    c.zero_words.ensures in
+    c.fill.new.self (omega (arith, c.scratch_at-scratch.ensures, (carry_granted c.requires.it).words_long))
+    (c.fill.ensures.after (λ y h. h)) in
     λ t h. zeros_carried h c.scratch_at-scratch.ensures zeros
     (c.carry_letters.ensures t (zeros_carry h c.scratch_at-scratch.ensures zeros))

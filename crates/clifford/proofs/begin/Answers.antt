@@ -7,5 +7,5 @@ use Rattle.clifford.proofs.begin.Goals as goal
 pub returns : goal.returns
 returns c =
     begin_holds c.requires c.mask_at-a.ensures
-    (zeros_lent _ _ _ _ (omega (arith, c.requires.words_long, c.mask_at-a.ensures)) c.zero_words.ensures)
+    (zeros_lent _ _ _ _ (omega (arith, c.requires.words_long, c.mask_at-a.ensures)) (c.fill.ensures.after (λ y h. h)))
     c.clear_row.ensures

@@ -6,4 +6,4 @@ pub returns : goal.returns
 returns c =
     chains_cleared c.requires
     (heads_lent c.args.u c.args.numbers.now c.requires c.heads_at-a.ensures c.links_at-e.ensures
-    c.zero_numbers.ensures)
+    (c.fill.ensures.after (λ y h. h)))

@@ -6,4 +6,4 @@ use Rattle.results.proofs.clean.Goals as goal
 
 pub returns : goal.returns
 unfolding zeros
-returns c = (zeroed_lent _ _ _ _ refl c.requires c.zero_words.ensures, c.zero_numbers.ensures)
+returns c = (zeroed_lent _ _ _ _ refl c.requires (c.fill.ensures.after (λ y h. h)), c.fill-2.ensures.after (λ y h. h))

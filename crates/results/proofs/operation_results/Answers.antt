@@ -7,4 +7,4 @@ use Rattle.results.proofs.operation_results.Goals as goal
 
 pub returns : goal.returns
 returns c =
-    results_written c.requires c.write_operations.ensures (zeroed_lent _ _ _ _ refl (omega arith) c.zero_numbers.ensures)
+    results_written c.requires c.write_operations.ensures (zeroed_lent _ _ _ _ refl (omega arith) (c.fill.ensures.after (λ y h. h)))

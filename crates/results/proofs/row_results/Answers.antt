@@ -7,4 +7,4 @@ use Rattle.results.proofs.row_results.Goals as goal
 
 pub returns : goal.returns
 returns c =
-    rows_written _ _ _ c.requires c.write_rows.ensures (zeroed_lent _ _ _ _ refl (omega arith) c.zero_numbers.ensures)
+    rows_written _ _ _ c.requires c.write_rows.ensures (zeroed_lent _ _ _ _ refl (omega arith) (c.fill.ensures.after (λ y h. h)))

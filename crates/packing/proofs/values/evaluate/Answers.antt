@@ -6,7 +6,7 @@ use Rattle.packing.proofs.values.evaluate.Goals as goal
 
 pub returns-in-Identity : goal.returns-in-Identity
 returns-in-Identity c =
-    evaluated_identity _ _ _ _ _ _ c.scratch_at-at.ensures c.in-Identity.is c.requires.scratch c.zero_words.ensures
+    evaluated_identity _ _ _ _ _ _ c.scratch_at-at.ensures c.in-Identity.is c.requires.scratch (c.fill.ensures.after (λ y h. h))
 
 pub put_letter-requires : goal.put_letter-requires
 put_letter-requires c =
