@@ -1,4 +1,4 @@
-// 01's `Axes`: a view of the word store that carries the width l. Thin functions over the ones that take slice and width.
+// 01's `Axes`: a view of the word store that carries the width l, thin over the functions that take slice and width.
 #![tactic(auto)]
 
 ghost use Rattle.std.specs.Prelude.{◌≡◌, ℕ, ◌+◌, ◌*◌, ◌<◌, ◌≤◌, length};
@@ -12,19 +12,30 @@ pub struct Axes<'a> {
     pub l: usize,
 }
 
-// A view of the stored axes' words: the caller cuts the slice at their end.
-pub fn view<'a>(words: &'a [u64], l: usize) -> Axes<'a>
-    ensures { (result.words ≡ words.entry) × (result.l ≡ l) }
-{
-    Axes { words, l }
-}
+impl<'a> Axes<'a> {
+    // A view of the stored axes' words: the caller cuts the slice at their end.
+    pub fn new(words: &'a [u64], l: usize) -> Axes<'a>
+        ensures { (result.words ≡ words.entry) × (result.l ≡ l) }
+    {
+        Axes { words, l }
+    }
 
-// The word of axis id, inside the store.
-pub fn get<'a>(a: Axes<'a>, id: usize) -> &'a [u64]
-    requires { axis_place a.l id + 2 * a.l ≤ length a.words.now }
-    ensures { (n : ℕ) → id < n → result.now ≡ word_of (axes_of a.entry.l n a.entry.words.now) id }
-{
-    axes::axis(a.words, id, a.l)
+    // The word of axis id, inside the store.
+    pub fn get(self, id: usize) -> &'a [u64]
+        requires { axis_place self.l id + 2 * self.l ≤ length self.words.now }
+        ensures { (n : ℕ) → id < n → result.now ≡ word_of (axes_of self.entry.l n self.entry.words.now) id }
+    {
+        axes::axis(self.words, id, self.l)
+    }
+
+    // The number of stored axes, in a view that ends with them.
+    pub fn len(self) -> usize
+        requires { (0 < self.l) × (self.l ≤ 64) }
+        ensures { (result ≡ axes_in self.entry.l self.entry.words.now)
+            × ((n : ℕ) → length self.entry.words.now ≡ axis_place self.entry.l n → result ≡ n) }
+    {
+        count(self.words, self.l)
+    }
 }
 
 // The same for a caller that has no view: the word of axis id, through one.
@@ -32,7 +43,7 @@ pub fn word<'a>(words: &'a [u64], l: usize, id: usize) -> &'a [u64]
     requires { axis_place l id + 2 * l ≤ length words.now }
     ensures { (n : ℕ) → id < n → result.now ≡ word_of (axes_of l n words.now) id }
 {
-    get(view(words, l), id)
+    Axes::new(words, l).get(id)
 }
 
 // How many words of width l lie in a slice.
@@ -41,13 +52,4 @@ fn count(words: &[u64], l: usize) -> usize
     ensures { result ≡ axes_in l words.now }
 {
     words.len() / (2 * l)
-}
-
-// The number of stored axes, in a view that ends with them.
-pub fn len<'a>(a: Axes<'a>) -> usize
-    requires { (0 < a.l) × (a.l ≤ 64) }
-    ensures { (result ≡ axes_in a.entry.l a.entry.words.now)
-        × ((n : ℕ) → length a.entry.words.now ≡ axis_place a.entry.l n → result ≡ n) }
-{
-    count(a.words, a.l)
 }

@@ -111,19 +111,18 @@ fn store(
     Ok(Some(a))
 }
 
-// Word k, laid behind the limit and stored.
+// A word, laid behind the limit and stored.
 fn step(
     rt: &impl Print,
     words: &mut [u64],
     numbers: &mut [u32],
     sizes: Sizes,
     peak: usize,
-    k: usize,
+    w: Word,
 ) -> io::Result<Option<StoredAxis>>
-    requires { Ready sizes peak words.old numbers.old × (k < 22) }
+    requires { Ready sizes peak words.old numbers.old }
     ensures { IfOk result (λ stored. ReadyAfter sizes stored words.new numbers.new) }
 {
-    let w = WORDS[k];
     lay(words, sizes.limit, w.0, w.1);
     store(rt, words, numbers, sizes, peak)
 }
@@ -134,8 +133,8 @@ fn run(rt: &impl Print, words: &mut [u64], numbers: &mut [u32], none: Sizes) -> 
 {
     let mut sizes = none;
     let mut peak = 0;
-    for k in 0..COUNT {
-        let Some(a) = step(rt, words, numbers, sizes, peak, k)? else {
+    for w in WORDS {
+        let Some(a) = step(rt, words, numbers, sizes, peak, w)? else {
             return Ok(());
         };
         sizes.axes = a.axes;

@@ -34,7 +34,7 @@ fn link(numbers: &mut [u32], u: usize, root: usize, node: usize)
     add_use(numbers, u, node);
 }
 
-// A frame row that is no root has no axis.
+// A frame row that is no root has no axis: NO_AXIS, since an entry of lent memory is a number.
 fn no_root(numbers: &mut [u32], u: usize, reference: usize)
     requires { (row_count * u ≤ length numbers.old) × (reference < u) }
     ensures { NoRoot numbers.old u reference numbers.new }

@@ -1,5 +1,5 @@
 -- Both answer the scan's id. Assumes nothing.
-use Rattle.std.proofs.Common.{ℕ, ◌≡◌, ◌∙◌, refl, sym, true, eqb, eq-eqb, arith}
+use Rattle.std.proofs.Common.{ℕ, ◌≡◌, ◌∙◌, refl, sym, true, eqb, eq-eqb}
 use Rattle.std.specs.Prelude.{Option, Some, None}
 use Rattle.std.specs.Option.{option_eq}
 use Rattle.interning.specs.Find.{found_stored}
@@ -10,9 +10,6 @@ same_option None None e = refl
 same_option (Some x) (Some y) e = eq-eqb x y cc
 same_option None (Some y) e = cc
 same_option (Some x) None e = cc
-
-pub scan-requires : goal.scan-requires
-scan-requires c = let held = c.requires in omega (arith, held.within, held.words_long)
 
 pub returns : goal.returns
 returns c =

@@ -1,11 +1,6 @@
 -- The walk begins, ends at no axis, meets the word, or goes on behind another axis. Assumes nothing.
-use Rattle.std.proofs.Common.{arith}
-use Rattle.axes.specs.Held.{held_axis}
-use Rattle.interning.specs.Find.{index_in, walking_first, walking_in, walking_end, walking_axis, walking_here, walking_next}
+use Rattle.interning.specs.Find.{walking_first, walking_in, walking_end, walking_axis, walking_here, walking_next}
 use Rattle.interning.proofs.find.Goals as goal
-
-pub from_head-walk-requires : goal.from_head-walk-requires
-from_head-walk-requires c = omega (arith, index_in c.requires)
 
 pub loop-axis-init : goal.loop-axis-init
 loop-axis-init c = walking_first c.requires _ c.sums_of.ensures c.from_head-walk.ensures
@@ -13,16 +8,10 @@ loop-axis-init c = walking_first c.requires _ c.sums_of.ensures c.from_head-walk
 pub named_at-requires : goal.named_at-requires
 named_at-requires c = walking_in c.requires c.loop-axis.invariant
 
-pub axis-requires : goal.axis-requires
-axis-requires c = held_axis c.requires _ (walking_axis c.requires c.loop-axis.invariant c.in-Some.ensures)
-
 pub returns-then-same : goal.returns-then-same
 returns-then-same c =
     walking_here c.requires c.loop-axis.invariant c.in-Some.ensures c.same.ensures c.if-same.true
     (c.axis.ensures _ (walking_axis c.requires c.loop-axis.invariant c.in-Some.ensures))
-
-pub behind-walk-requires : goal.behind-walk-requires
-behind-walk-requires c = omega (arith, index_in c.requires, walking_axis c.requires c.loop-axis.invariant c.in-Some.ensures)
 
 pub loop-axis-smaller : goal.loop-axis-smaller
 loop-axis-smaller c = (walking_next c.requires c.loop-axis.invariant c.in-Some.ensures c.same.ensures c.if-same.false

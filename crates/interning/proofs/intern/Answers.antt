@@ -1,5 +1,5 @@
 -- Three cases: the word is stored, the limit refuses it, or it is laid behind the axes. Assumes nothing.
-use Rattle.std.proofs.Common.{refl, ap, ◌∙◌, inr, arith}
+use Rattle.std.proofs.Common.{refl, ap, ◌∙◌, arith}
 use Rattle.model.specs.Words.{id_of}
 use Rattle.interning.specs.Intern.{answered_old, answered_limit, answered_new, stores_old, stores_limit, stores_new, beside_there, link_there}
 use Rattle.interning.proofs.intern.Goals as goal
@@ -22,18 +22,6 @@ enter-requires c = (
       c.axis_at-end.ensures c.if-z-sum.false
       c.in-Err.ensures.ends,
 )
-
-pub copy_within-requires : goal.copy_within-requires
-copy_within-requires c = record {
-  source = omega (arith, c.requires.word_in);
-  target = omega
-      (arith, c.axis_at-end.ensures, c.if-z-sum.false, c.requires.held.words_long);
-  apart = inr
-      (omega (arith, c.axis_at-end.ensures, c.if-z-sum.false, c.requires.behind, c.requires.counted));
-}
-
-pub overflow_add-result : goal.overflow_add-result
-overflow_add-result c = omega (arith, c.requires.held.fit.rows _ c.requires.held.within, c.requires.held.numbers_long)
 
 pub returns : goal.returns
 returns c =

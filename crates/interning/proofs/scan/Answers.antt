@@ -1,11 +1,7 @@
 -- The loop's invariant: none of the first id axes is w. Assumes nothing.
 use Rattle.std.proofs.Common.{arith}
-use Rattle.layout.specs.Words.{slots_le}
 use Rattle.interning.specs.Find.{id_here, id_next, id_none, stored_here, stored_none}
 use Rattle.interning.proofs.scan.Goals as goal
-
-pub axis-requires : goal.axis-requires
-axis-requires c = omega (arith, c.requires, slots_le c.args.l c.loop-id.id c.args.axes (omega arith))
 
 pub returns-then-same : goal.returns-then-same
 returns-then-same c =

@@ -1,12 +1,9 @@
 -- The loop's invariant: what the qubits acted on and the marks below n reach is unchanged. Assumes nothing.
 use Rattle.mentions.specs.Nodes.{node_pre}
-use Rattle.mentions.specs.Down.{down_start, down_step, down_end}
+use Rattle.mentions.specs.Down.{down_step, down_end}
 use native.Mathlib.Omega.{arith}
 use borrow.Author.Rules.{rules}
 use Rattle.mentions.proofs.mark_down.Goals as goal
-
-pub loop-n-init : goal.loop-n-init
-loop-n-init c = (omega arith, omega arith, down_start _ _ _ _)
 
 pub mark_from-requires : goal.mark_from-requires
 mark_from-requires c = node_pre c.requires _ (omega arith) c.loop-n.invariant.1

@@ -4,7 +4,7 @@ use mathlib.Core.Bool.{Bool, true, false}
 use mir.Val.{bool_byte}
 use Rattle.model.specs.Lists.{when◌then◌else◌}
 use Rattle.mentions.specs.Nodes.{node_pre}
-use Rattle.mentions.specs.Relevant.{relevant_none, relevant_next, relevant_all}
+use Rattle.mentions.specs.Relevant.{relevant_next}
 use native.Mathlib.Omega.{arith}
 use borrow.Author.Rules.{rules}
 use Rattle.mentions.proofs.relevant_nodes.Goals as goal
@@ -15,19 +15,8 @@ unfolding when◌then◌else◌
 byte-bit true = refl
 byte-bit false = refl
 
-pub loop-n-init : goal.loop-n-init
-loop-n-init c = (omega arith, omega arith, relevant_none _ _ _ _)
-
 pub relevant-r-requires : goal.relevant-r-requires
 relevant-r-requires c = node_pre c.requires _ (omega arith) c.loop-n.invariant.1
-
-pub overflow_cast-r : goal.overflow_cast-r
-overflow_cast-r c = tt
-
-pub write-requires : goal.write-requires
-write-requires c =
-    let h = c.requires in
-    ((let l = h.nodes.long in omega arith), omega arith, (let l = h.nodes.fits in omega arith))
 
 pub loop-n-preserved : goal.loop-n-preserved
 loop-n-preserved c = (
@@ -37,6 +26,3 @@ loop-n-preserved c = (
       c.relevant-r.ensures
       _ (byte-bit _) c.write.ensures,
 )
-
-pub returns : goal.returns
-returns c = relevant_all (omega arith) c.loop-n.invariant.2

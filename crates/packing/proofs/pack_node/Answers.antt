@@ -1,17 +1,10 @@
 -- The node is not used, or it is placed and its roots are packed. Assumes nothing.
 use Rattle.std.proofs.lemmas.Result.{err_from_is_err_and}
-use Rattle.packing.specs.RestKept.{rest_then}
-use Rattle.packing.specs.NodeTurn.{uses_there, node_there, turn_unused, place_there, turn_refused, roots_there, turn_roots}
+use Rattle.packing.specs.NodeTurn.{turn_unused, place_there, turn_refused, roots_there, turn_roots}
 use Rattle.packing.proofs.pack_node.Goals as goal
-
-pub read-requires : goal.read-requires
-read-requires c = uses_there c.requires
 
 pub returns-then-read-eq0 : goal.returns-then-read-eq0
 returns-then-read-eq0 c = turn_unused c.requires c.read.ensures c.if-read-eq0.true
-
-pub node_at-x-requires : goal.node_at-x-requires
-node_at-x-requires c = node_there c.requires
 
 pub place_node-requires : goal.place_node-requires
 place_node-requires c = place_there c.requires c.read.ensures c.if-read-eq0.false c.node_at-x.ensures
@@ -21,23 +14,11 @@ pack_roots-requires c =
     roots_there c.requires c.read.ensures c.if-read-eq0.false c.node_at-x.ensures c.place_node.ensures.0
     c.place_node.ensures.1 c.in_ok-placed.was
 
-pub shape_of-words : goal.shape_of-words
-shape_of-words c = (rest_then c.place_node.ensures.0 c.pack_roots.ensures.0).words.long
-
-pub shape_of-numbers : goal.shape_of-numbers
-shape_of-numbers c = (rest_then c.place_node.ensures.0 c.pack_roots.ensures.0).numbers.long
-
 pub returns : goal.returns
 returns c =
     turn_roots c.requires c.read.ensures c.if-read-eq0.false c.node_at-x.ensures c.place_node.ensures.0
     c.place_node.ensures.1 c.in_ok-placed.was c.pack_roots.result c.pack_roots.ensures.0
     c.pack_roots.ensures.1
-
-pub shape_of-words-in_err-placed : goal.shape_of-words-in_err-placed
-shape_of-words-in_err-placed c = c.place_node.ensures.0.words.long
-
-pub shape_of-numbers-in_err-placed : goal.shape_of-numbers-in_err-placed
-shape_of-numbers-in_err-placed c = c.place_node.ensures.0.numbers.long
 
 pub returns-in_err-placed : goal.returns-in_err-placed
 returns-in_err-placed c =

@@ -1,26 +1,17 @@
 -- A root that is odd is refused; else its word is interned, its axis and sign are written, and its node's use is given up. Assumes nothing.
-use Rattle.packing.specs.RootLaws.{reference_in, node_held, held_small, intern_pre}
+use Rattle.packing.specs.RootLaws.{held_small, intern_pre}
 use Rattle.packing.specs.RestKept.{rest_none}
-use Rattle.packing.specs.RootTurn.{l_small, slots_small, id_small, stored_long}
+use Rattle.packing.specs.RootTurn.{id_small}
 use Rattle.packing.specs.RootTurn.{root_odd, rest_limit, root_limit, root_release, root_rest, root_next}
 use native.Mathlib.Omega.{arith}
 use Rattle.std.proofs.lemmas.Result.{err_from_is_err_and}
 use Rattle.packing.proofs.pack_root.Goals as goal
-
-pub held-v-requires : goal.held-v-requires
-held-v-requires c = node_held c.requires.it
 
 pub overflow_add-total : goal.overflow_add-total
 overflow_add-total c = omega (arith, held_small c.requires.it c.held-v.ensures)
 
 pub returns-then-total-eq1 : goal.returns-then-total-eq1
 returns-then-total-eq1 c = (rest_none _ _ _, λ p h. root_odd h c.held-v.ensures c.if-total-eq1.true)
-
-pub overflow_mul-counted : goal.overflow_mul-counted
-overflow_mul-counted c = omega (arith, l_small c.requires.it)
-
-pub overflow_mul-counted-2 : goal.overflow_mul-counted-2
-overflow_mul-counted-2 c = omega (arith, slots_small c.requires.it)
 
 pub intern-requires : goal.intern-requires
 intern-requires c = intern_pre c.requires.it c.held-v.ensures c.sizes_of-sizes.ensures
@@ -35,25 +26,6 @@ returns-in_err-a c =
 
 pub overflow_cast-a : goal.overflow_cast-a
 overflow_cast-a c = omega (arith, id_small c.requires.it c.held-v.ensures c.sizes_of-sizes.ensures c.intern.ensures c.in_ok-a.was)
-
-pub write-requires : goal.write-requires
-write-requires c = (
-  stored_long c.requires.it c.held-v.ensures c.sizes_of-sizes.ensures c.intern.ensures c.in_ok-a.was,
-  omega arith,
-  reference_in c.requires.it,
-)
-
-pub write-requires-2 : goal.write-requires-2
-write-requires-2 c = (
-  omega (
-    arith,
-    stored_long c.requires.it c.held-v.ensures c.sizes_of-sizes.ensures c.intern.ensures
-        c.in_ok-a.was,
-    c.write.ensures.long,
-  ),
-  omega arith,
-  reference_in c.requires.it,
-)
 
 pub release-free-requires : goal.release-free-requires
 release-free-requires c =

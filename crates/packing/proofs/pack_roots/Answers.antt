@@ -1,12 +1,8 @@
 -- The loop is along the node's links. Assumes nothing.
-use Rattle.packing.specs.RestKept.{rest_then}
-use Rattle.packing.specs.RootsLoop.{first_there, along_first, phase_there, root_there, next_there}
-use Rattle.packing.specs.RootsLoop.{along_next, next_later, along_refused, along_end}
+use Rattle.packing.specs.RootsLoop.{along_first, phase_there, root_there}
+use Rattle.packing.specs.RootsLoop.{along_next, next_later, along_refused}
 use Rattle.std.proofs.lemmas.Result.{err_from_is_err_and}
 use Rattle.packing.proofs.pack_roots.Goals as goal
-
-pub linked_at-next-requires : goal.linked_at-next-requires
-linked_at-next-requires c = first_there c.requires
 
 pub loop-next-init : goal.loop-next-init
 loop-next-init c = along_first _ c.linked_at-next.ensures
@@ -17,20 +13,11 @@ reference_phase-phase-requires c = phase_there c.loop-next.invariant c.in-Some.i
 pub pack_root-requires : goal.pack_root-requires
 pack_root-requires c = root_there c.loop-next.invariant c.in-Some.is _ c.requires c.reference_phase-phase.ensures
 
-pub shape_of-words-in_err-st : goal.shape_of-words-in_err-st
-shape_of-words-in_err-st c = (rest_then c.loop-next.invariant.rest c.pack_root.ensures.0).words.long
-
-pub shape_of-numbers-in_err-st : goal.shape_of-numbers-in_err-st
-shape_of-numbers-in_err-st c = (rest_then c.loop-next.invariant.rest c.pack_root.ensures.0).numbers.long
-
 pub returns-in_err-st : goal.returns-in_err-st
 returns-in_err-st c =
     let refused = err_from_is_err_and c.from_residual.result c.from_residual.ensures.1 in
     rw (refused.1, refused.2) (along_refused c.loop-next.invariant c.in-Some.is c.reference_phase-phase.ensures c.pack_root.ensures.0
     c.pack_root.ensures.1 _ c.in_err-st.was)
-
-pub linked_at-next-requires-in-Some : goal.linked_at-next-requires-in-Some
-linked_at-next-requires-in-Some c = next_there c.loop-next.invariant c.in-Some.is c.requires c.pack_root.ensures.0
 
 pub loop-next-smaller : goal.loop-next-smaller
 loop-next-smaller c =
@@ -41,12 +28,3 @@ pub loop-next-preserved : goal.loop-next-preserved
 loop-next-preserved c =
     along_next c.loop-next.invariant c.in-Some.is c.reference_phase-phase.ensures c.pack_root.ensures.0
     c.pack_root.ensures.1 _ _ c.in_ok-st.was c.linked_at-next-in-Some.ensures
-
-pub shape_of-words : goal.shape_of-words
-shape_of-words c = c.loop-next.invariant.rest.words.long
-
-pub shape_of-numbers : goal.shape_of-numbers
-shape_of-numbers c = c.loop-next.invariant.rest.numbers.long
-
-pub returns : goal.returns
-returns c = along_end c.loop-next.invariant c.in_default.is

@@ -1,11 +1,8 @@
 -- The uses that nodes n and later make are counted. Assumes nothing.
 use Prim.Native.Nat.{◌<◌}
-use Rattle.roots.specs.UseLaws.{uses_start, uses_need, uses_turn, uses_end}
+use Rattle.roots.specs.UseLaws.{uses_need, uses_turn, uses_end}
 use native.Mathlib.Omega.{arith}
 use Rattle.roots.proofs.count_uses.Goals as goal
-
-pub loop-n-init : goal.loop-n-init
-loop-n-init c = uses_start _ _ _ _ c.requires
 
 pub use_children-requires : goal.use_children-requires
 use_children-requires c =
@@ -16,9 +13,6 @@ pub loop-n-preserved : goal.loop-n-preserved
 loop-n-preserved c =
     let h : 0 < c.loop-n.n = omega arith in
     uses_turn _ _ _ _ c.requires _ _ h c.loop-n.invariant _ c.use_children.ensures
-
-pub shape_of-numbers : goal.shape_of-numbers
-shape_of-numbers c = c.loop-n.invariant.only.long
 
 pub returns : goal.returns
 returns c = uses_end _ _ _ _ (omega arith) c.loop-n.invariant

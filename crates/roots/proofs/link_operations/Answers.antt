@@ -1,11 +1,8 @@
 -- The operations from i on are linked, in front of the frame rows. Assumes nothing.
 use Prim.Native.Nat.{◌<◌}
-use Rattle.roots.specs.Linking.{operations_start, operations_need, operations_turn, operations_end}
+use Rattle.roots.specs.Linking.{operations_need, operations_turn}
 use native.Mathlib.Omega.{arith}
 use Rattle.roots.proofs.link_operations.Goals as goal
-
-pub loop-i-init : goal.loop-i-init
-loop-i-init c = operations_start _ _ _
 
 pub link_operation-requires : goal.link_operation-requires
 link_operation-requires c =
@@ -16,9 +13,3 @@ pub loop-i-preserved : goal.loop-i-preserved
 loop-i-preserved c =
     let h : 0 < c.loop-i.i = omega arith in
     operations_turn _ _ _ h c.loop-i.invariant c.link_operation.ensures
-
-pub shape_of-numbers : goal.shape_of-numbers
-shape_of-numbers c = c.loop-i.invariant.only.long
-
-pub returns : goal.returns
-returns c = operations_end _ _ _ (omega arith) c.loop-i.invariant

@@ -1,21 +1,12 @@
 -- The record says the node, and the number store whether it is relevant. Assumes nothing.
 use mathlib.Core.Path.{sym, ◌∙◌}
-use native.Mathlib.Omega.{arith}
 use Rattle.roots.specs.LinkLaws.{row_root, row_none}
 use Rattle.roots.proofs.link_row.Goals as goal
-
-pub read-requires : goal.read-requires
-read-requires c =
-    let p = c.requires.front in
-    (p.long, omega arith, rw c.row_at-node.ensures p.node)
 
 pub returns-then-read-eq0 : goal.returns-then-read-eq0
 returns-then-read-eq0 c =
     let e = c.row_at-node.ensures in
     row_none (rw e at (sym c.read.ensures ∙ c.if-read-eq0.true)) c.no_root.ensures
-
-pub link-requires : goal.link-requires
-link-requires c = rw c.row_at-node.ensures c.requires.front
 
 pub returns : goal.returns
 returns c =

@@ -3,12 +3,6 @@ use Rattle.packing.specs.ValueLaws.{stored_pre, phases_small, evaluated_product}
 use native.Mathlib.Omega.{arith}
 use Rattle.packing.proofs.values.evaluate_product.Goals as goal
 
-pub held-a-requires : goal.held-a-requires
-held-a-requires c = c.requires.inputs.0.held
-
-pub held-b-requires : goal.held-b-requires
-held-b-requires c = c.requires.inputs.1.held
-
 pub product_in-e-requires : goal.product_in-e-requires
 product_in-e-requires c = stored_pre _ _ _ c.requires c.held-a.ensures c.held-b.ensures c.scratch_at-at.ensures
 

@@ -1,9 +1,6 @@
 -- A slot and a phase are read; the slot's place follows. Assumes nothing.
-use Rattle.packing.specs.ValueLaws.{held_fits, held_is}
+use Rattle.packing.specs.ValueLaws.{held_is}
 use Rattle.packing.proofs.values.held.Goals as goal
-
-pub slot_at-requires : goal.slot_at-requires
-slot_at-requires c = held_fits _ _ _ _ c.requires c.read-s.ensures
 
 pub returns : goal.returns
 returns c = held_is _ _ _ _ _ _ c.read-s.ensures c.slot_at.ensures c.read.ensures
