@@ -45,7 +45,13 @@ fn touch_bits(
 }
 
 // Touches the qubits of axis id.
-fn touch_all(words: &mut [u64], numbers: &mut [u32], shape: Shape, first: State, id: usize) -> Result<State, ExpansionLimit>
+fn touch_all(
+    words: &mut [u64],
+    numbers: &mut [u32],
+    shape: Shape,
+    first: State,
+    id: usize,
+) -> Result<State, ExpansionLimit>
     requires { SomeTouched (λ (t : Touched). AxisAt shape first.axes first.slots first.peak id words.old numbers.old t) }
     ensures { LeftF shape words.old numbers.old words.new numbers.new
         × ((t : Touched) → AxisAt shape first.axes first.slots first.peak id words.old numbers.old t

@@ -14,7 +14,13 @@ use steps::State;
 use work::Root;
 
 // Carries the axis of reference j, if it has one.
-fn carry_row(words: &mut [u64], numbers: &mut [u32], shape: Shape, st: State, j: usize) -> Result<State, ExpansionLimit>
+fn carry_row(
+    words: &mut [u64],
+    numbers: &mut [u32],
+    shape: Shape,
+    st: State,
+    j: usize,
+) -> Result<State, ExpansionLimit>
     requires { SomePass (λ m n p. RowAt shape st j words.old numbers.old m n p) }
     ensures { LeftR shape words.old numbers.old words.new numbers.new
         × ((m : Absorption) (n : ℕ) (p : Pass) → RowAt shape st j words.old numbers.old m n p
@@ -36,7 +42,12 @@ fn carry_row(words: &mut [u64], numbers: &mut [u32], shape: Shape, st: State, j:
 }
 
 // Carries all frame rows that are roots.
-fn carry_rows(words: &mut [u64], numbers: &mut [u32], shape: Shape, first: State) -> Result<State, ExpansionLimit>
+fn carry_rows(
+    words: &mut [u64],
+    numbers: &mut [u32],
+    shape: Shape,
+    first: State,
+) -> Result<State, ExpansionLimit>
     requires { SomePass (λ m n p. RowsAt shape first words.old numbers.old m n p) }
     ensures { LeftR shape words.old numbers.old words.new numbers.new
         × ((m : Absorption) (n : ℕ) (p : Pass) → RowsAt shape first words.old numbers.old m n p
@@ -53,7 +64,12 @@ fn carry_rows(words: &mut [u64], numbers: &mut [u32], shape: Shape, first: State
 }
 
 // Carries the frame rows if anything was absorbed.
-pub fn carry_frame(words: &mut [u64], numbers: &mut [u32], shape: Shape, st: State) -> Result<State, ExpansionLimit>
+pub fn carry_frame(
+    words: &mut [u64],
+    numbers: &mut [u32],
+    shape: Shape,
+    st: State,
+) -> Result<State, ExpansionLimit>
     requires { SomePass (λ m n p. RowsAt shape st words.old numbers.old m n p) }
     ensures { LeftR shape words.old numbers.old words.new numbers.new
         × ((m : Absorption) (n : ℕ) (p : Pass) → RowsAt shape st words.old numbers.old m n p

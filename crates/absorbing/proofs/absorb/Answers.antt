@@ -9,7 +9,6 @@ returns-in_err-s c = (
   rw (is_limit _ c.from_residual.ensures.0) (absorb_limit c.touch_all.ensures c.in_err-s.was),
 )
 
-
 pub turn-requires : goal.turn-requires
 turn-requires c = absorb_turns c.touch_all.ensures c.in_ok-s.was c.requires
 

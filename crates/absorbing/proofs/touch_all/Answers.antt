@@ -33,7 +33,6 @@ returns-in_err-st c = (
       c.acted_at-acted.ensures c.touch_bits.ensures c.in_err-st.was),
 )
 
-
 pub overflow_step-j : goal.overflow_step-j
 overflow_step-j c = omega (arith, c.loop-j-test.true, c.requires.it.at.granted.sized.few)
 

@@ -35,7 +35,6 @@ returns-in_err-st c = (
       c.loop-rest-test.true refl c.touch.ensures c.in_err-st.was),
 )
 
-
 pub loop-rest-smaller : goal.loop-rest-smaller
 loop-rest-smaller c = clear_lt _ (omega arith)
 

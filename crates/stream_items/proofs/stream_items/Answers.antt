@@ -40,12 +40,14 @@ loop-i-smaller c = omega (arith, c.loop-i-test.true)
 pub loop-i-preserved : goal.loop-i-preserved
 loop-i-preserved c =
     let next = reading_next c.loop-i.invariant c.loop-i-test.true c.item_at-x.ensures c.stream_item.ensures c.requires _ c.in_ok-st.was in
-    elim c.if-begins.branch [ then-begins w ↦
-      let begin = sym c.begins.ensures ∙ w.if-begins.true in
-      rw (w.st-is ∙ state_begun c.in_ok-st.st begin refl, w.present-is ∙ rules_begun c.loop-i.present begin) next
-    | else-begins w ↦
-      let begin = sym c.begins.ensures ∙ w.if-begins.false in
-      rw (w.st-is ∙ state_kept c.in_ok-st.st begin, w.present-is ∙ rules_kept c.loop-i.present begin) next ]
+    elim c.if-begins.branch [
+      | then-begins w ↦
+          let begin = sym c.begins.ensures ∙ w.if-begins.true in
+          rw (w.st-is ∙ state_begun c.in_ok-st.st begin refl, w.present-is ∙ rules_begun c.loop-i.present begin) next
+      | else-begins w ↦
+          let begin = sym c.begins.ensures ∙ w.if-begins.false in
+          rw (w.st-is ∙ state_kept c.in_ok-st.st begin, w.present-is ∙ rules_kept c.loop-i.present begin) next
+    ]
 
 pub absorb_all-requires : goal.absorb_all-requires
 absorb_all-requires c = reading_all c.loop-i.invariant c.loop-i-test.false c.requires

@@ -9,5 +9,8 @@ pub returns-then-x-ne0 : goal.returns-then-x-ne0
 returns-then-x-ne0 c = waits_even c.args.x c.if-x-ne0.true.0 c.if-x-ne0.true.1
 
 pub returns-else-x-ne0 : goal.returns-else-x-ne0
-returns-else-x-ne0 c = elim c.if-x-eq0.branch [ then-x-eq0 w ↦ waits_none c.args.x w.t-3-is w.if-x-eq0.true c.if-x-ne0.either | else-x-eq0 w ↦
-    w.t-3-is ∙ ne_eqb _ _ w.if-x-eq0.false ∙ waits_barrier c.args.x w.if-x-eq0.false ]
+returns-else-x-ne0 c = elim c.if-x-eq0.branch [
+  | then-x-eq0 w ↦ waits_none c.args.x w.t-3-is w.if-x-eq0.true c.if-x-ne0.either
+  | else-x-eq0 w ↦
+      w.t-3-is ∙ ne_eqb _ _ w.if-x-eq0.false ∙ waits_barrier c.args.x w.if-x-eq0.false
+]
