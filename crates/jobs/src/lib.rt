@@ -12,7 +12,6 @@ mod read;
 
 pub use lend::{Lent, Room, Stores, part};
 pub use read::{numbers, past_blanks};
-pub use reading::read_full;
 
 
 

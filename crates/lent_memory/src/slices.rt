@@ -30,12 +30,10 @@ fn equal_to<T: Number>(s: &[T], from: usize) -> usize
     ensures { (from < result) × (result ≤ length s.now) }
 {
     let v = s[from];
-    for i in from + 1..s.len() {
-        if s[i] != v {
-            return i;
-        }
+    match s[from + 1..].iter().position(|x| *x != v) {
+        Some(n) => from + 1 + n,
+        None => s.len(),
     }
-    s.len()
 }
 
 // Prints what a place and those like it hold; the end of these.

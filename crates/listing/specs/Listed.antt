@@ -22,7 +22,6 @@ use Rattle.theory.specs.Called.{answer_is, counters_are, operations_are, axes_ar
 use Rattle.theory.specs.TCountCalls.{accepted_operations, accepted_axes}
 use Rattle.theory.specs.ListingCalls.{options_of}
 use Rattle.listing_read.specs.declared.Text.{Text}
-use Rattle.listing_read.specs.declared.Text.TheVariants as Texts
 use Rattle.listing_read.specs.Views.{Room, read_by}
 use Rattle.listing_print.specs.Printed.{Printed}
 use Rattle.listing_print.specs.Results.{result_lines, ResultPre}
@@ -127,15 +126,6 @@ module _ (t : Read) (s : Lent) (e : Refusal) (s' : Lent) (call : CalledBy (optio
       (ap refusal_lines (sym (answer_is call)) ∙ sym (refused_lines t s (ap accepts (answer_is call) ∙ refuses e))) p.text
 
 -- ---- Listing
-
-pub text_read : (text nodes operations rows : List ℕ) {r : Text} {c : Counts} {limit : ℕ} → read_by r nodes operations rows ≡ read text
-    → r ≡ Texts.Job c limit
-    → read text ≡ some (read_to c limit nodes operations rows)
-text_read text nodes operations rows e f = sym e ∙ ap (λ (x : Text). read_by x nodes operations rows) f
-
-pub text_bad : (text nodes operations rows : List ℕ) {r : Text} → read_by r nodes operations rows ≡ read text → r ≡ Texts.Bad
-    → read text ≡ none
-text_bad text nodes operations rows e f = sym e ∙ ap (λ (x : Text). read_by x nodes operations rows) f
 
 module _ (text out : List ℕ) (s : Lent) where
   pub no_room : length out < most_bytes → listing_reply_of (record { answer = SliceShort; size = 0 }) out s ≡ listing_call text out s

@@ -27,13 +27,13 @@ fn run(
 }
 
 fn main(rt: HostRuntime) -> io::Result<()> {
-    let mut input = memory::input();
-    let n = jobs::read_full(&mut rt.stdin(), &mut input)?;
-    let mut output = memory::output();
-    let mut words = memory::words();
-    let mut numbers = memory::numbers();
-    let mut operations = memory::operations();
-    let mut rows = memory::rows();
+    let mut input: [u8; memory::INPUT] = programs::zeros();
+    let n = programs::read_full(&mut rt.stdin(), &mut input)?;
+    let mut output: [u8; memory::OUTPUT] = programs::zeros();
+    let mut words: [u64; memory::WORDS] = programs::zeros();
+    let mut numbers: [u32; memory::NUMBERS] = programs::zeros();
+    let mut operations: [u32; memory::OPERATIONS] = programs::zeros();
+    let mut rows: [u32; memory::ROWS] = programs::zeros();
     run(
         &rt,
         &input[..n],

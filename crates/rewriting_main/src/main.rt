@@ -36,14 +36,14 @@ fn run(
 }
 
 fn main(rt: HostRuntime) -> io::Result<()> {
-    let mut input = memory::input();
-    let n = jobs::read_full(&mut rt.stdin(), &mut input)?;
-    let mut records = memory::records();
-    let mut kept = memory::records();
-    let mut words = memory::words();
-    let mut numbers = memory::numbers();
-    let mut result_operations = memory::records();
-    let mut result_rows = memory::records();
+    let mut input: [u8; memory::INPUT] = programs::zeros();
+    let n = programs::read_full(&mut rt.stdin(), &mut input)?;
+    let mut records: [u32; memory::RECORDS] = programs::zeros();
+    let mut kept: [u32; memory::RECORDS] = programs::zeros();
+    let mut words: [u64; memory::WORDS] = programs::zeros();
+    let mut numbers: [u32; memory::NUMBERS] = programs::zeros();
+    let mut result_operations: [u32; memory::RECORDS] = programs::zeros();
+    let mut result_rows: [u32; memory::RECORDS] = programs::zeros();
     run(
         &rt,
         &input[..n],

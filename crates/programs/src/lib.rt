@@ -1,13 +1,20 @@
-// A reader, as standard input, read to its end, or as far as there is room.
+// What the programs share: memory of zeros, and a reader read whole.
 #![tactic(auto)]
 
-ghost use Rattle.std.specs.Prelude.{◌<◌, ◌≤◌, length, take, IfOk};
+ghost use Rattle.std.specs.Prelude.{◌≡◌, ◌<◌, ◌≤◌, length, take, IfOk};
 ghost use Rattle.std.specs.Io.KnownBytes.{Consumes, IsAtEnd};
 
 use std::io;
 use std::io::Read;
 
-// Reads until there is no more room or the input ends; how many bytes were read, from the front.
+// So many zeros. A function, since a proof over a literal so long computes the list.
+pub fn zeros<T: Copy + Default, const N: usize>() -> [T; N]
+    ensures { N ≡ length result }
+{
+    [T::default(); N]
+}
+
+// Reads from a reader, as standard input, until there is no more room or the input ends; how many bytes were read, from the front.
 pub fn read_full<R: Read>(from: &mut R, to: &mut [u8]) -> io::Result<usize>
     ensures bound { IfOk result (λ n. n ≤ length to.new) }
     ensures bytes { IfOk result (λ n. Consumes (R.remaining from.old) (R.remaining from.new) (take n to.new)) }
