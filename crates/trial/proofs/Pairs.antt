@@ -6,7 +6,7 @@ use Rattle.std.specs.Option.{is_some}
 use Rattle.std.proofs.lemmas.Bool.{false≢true, true≢false}
 use Rattle.std.proofs.Math.Option.{Option, none, some, or_else}
 use mathlib.Core.List.{List}
-use Prim.Native.Nat.{ℕ, ◌-◌}
+use Prim.Native.Nat.{ℕ}
 use native.Mathlib.Omega.{arith}
 use Rattle.model.specs.declared.ExchangeRules.{ExchangeRules}
 use Rattle.model.specs.Items.{Rot}
@@ -16,8 +16,7 @@ use Rattle.layout.specs.Only.{only_none, only_then}
 use Rattle.axes.specs.declared.Sizes.{Sizes}
 use Rattle.certificate.specs.Groups.{group_in}
 use Rattle.trial.specs.declared.ThreeGroups.{ThreeGroups}
-use Rattle.trial.specs.Plain.{exchange_rows}
-use Rattle.trial.specs.Trying.{said, Tried}
+use Rattle.trial.specs.Trying.{said}
 use Rattle.trial.specs.Kept.{KeptRight, start_kept, end_kept}
 use Rattle.trial.specs.Laying.{ThreeGroupsPre, PairPre, first_part, third_part, exchange_of, exchanged, pair_of, ExchangeTried, exchange_same, PairTried, parts_kept, none_tried, tried_as}
 

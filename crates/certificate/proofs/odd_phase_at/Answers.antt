@@ -3,12 +3,6 @@ use Rattle.axes.specs.View.{read_long}
 use Rattle.certificate.specs.Terms.{a_inside, b_inside}
 use Rattle.certificate.proofs.odd_phase_at.Goals as goal
 
-pub axis-p-requires : goal.axis-p-requires
-axis-p-requires c = a_inside c.requires
-
-pub axis-q-requires : goal.axis-q-requires
-axis-q-requires c = b_inside c.requires
-
 pub odd_phase-requires : goal.odd_phase-requires
 odd_phase-requires c =
     let h = c.requires in
@@ -16,8 +10,3 @@ odd_phase-requires c =
       p_long = read_long _ _ _ c.axis-p.ensures (a_inside h);
       q_long = read_long _ _ _ c.axis-q.ensures (b_inside h);
     }
-
-pub returns : goal.returns
-returns c =
-    let h = c.requires in
-    rw (c.axis-p.ensures _ h.a_in, c.axis-q.ensures _ h.b_in) at c.odd_phase.ensures

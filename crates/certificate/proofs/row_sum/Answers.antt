@@ -1,14 +1,11 @@
 -- The loop's invariant: the sum of the pairs with the items before q. Assumes nothing.
 use native.Mathlib.Omega.{arith}
 use Rattle.certificate.proofs.SignedSum.{add_fits, add_read}
-use Rattle.certificate.specs.Turns.{row_start, row_step, row_bound, row_most, pair_bound, row_end, group_entry, row_term, room}
+use Rattle.certificate.specs.Turns.{row_start, row_step, row_bound, row_most, pair_bound, row_term, room}
 use Rattle.certificate.proofs.row_sum.Goals as goal
 
 pub loop-q-init : goal.loop-q-init
 loop-q-init c = (omega arith, (let h = c.requires.second.order in omega arith), row_start _ _ _ _ _ _ _)
-
-pub item_at-y-requires : goal.item_at-y-requires
-item_at-y-requires c = let h = c.requires in group_entry h.stores h.second _ c.loop-q-test.true
 
 pub term-sum-requires : goal.term-sum-requires
 term-sum-requires c = row_term c.requires _ c.loop-q.invariant.0 c.loop-q-test.true _ c.item_at-y.ensures
@@ -33,8 +30,3 @@ loop-q-preserved c =
           (row_step _ _ _ _ _ _ _ _ _ _ i.0 y.ensures c.term-sum.ensures)
           (row_bound _ _ _ _ _ _ _ _ (room h c.loop-q-test.true)),
     )
-
-pub returns : goal.returns
-returns c =
-    let i = c.loop-q.invariant in
-    row_end _ _ _ _ _ _ _ i.2 i.1 c.loop-q-test.false

@@ -1,17 +1,11 @@
 -- The loop's invariant: the sum of the rows of the items before p. Assumes nothing.
 use native.Mathlib.Omega.{arith}
 use Rattle.certificate.proofs.SignedSum.{add_fits, add_read}
-use Rattle.certificate.specs.Turns.{sum_most, sum_start, sum_step, row_within, sum_within, sum_end, group_entry, sum_row}
+use Rattle.certificate.specs.Turns.{sum_most, sum_start, sum_step, row_within, sum_within}
 use Rattle.certificate.proofs.sum_at.Goals as goal
 
 pub loop-p-init : goal.loop-p-init
 loop-p-init c = (omega arith, (let h = c.requires.groups.first.order in omega arith), sum_start _ _ _ _ _ _ _)
-
-pub item_at-x-requires : goal.item_at-x-requires
-item_at-x-requires c = let h = c.requires.groups in group_entry h.stores h.first _ c.loop-p-test.true
-
-pub row_share-sum-requires : goal.row_share-sum-requires
-row_share-sum-requires c = sum_row c.requires _ c.loop-p.invariant.0 c.loop-p-test.true _ c.item_at-x.ensures
 
 pub overflow_add-sum : goal.overflow_add-sum
 overflow_add-sum c =
@@ -31,8 +25,3 @@ loop-p-preserved c =
           (sum_step _ _ _ _ _ _ _ _ _ _ i.0 c.item_at-x.ensures c.row_share-sum.ensures)
           (sum_within h c.loop-p-test.true),
     )
-
-pub returns : goal.returns
-returns c =
-    let i = c.loop-p.invariant in
-    sum_end _ _ _ _ _ _ _ i.2 i.1 c.loop-p-test.false

@@ -18,7 +18,7 @@ sum_at-requires c = c.requires.sum
 pub returns-then-rows_have : goal.returns-then-rows_have
 returns-then-rows_have c =
     c.if-rows_have.true ∙ elim c.if-has_word.branch [
-      then-has_word w ↦ in_row c.requires (c.has_word.ensures w.if-has_word.true)
+      | then-has_word w ↦ in_row c.requires (c.has_word.ensures w.if-has_word.true)
       | else-has_word w ↦ in_rows c.requires (w.rows_have.ensures (sym w.value-is ∙ c.if-rows_have.true))
     ]
 

@@ -31,7 +31,7 @@ returns-else-t-old-2 c =
     let l = leb c.t_count_rots-t.result c.t_count_rots-old.result in
     let none : c.args.eager && l ≡ false = elim c.if-t-old-2.either [ inl p ↦ ap (λ (k : Bool). k && l) p.0 ∙ lt-leb _ _ p.1 | inr q ↦ ap (λ (k : Bool). k && l) q ] in
     elim c.if-eager.branch [
-      then-eager w ↦ w.t-11-is ∙ sym (ap (λ (k : Bool). k && l) w.if-eager.true)
+      | then-eager w ↦ w.t-11-is ∙ sym (ap (λ (k : Bool). k && l) w.if-eager.true)
       | else-eager w ↦ w.t-11-is ∙ w.if-eager.false ∙ sym (ap (λ (k : Bool). k && l) w.if-eager.false)
     ]
     ∙ neither _ _ _ (le-ltb _ _ c.if-t-old.false) none

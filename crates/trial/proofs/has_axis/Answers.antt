@@ -1,5 +1,5 @@
 -- An item about the axis, found in turn. Assumes nothing.
-use Rattle.std.proofs.Common.{refl, sym, ◌∙◌, rules, tests}
+use Rattle.std.proofs.Common.{sym, ◌∙◌, rules, tests}
 use Rattle.layout.specs.Rows.{items_row}
 use Rattle.certificate.specs.Ranges.{any_over}
 use Rattle.trial.specs.Sharing.{axis_here, axis_from, axis_is, axis_turn, axis_none}

@@ -8,9 +8,6 @@ returns-then-y-eq0 c = meet_zero _ _ _ _ c.if-y-eq0.true
 pub returns-then-y-x : goal.returns-then-y-x
 returns-then-y-x c = meet_here _ _ _ _ c.if-y-eq0.false c.if-y-x.true
 
-pub anticommute-requires : goal.anticommute-requires
-anticommute-requires c = (c.requires.held, c.requires.y_in, c.requires.x_in)
-
 pub returns-then-anticommute : goal.returns-then-anticommute
 returns-then-anticommute c =
     meet_blocked _ _ _ _ c.if-y-eq0.false c.if-y-x.false

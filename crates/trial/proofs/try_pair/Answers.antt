@@ -1,11 +1,8 @@
 -- The exchange that is tried first, or the other. Assumes nothing.
 use Rattle.std.proofs.Common.{sym, ◌∙◌}
-use Rattle.trial.specs.Laying.{runs_pre, exchange_pre}
+use Rattle.trial.specs.Laying.{exchange_pre}
 use Rattle.trial.proofs.Pairs.{pair_kept, pair_none, pair_one, pair_other}
 use Rattle.trial.proofs.try_pair.Goals as goal
-
-pub shares_axis-requires : goal.shares_axis-requires
-shares_axis-requires c = runs_pre c.requires.parts
 
 pub returns-then-not-shares_axis : goal.returns-then-not-shares_axis
 returns-then-not-shares_axis c = pair_none c.requires _ c.shares_axis.ensures c.if-not-shares_axis.true

@@ -1,5 +1,5 @@
 -- The loop's invariant: the starts from s on are left, and `left` pairs. Assumes nothing.
-use Rattle.std.proofs.Common.{refl, sym, ap, ◌∙◌, arith}
+use Rattle.std.proofs.Common.{refl, sym, ap, ◌∙◌}
 use Rattle.layout.specs.Only.{only_none, only_then}
 use Rattle.triples.specs.Pairs.{starts_of, runs_kept, search_none, search_begins, starts_done, starts_next, starts_found}
 use Rattle.triples.proofs.try_starts.Goals as goal
