@@ -6,9 +6,6 @@ use Rattle.counters.specs.Source.{and_yes, and_no}
 use Rattle.counters.specs.After.{odd_item}
 use Rattle.counters.proofs.is_odd_item.Goals as goal
 
-pub record_of-r-requires : goal.record_of-r-requires
-record_of-r-requires c = rw c.item_at-x.ensures c.requires.barrier
-
 pub returns-then-r-ne2 : goal.returns-then-r-ne2
 returns-then-r-ne2 c =
     odd_item _ _ _ (rw c.item_at-x.ensures at c.record_of-r.ensures) (and_yes _ (ap not (ne_eqb _ _ c.if-r-ne2.true)))

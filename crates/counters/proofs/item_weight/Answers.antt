@@ -3,14 +3,8 @@ use borrow.Author.Tests.{eq-eqb, ne_eqb}
 use Rattle.counters.specs.Weight.{weight_none, weight_some}
 use Rattle.counters.proofs.item_weight.Goals as goal
 
-pub record_of-requires : goal.record_of-requires
-record_of-requires c = rw c.item_at-x.ensures c.requires.item.barrier
-
 pub returns-then-record_of-eq2 : goal.returns-then-record_of-eq2
 returns-then-record_of-eq2 c = weight_none _ _ _ _ _ (rw c.item_at-x.ensures at c.record_of.ensures) (eq-eqb _ _ c.if-record_of-eq2.true)
-
-pub axis_weight-requires : goal.axis_weight-requires
-axis_weight-requires c = rw c.item_at-x.ensures c.requires.axis
 
 pub returns : goal.returns
 returns c =

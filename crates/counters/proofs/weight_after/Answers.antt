@@ -9,15 +9,6 @@ loop-i-init c = (omega arith, weigh_none _ _ _ _ _ _)
 pub item_weight-n-requires : goal.item_weight-n-requires
 item_weight-n-requires c = weight_item c.requires _ (omega arith)
 
-pub overflow_add-n : goal.overflow_add-n
-overflow_add-n c =
-    let p = c.requires in
-    let s = p.small in
-    let f = p.few in
-    let a = c.item_weight-n.ensures.small in
-    let b = c.loop-i.invariant.1.small in
-    omega arith
-
 pub loop-i-preserved : goal.loop-i-preserved
 loop-i-preserved c = (omega arith, weigh_more c.requires.few (omega arith) c.item_weight-n.ensures c.loop-i.invariant.1)
 

@@ -1,5 +1,5 @@
 -- The loop's invariant: n is the weight of the first i items. Assumes nothing.
-use Prim.Native.Nat.{◌-◌, ◌≤◌}
+use Prim.Native.Nat.{◌≤◌}
 use Rattle.counters.specs.Weight.{WeightTo}
 use Rattle.counters.proofs.weight_after.Given as goal
 

@@ -9,15 +9,6 @@ loop-i-init c = (omega arith, omega arith, source_begin _ _ _ _ _ _)
 pub operation_weight-n-requires : goal.operation_weight-n-requires
 operation_weight-n-requires c = source_item c.requires _ (omega arith)
 
-pub overflow_add-n : goal.overflow_add-n
-overflow_add-n c =
-    let p = c.requires in
-    let s = p.small in
-    let f = p.few in
-    let a = c.operation_weight-n.ensures.small in
-    let b = c.loop-i.invariant.2.small in
-    omega arith
-
 pub loop-i-preserved : goal.loop-i-preserved
 loop-i-preserved c =
     let p = c.requires in

@@ -1,6 +1,6 @@
 -- The loop's invariant: n is the weight of the first i operations. Assumes nothing.
 use mathlib.Core.Path.{◌≡◌}
-use Prim.Native.Nat.{◌-◌, ◌≤◌}
+use Prim.Native.Nat.{◌≤◌}
 use Rattle.counters.specs.SourceWeight.{SourceTo}
 use Rattle.counters.proofs.weight_before.Given as goal
 

@@ -16,6 +16,3 @@ returns-then-read_wide-sig-eq0 c = asks_none c.requires.0 c.requires.1 c.require
 
 pub walk-requires : goal.walk-requires
 walk-requires c = asks_walk c.requires.0 c.requires.1 c.requires.2
-
-pub returns : goal.returns
-returns c = c.walk.ensures

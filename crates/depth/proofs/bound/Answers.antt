@@ -1,5 +1,4 @@
 -- The loop's invariant: each bit of the signature is left, or has no higher level than the most so far. Assumes nothing.
-use lib.Count.{trailing_le}
 use Rattle.bits.specs.LowestBit.{clear_lt}
 use Rattle.depth.specs.Tops.{bits_first, bound_turn, bound_end}
 use native.Mathlib.Omega.{arith}

@@ -1,6 +1,5 @@
 -- The list, the union and the bits' levels, one after the other. Assumes nothing.
 use Rattle.depth.specs.Lists.{entered}
-use native.Mathlib.Omega.{arith}
 use Rattle.depth.proofs.enter.Goals as goal
 
 pub returns : goal.returns

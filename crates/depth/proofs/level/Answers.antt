@@ -9,9 +9,6 @@ bound-most-requires c = bit_pre c.requires
 pub loop-v-init : goal.loop-v-init
 loop-v-init c = look_start c.requires c.bound-most.ensures
 
-pub asks-requires : goal.asks-requires
-asks-requires c = (c.requires, omega arith, c.loop-v.invariant.high)
-
 pub returns-then-asks : goal.returns-then-asks
 returns-then-asks c = look_found c.requires c.loop-v.invariant (omega arith) c.asks.ensures c.if-asks.true
 

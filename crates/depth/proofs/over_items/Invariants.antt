@@ -1,5 +1,4 @@
 -- Whatever is left, its depth from the state that memory holds is the whole T-depth. Assumes nothing.
-use Prim.Native.Nat.{◌-◌}
 use Rattle.depth.specs.ItemsLoop.{DepthAt}
 use Rattle.depth.proofs.over_items.Given as goal
 

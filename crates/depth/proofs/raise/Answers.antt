@@ -1,5 +1,4 @@
 -- The loop's invariant: each bit of the signature is left, or has been raised. Assumes nothing.
-use lib.Count.{trailing_le}
 use Rattle.bits.specs.LowestBit.{clear_lt}
 use Rattle.depth.specs.Tops.{raise_start, raise_pre, raise_turn, raise_end}
 use native.Mathlib.Omega.{arith}

@@ -1,6 +1,6 @@
 -- Stored beside the axis where words are longer than one number, else worked out. Assumes nothing.
 use Rattle.axes.specs.View.{read_long}
-use Rattle.axes.specs.Held.{held_axis, held_entry}
+use Rattle.axes.specs.Held.{held_axis}
 use Rattle.depth.specs.Turns.{signature_read, signature_made}
 use native.Mathlib.Omega.{arith}
 use Rattle.depth.proofs.signature_of.Goals as goal

@@ -1,6 +1,5 @@
 -- The loop's invariant: those of the level's list before place p commute. Assumes nothing.
 use Rattle.depth.specs.Looking.{walk_start, walk_axes, walk_found, walk_less, walk_next, walk_end}
-use native.Mathlib.Omega.{arith}
 use Rattle.depth.proofs.walk.Goals as goal
 
 pub loop-p-init : goal.loop-p-init

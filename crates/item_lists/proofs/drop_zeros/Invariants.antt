@@ -1,5 +1,5 @@
 -- The loop's invariant: of i items those that stay are there. Assumes nothing.
-use Prim.Native.Nat.{◌-◌, ◌≤◌}
+use Prim.Native.Nat.{◌≤◌}
 use Rattle.item_lists.specs.Drop.{DroppedTo}
 use Rattle.item_lists.proofs.drop_zeros.Given as goal
 

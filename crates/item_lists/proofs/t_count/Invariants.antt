@@ -1,5 +1,5 @@
 -- The loop's invariant: k is the T-count of the items before i. Assumes nothing.
-use Prim.Native.Nat.{◌-◌, ◌≤◌, ◌%◌}
+use Prim.Native.Nat.{◌≤◌, ◌%◌}
 use Rattle.model.specs.Items.{Item, angle_of}
 use Rattle.items.specs.View.{item_said}
 use Rattle.item_lists.specs.Count.{SumTo}

@@ -1,5 +1,5 @@
 -- The loop's invariant: k is the T-count of the rotations before i. Assumes nothing.
-use Prim.Native.Nat.{◌-◌, ◌≤◌, ◌%◌}
+use Prim.Native.Nat.{◌≤◌, ◌%◌}
 use Rattle.model.specs.Items.{Rot}
 use Rattle.items.specs.View.{rot_said}
 use Rattle.item_lists.specs.Count.{SumTo}

@@ -1,5 +1,5 @@
 -- The loop's invariant: i entries are copied. Assumes nothing.
-use Prim.Native.Nat.{◌-◌, ◌≤◌}
+use Prim.Native.Nat.{◌≤◌}
 use Rattle.items.specs.Copy.{ItemsCopied}
 use Rattle.items.proofs.copy_items.Given as goal
 

@@ -1,6 +1,5 @@
 -- The rest of the pass, from the state that memory holds, is the whole pass. Assumes nothing.
 use Rattle.layering.specs.Segments.{pass_start, pass_need, pass_turn, pass_copy, pass_end}
-use native.Mathlib.Omega.{arith}
 use Rattle.layering.proofs.layer_segments.Goals as goal
 
 pub loop-st-init : goal.loop-st-init

@@ -1,6 +1,5 @@
 -- The first i are put out. Assumes nothing.
 use Rattle.layering.specs.Segment.{out_start, out_need, out_turn, out_end}
-use native.Mathlib.Omega.{arith}
 use Rattle.layering.proofs.put_out.Goals as goal
 
 pub loop-i-init : goal.loop-i-init

@@ -1,5 +1,4 @@
 -- The first i are put out. Assumes nothing.
-use Prim.Native.Nat.{◌-◌}
 use Rattle.layering.specs.Segment.{OutTo}
 use Rattle.layering.proofs.put_out.Given as goal
 

@@ -1,6 +1,5 @@
 -- Its rotations are layered and put out, and the barrier behind them. Assumes nothing.
-use Rattle.layering.specs.Segments.{segment_items, segment_out, segment_small, segment_last, segment_copy, segment_barrier}
-use native.Mathlib.Omega.{arith}
+use Rattle.layering.specs.Segments.{segment_items, segment_out, segment_last, segment_copy, segment_barrier}
 use Rattle.layering.proofs.segment.Goals as goal
 
 pub layer_items-s-requires : goal.layer_items-s-requires

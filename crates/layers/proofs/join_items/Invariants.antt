@@ -1,5 +1,4 @@
 -- The rest, joined to the layers that memory holds, gives the layers of all. Assumes nothing.
-use Prim.Native.Nat.{◌-◌}
 use Rattle.layers.specs.Joining.{JoinedTo}
 use Rattle.layers.proofs.join_items.Given as goal
 

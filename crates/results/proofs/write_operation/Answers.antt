@@ -2,9 +2,6 @@
 use Rattle.results.specs.Operations.{operation_laid}
 use Rattle.results.proofs.write_operation.Goals as goal
 
-pub record_of-r-requires : goal.record_of-r-requires
-record_of-r-requires c = rw c.item_at-x.ensures c.requires.item.barrier
-
 pub returns : goal.returns
 returns c =
     operation_laid _ _ _ _ _ _ (rw c.item_at-x.ensures at c.record_of-r.ensures) c.requires.room

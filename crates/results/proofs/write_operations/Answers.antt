@@ -14,8 +14,5 @@ loop-i-preserved c =
     let p = c.requires in
     (omega arith, laid_more p c.loop-i.invariant.1 (omega arith) c.write_operation.ensures)
 
-pub shape_of-to : goal.shape_of-to
-shape_of-to c = c.loop-i.invariant.1.long
-
 pub returns : goal.returns
 returns c = laid_all (omega arith) c.loop-i.invariant.1

@@ -1,5 +1,5 @@
 -- The loop's invariant: the first i items' records are laid. Assumes nothing.
-use Prim.Native.Nat.{◌-◌, ◌≤◌}
+use Prim.Native.Nat.{◌≤◌}
 use Rattle.results.specs.Operations.{OperationsLaid}
 use Rattle.results.proofs.write_operations.Given as goal
 

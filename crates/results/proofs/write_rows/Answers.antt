@@ -3,9 +3,6 @@ use native.Mathlib.Omega.{arith}
 use Rattle.results.specs.Rows.{row_none, row_needs, row_more, row_all}
 use Rattle.results.proofs.write_rows.Goals as goal
 
-pub overflow_mul-i-end : goal.overflow_mul-i-end
-overflow_mul-i-end c = let p = c.requires in let f = p.few in omega arith
-
 pub loop-i-init : goal.loop-i-init
 loop-i-init c = (omega arith, omega arith, row_none _ _ _ _)
 
@@ -16,9 +13,6 @@ pub loop-i-preserved : goal.loop-i-preserved
 loop-i-preserved c =
     let p = c.requires in
     (omega arith, omega arith, row_more _ _ _ p c.loop-i.invariant.2 (omega arith) c.write_row.ensures)
-
-pub shape_of-to : goal.shape_of-to
-shape_of-to c = c.loop-i.invariant.2.long
 
 pub returns : goal.returns
 returns c = row_all _ _ _ (omega arith) c.loop-i.invariant.2

@@ -1,6 +1,6 @@
 -- The loop's invariant: the first i rows are laid. Assumes nothing.
 use mathlib.Core.Path.{◌≡◌}
-use Prim.Native.Nat.{◌-◌, ◌*◌, ◌≤◌}
+use Prim.Native.Nat.{◌*◌, ◌≤◌}
 use Rattle.results.specs.Rows.{RowsLaid}
 use Rattle.results.proofs.write_rows.Given as goal
 

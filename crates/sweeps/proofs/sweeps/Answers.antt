@@ -5,9 +5,6 @@ use Rattle.sweeps.proofs.sweeps.Goals as goal
 pub loop-s-init : goal.loop-s-init
 loop-s-init c = sweeps_start _ _ _ _ c.requires
 
-pub sweep_once-s-requires : goal.sweep_once-s-requires
-sweep_once-s-requires c = c.loop-s.invariant.ready
-
 pub loop-s-smaller : goal.loop-s-smaller
 loop-s-smaller c = sweeps_less _ _ _ _ c.loop-s-test.true c.loop-s.invariant c.sweep_once-s.ensures
 

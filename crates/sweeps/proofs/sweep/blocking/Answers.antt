@@ -13,11 +13,3 @@ pub returns-then-anticommute : goal.returns-then-anticommute
 returns-then-anticommute c =
     let here = blocking_at c.if-from-at.true c.if-at-end.true c.axis_at-other.ensures c.anticommute.ensures c.if-anticommute.true in
     (c.if-from-at.true, c.if-at-end.true, (here.some c.if-at-end.true).1)
-
-pub returns-then-first-end : goal.returns-then-first-end
-returns-then-first-end c =
-    let blocks = c.first_blocking-first.ensures.some c.if-first-end.true in
-    (blocks.0, c.if-first-end.true, blocks.1)
-
-pub returns : goal.returns
-returns c = c.first_blocking-first.ensures.none c.if-first-end.false

@@ -1,6 +1,5 @@
 -- The open layer is closed, and what stayed is laid behind it. Assumes nothing.
-use Rattle.sweeps.specs.Moves.{lay_close, lay_copy, lay_fits, lay_laid}
-use native.Mathlib.Omega.{arith}
+use Rattle.sweeps.specs.Moves.{lay_close, lay_copy, lay_laid}
 use Rattle.sweeps.proofs.sweep.lay_stay.Goals as goal
 
 pub close-closed-requires : goal.close-closed-requires

@@ -1,5 +1,4 @@
 -- The rest, moved from the state that memory holds, gives the shift of all. Assumes nothing.
-use Prim.Native.Nat.{◌-◌}
 use Rattle.sweeps.specs.Moves.{MovedTo}
 use Rattle.sweeps.proofs.sweep.move_rotations.Given as goal
 

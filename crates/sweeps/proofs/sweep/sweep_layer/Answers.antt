@@ -1,6 +1,5 @@
 -- Its rotations move or stay, and those that stay are laid. Assumes nothing.
 use Rattle.sweeps.specs.Sweeping.{layer_moves, layer_lay, layer_swept}
-use native.Mathlib.Omega.{arith}
 use Rattle.sweeps.proofs.sweep.sweep_layer.Goals as goal
 
 pub move_rotations-s-requires : goal.move_rotations-s-requires

@@ -1,5 +1,4 @@
 -- The rest of the sweep, from the state that memory holds, is the rest from the first layer. Assumes nothing.
-use Prim.Native.Nat.{◌-◌}
 use Rattle.sweeps.specs.Sweeping.{SweptTo}
 use Rattle.sweeps.proofs.sweep.sweep_layers.Given as goal
 

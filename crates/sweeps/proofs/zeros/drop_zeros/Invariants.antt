@@ -1,5 +1,4 @@
 -- What is left of the layers before layer k. Assumes nothing.
-use Prim.Native.Nat.{◌-◌}
 use Rattle.sweeps.specs.Zeros.{ZerosTo}
 use Rattle.sweeps.proofs.zeros.drop_zeros.Given as goal
 

@@ -1,6 +1,5 @@
 -- A layer of which something is left is closed. Assumes nothing.
 use Rattle.sweeps.specs.Zeros.{keep_need, layer_left, layer_close, layer_stays}
-use native.Mathlib.Omega.{arith}
 use Rattle.sweeps.proofs.zeros.keep_layer.Goals as goal
 
 pub keep_rotations-len-requires : goal.keep_rotations-len-requires

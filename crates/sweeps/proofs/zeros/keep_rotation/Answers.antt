@@ -1,6 +1,5 @@
 -- A zero is passed over, another is laid behind the rest. Assumes nothing.
 use Rattle.sweeps.specs.Zeros.{keep_zero, keep_nonzero}
-use native.Mathlib.Omega.{arith}
 use Rattle.sweeps.proofs.zeros.keep_rotation.Goals as goal
 
 pub returns-then-x-eq0 : goal.returns-then-x-eq0

@@ -1,5 +1,4 @@
 -- What is left of those before rotation i stands from `to` on. Assumes nothing.
-use Prim.Native.Nat.{◌-◌}
 use Rattle.sweeps.specs.Zeros.{KeptTo}
 use Rattle.sweeps.proofs.zeros.keep_rotations.Given as goal
 
