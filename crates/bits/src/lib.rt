@@ -1,9 +1,17 @@
-// The set bits of a number, one by one; and laws of bits, counts and remainders that the kit lacks, for the crates above.
+// The set bits of a number, counted and one by one; and laws of bits, counts and remainders that the kit lacks, for the crates above.
 #![tactic(auto)]
 
-ghost use Rattle.std.specs.Prelude.{◌≡◌};
+ghost use Rattle.std.specs.Prelude.{◌≡◌, ◌≤◌};
 ghost use Rattle.std.specs.Iterator.{YieldsFirst, item_count};
+ghost use Rattle.bits.specs.Popcount.{popcount};
 ghost use Rattle.bits.specs.SetBits.{places};
+
+// How many bits of w are set.
+pub fn count(w: u64) -> u32
+    ensures { (result ≡ popcount w) × (result ≤ 64) }
+{
+    w.count_ones()
+}
 
 // The places of a number's set bits, rising.
 #[derive(Drop)]

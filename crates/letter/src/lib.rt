@@ -2,9 +2,7 @@
 #![tactic(auto)]
 
 ghost use Rattle.std.specs.Prelude.{◌≡◌, ◌+◌, ◌*◌, ◌%◌, ◌^◌, ◌<◌, ◌≤◌, length};
-ghost use Rattle.std.specs.Int.Bits.{bit_or};
 ghost use Rattle.bits.specs.Bit.{bit};
-ghost use Rattle.bits.specs.Popcount.{popcount};
 ghost use Rattle.store.specs.Part.{put};
 ghost use Rattle.pauli.specs.Letter.{has_x, has_z, letter_at, letter_of, single, weight};
 
@@ -66,13 +64,6 @@ pub fn put_letter(words: &mut [u64], at: usize, l: usize, q: usize, letter: u32)
     words[at + (l + j)] = has_z(letter) << (q % 64);
 }
 
-// How many qubits have a bit in either of two numbers.
-fn acting(x: u64, z: u64) -> u32
-    ensures { (result ≡ popcount (bit_or x z)) × (result ≤ 64) }
-{
-    (x | z).count_ones()
-}
-
 // How many letters of w are not I.
 pub fn weight(w: &[u64], l: usize) -> usize
     requires { (length w.now ≡ 2 * l) × (l ≤ 2 ^ 32) }
@@ -80,7 +71,7 @@ pub fn weight(w: &[u64], l: usize) -> usize
 {
     let mut n: usize = 0;
     for j in 0..l {
-        n += acting(w[j], w[l + j]) as usize;
+        n += bits::count(w[j] | w[l + j]) as usize;
     }
     n
 }

@@ -35,5 +35,5 @@ pub fn anticommutes(p: &[u64], q: &[u64], l: usize) -> bool
     for j in 0..l {
         acc ^= (p[j] & q[l + j]) ^ (p[l + j] & q[j]);
     }
-    acc.count_ones() % 2 == 1
+    bits::count(acc) % 2 == 1
 }

@@ -1,7 +1,7 @@
--- A loop that writes a slice from the front, one element a turn: after i turns the first i elements are those of the target t,
--- the others still those of d. `mix t d i` is that list; a loop that goes down has `mix d t i`. Assumes nothing.
+-- A loop that writes a slice from the end, one element a turn: at place i, the first i elements are still those of d, the others
+-- those of the target t: `mix d t i` is that list. Assumes nothing.
 use Rattle.std.specs.Prelude.{◌≡◌, refl, ℕ, zero, suc, ◌+◌, ◌-◌, ◌≤◌, ◌<◌, List, [], ◌∷◌, ◌++◌, length, get_or, set, take, drop, replicate}
-use Rattle.std.proofs.Common.{sym, ap, ◌∙◌, arith, le_of_suc-le-suc, not-suc-le-zero, add-one, append-nil, length-take, length-append, length-drop, drop_of_length-le, take_all}
+use Rattle.std.proofs.Common.{sym, ap, ◌∙◌, arith, le_of_suc-le-suc, not-suc-le-zero, add-one, append-nil, drop_of_length-le, take_all}
 use Rattle.std.proofs.lemmas.List.{length-replicate, get_or-replicate}
 
 unfoldable pub mix : List ℕ → List ℕ → ℕ → List ℕ
@@ -15,22 +15,7 @@ pub mix_all : (t d : List ℕ) (i : ℕ) → length t ≤ i → length d ≤ i �
 unfolding mix
 mix_all t d i h k = rw (take_all i t h, drop_of_length-le d k) (append-nil t)
 
-pub mix_length : (t d : List ℕ) (i : ℕ) → length t ≡ length d → length (mix t d i) ≡ length d
-unfolding mix
-mix_length t d i e = simp (length-append, length-take, length-drop) (omega arith)
-
 -- ---- a turn
-
-one_more : (t d : List ℕ) (i : ℕ) → length t ≡ length d → i < length d → set (mix t d i) i (get_or t i 0) ≡ mix t d (suc i)
-unfolding mix
-one_more [] [] i e l = absurd (not-suc-le-zero l)
-one_more [] (y ∷ d) i e l = absurd (let z : ⊥ = omega arith in z)
-one_more (x ∷ t) [] i e l = absurd (not-suc-le-zero l)
-one_more (x ∷ t) (y ∷ d) zero e l = refl
-one_more (x ∷ t) (y ∷ d) (suc i) e l = ap (λ (r : List ℕ). x ∷ r) (one_more t d i (omega arith) (le_of_suc-le-suc l))
-
-pub mix_up : (t d : List ℕ) (i v : ℕ) → length t ≡ length d → i < length d → v ≡ get_or t i 0 → set (mix t d i) i v ≡ mix t d (i + 1)
-mix_up t d i v e l p = rw (p, add-one) (one_more t d i e l)
 
 one_less : (d t : List ℕ) (i : ℕ) → length d ≡ length t → i < length d → set (mix d t (suc i)) i (get_or t i 0) ≡ mix d t i
 unfolding mix

@@ -1,8 +1,7 @@
 -- The loop's invariant: the parity of acc is that of the crossed bits so far. Assumes nothing.
-use mathlib.Core.Path.{sym, ap, ◌∙◌}
+use mathlib.Core.Path.{ap, ◌∙◌}
 use Prim.Native.Nat.{ℕ, ◌%◌}
 use lib.Dec.{eqb}
-use Rattle.bits.specs.Popcount.{popcount_ones}
 use Rattle.pauli.specs.Word.{anticommutes}
 use Rattle.pauli.proofs.Crosses.{crosses_none, crosses_more, crosses_all}
 use native.Mathlib.Omega.{arith}
@@ -17,5 +16,5 @@ loop-j-preserved c = (omega arith, search crosses_more)
 pub returns : goal.returns
 unfolding anticommutes
 returns c =
-    ap (λ (n : ℕ). eqb (n % 2) 1) (sym (popcount_ones c.loop-j.acc))
+    ap (λ (n : ℕ). eqb (n % 2) 1) c.count.ensures.0
     ∙ ap (λ (n : ℕ). eqb n 1) (crosses_all _ _ _ _ _ c.loop-j.invariant.1 (omega arith))

@@ -2,7 +2,7 @@
 use mathlib.Core.Path.{sym}
 use Rattle.bits.specs.Popcount.{popcount_ones}
 use lib.Count.{ones-le}
-use Rattle.product.proofs.read.count.Goals as goal
+use Rattle.bits.proofs.count.Goals as goal
 
 pub returns : goal.returns
-returns c = (sym (popcount_ones c.args.x), ones-le 64 c.args.x c.ranges.x.fits)
+returns c = (sym (popcount_ones c.args.w), ones-le 64 c.args.w c.ranges.w.fits)
