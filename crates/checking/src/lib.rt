@@ -282,7 +282,13 @@ fn check_place(operations: &[u32], count: usize, lazy: Lazy) -> Result<(), Refus
 }
 
 // Refusals 4 to 8, then 16.
-fn check_records(c: Counts, lazy: Lazy, nodes: &[u32], operations: &[u32], rows: &[u32]) -> Result<(), Refusal>
+fn check_records(
+    c: Counts,
+    lazy: Lazy,
+    nodes: &[u32],
+    operations: &[u32],
+    rows: &[u32],
+) -> Result<(), Refusal>
     requires { program_short (job_of c nodes.now operations.now rows.now) ≡ false }
     ensures { result ≡ check_records lazy (job_of c nodes.now operations.now rows.now) }
 {

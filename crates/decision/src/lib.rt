@@ -131,10 +131,10 @@ fn passes(
     numbers: &mut [u32],
     shape: Shape,
     options: Options,
-    packed: PackedAxes,
+    axes: PackedAxes,
 ) -> Result<Decided, PackingRefusal>
-    requires { PackedIn shape nodes.now operations.now rows.now packed.count words.old numbers.old × OptionsIn options
-        × (packed.peak ≡ (packed (program_in shape nodes.now operations.now rows.now)).store.peak) }
+    requires { PackedIn shape nodes.now operations.now rows.now axes.count words.old numbers.old × OptionsIn options
+        × (axes.peak ≡ (packed (program_in shape nodes.now operations.now rows.now)).store.peak) }
     ensures { DecisionAs shape options nodes.now operations.now rows.now
         words.old numbers.old result words.new numbers.new }
 {
@@ -146,9 +146,9 @@ fn passes(
         numbers,
         shape,
         options,
-        packed.count,
+        axes.count,
     );
-    let first = steps::first_state(packed.count, packed.peak, s.items);
+    let first = steps::first_state(axes.count, axes.peak, s.items);
     let run = rounds::passes(words, numbers, shape, options, first)?;
     Ok(end_run(
         nodes,
@@ -177,8 +177,8 @@ pub fn decide(
     ensures { DecisionAs shape options nodes.now operations.now rows.now
         words.old numbers.old result words.new numbers.new }
 {
-    let packed = packing::pack(nodes, operations, rows, words, numbers, shape)?;
+    let axes = packing::pack(nodes, operations, rows, words, numbers, shape)?;
     passes(
-        nodes, operations, rows, words, numbers, shape, options, packed,
+        nodes, operations, rows, words, numbers, shape, options, axes,
     )
 }

@@ -53,7 +53,7 @@ fn run(
     let a = counts.nodes * 5;
     let b = counts.operations * 6;
     let c = 2 * counts.qubits * 4;
-    let r = rewriting::by_value::rewriting(
+    let reply = rewriting::by_value::rewriting(
         counts,
         model::defaults(limit),
         &nodes[..a],
@@ -64,7 +64,7 @@ fn run(
         result_operations,
         result_rows,
     );
-    match r {
+    match reply {
         Ok(rewritten) => Listed {
             answer: Ok(()),
             size: listing_print::result(

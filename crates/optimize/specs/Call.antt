@@ -62,11 +62,11 @@ module _ (o : Options) (c : Counts) (ns os rs ws xs to rt : List ℕ) {a : Answe
     call_sizes = checked_sizes o j s passes
 
     -- the shape's program is the job's
-    run_called : {r : Result Rewritten Refusal} {s' : Lent}
+    run_called : (r : Result Rewritten Refusal) {s' : Lent}
         → reply_of r s' ≡ reply_in (shape_of c o.max_packed_words) o ns os rs (lent_of ws xs to rt)
         → CalledBy o (job_of c ns os rs) (lent_of ws xs to rt) r s'
     unfolding rewriting program_in shape_of
-    run_called k = record { replied = k ∙ sym (if_true _ _ (ap accepts passes)) }
+    run_called r k = record { replied = k ∙ sym (if_true _ _ (ap accepts passes)) }
 
     module _ {z : Shape} (shape : z ≡ shape_of c o.max_packed_words) where
       pub call_run : RunPre z o ns os rs ws xs to rt
@@ -79,6 +79,6 @@ module _ (o : Options) (c : Counts) (ns os rs ws xs to rt : List ℕ) {a : Answe
             fit = record { operations = l.operations; rows = l.rows };
           })
 
-      pub call_done : {r : Result Rewritten Refusal} {s' : Lent} → reply_of r s' ≡ reply_in z o ns os rs (lent_of ws xs to rt)
+      pub call_done : (r : Result Rewritten Refusal) {s' : Lent} → reply_of r s' ≡ reply_in z o ns os rs (lent_of ws xs to rt)
           → CalledBy o (job_of c ns os rs) (lent_of ws xs to rt) r s'
-      call_done q = run_called (q ∙ ap (λ (y : Shape). reply_in y o ns os rs s) shape)
+      call_done r q = run_called r (q ∙ ap (λ (y : Shape). reply_in y o ns os rs s) shape)

@@ -151,6 +151,6 @@ module _ {z : Shape} {o : Options} {ns os rs : List ℕ} {ws xs to rt : List ℕ
   pub run_conclude : ConcludePre z o ns os rs d vs ys to rt
   run_conclude = record { ws₀ = ws; xs₀ = xs; decision = k; fit = h.fit }
 
-  pub run_done : {r : Result Rewritten Refusal} {s : Lent} → reply_of r s ≡ reply_in z o ns os rs (lent_of vs ys to rt)
+  pub run_done : (r : Result Rewritten Refusal) {s : Lent} → reply_of r s ≡ reply_in z o ns os rs (lent_of vs ys to rt)
       → reply_of r s ≡ reply_in z o ns os rs (lent_of ws xs to rt)
-  run_done q = q ∙ reply_same z o ns os rs to rt k.long
+  run_done r q = q ∙ reply_same z o ns os rs to rt k.long

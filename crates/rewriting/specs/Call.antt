@@ -1,10 +1,9 @@
 -- A call of Rewriting, from what its parts leave. Assumes nothing.
-use Rattle.std.specs.Prelude.{◌≡◌, ℕ, Result, Ok, Err}
+use Rattle.std.specs.Prelude.{ℕ, Result, Ok, Err}
 use Rattle.std.proofs.Common.{sym, ◌∙◌, subst}
 use Rattle.model.specs.declared.Counters.{Counters}
 use Rattle.model.specs.declared.Options.{Options}
 use Rattle.model.specs.declared.Refusal.{Refusal}
-use Rattle.model.specs.Interface.{no_counters}
 use Rattle.model.specs.Program.{Job}
 use Rattle.model.specs.Checking.{Lent}
 use Rattle.model.specs.Rewriting.{Called}

@@ -41,9 +41,7 @@ fn accepted(rt: &impl Print, r: Rewritten) -> io::Result<()> {
 pub fn rewritten(rt: &impl Print, reply: Result<Rewritten, Refusal>) -> io::Result<()> {
     match reply {
         Ok(r) => accepted(rt, r),
-        Err(refusal) => {
-            println!(rt; "{} 0 0 0 0 0 0 0 0 0 0 0 0 0 0", u32::from(refusal))
-        }
+        Err(refusal) => { println!(rt; "{} 0 0 0 0 0 0 0 0 0 0 0 0 0 0", u32::from(refusal)) }
     }
 }
 

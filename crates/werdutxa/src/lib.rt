@@ -9,7 +9,7 @@ ghost use Rattle.werdutxa.specs.Calls.{counts_of, strategy_of, lazy_of, options_
 
 use model::{Counters, Counts, Lazy, Options, Strategy};
 
-// The number of Checking's answer. In C a named place is a flag and a number, `named` and `place`.
+// The number of Checking's answer.
 pub fn werdutxa_check(
     qubits: usize,
     node_count: usize,
@@ -186,7 +186,7 @@ fn strategy(litinski: bool) -> Strategy
     Strategy::Merge
 }
 
-// A named place stands in place of the lazy setting.
+// A named place stands in place of the lazy setting. It is a flag and a number, since C calls so.
 fn lazy(lazy_cliffords: bool, named: bool, place: usize) -> Lazy
     ensures { result ≡ lazy_of lazy_cliffords named place }
 {

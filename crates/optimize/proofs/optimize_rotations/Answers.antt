@@ -15,4 +15,4 @@ pub run-requires : goal.run-requires
 run-requires c = call_run _ _ _ _ _ _ _ _ _ c.checking.ensures c.in_ok-checking.was c.shape_of-shape.ensures
 
 pub returns : goal.returns
-returns c = call_done _ _ _ _ _ _ _ _ _ c.checking.ensures c.in_ok-checking.was c.shape_of-shape.ensures c.run.ensures
+returns c = call_done _ _ _ _ _ _ _ _ _ c.checking.ensures c.in_ok-checking.was c.shape_of-shape.ensures _ c.run.ensures

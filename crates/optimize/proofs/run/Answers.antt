@@ -9,4 +9,4 @@ pub conclude-requires : goal.conclude-requires
 conclude-requires c = run_conclude c.requires c.decide-d.ensures
 
 pub returns : goal.returns
-returns c = run_done c.requires c.decide-d.ensures c.conclude.ensures
+returns c = run_done c.requires c.decide-d.ensures _ c.conclude.ensures
