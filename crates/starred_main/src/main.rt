@@ -49,7 +49,7 @@ fn show_product(rt: &impl Print, p: &[u64], q: &[u64]) -> io::Result<()>
 fn show_signed(rt: &impl Print, k: i32) -> io::Result<()> {
     let a = PauliAngle::new(k);
     if k < 0 {
-        print!(rt; "-{}", a.neg().0)
+        print!(rt; "-{}", (-a).0)
     } else {
         rt.print(a.0)
     }
