@@ -28,6 +28,11 @@ fn bytes_to(from: usize, count: usize, end: usize) -> usize
     from + count.min(end - from)
 }
 
+// A number that was read, as a length. A function, since its parameter is known to fit where an element written by a call is not.
+fn wide(x: u32) -> usize {
+    x as usize
+}
+
 pub fn read(input: &[u8], at: usize) -> Header
     requires { at ≤ length input.now }
     ensures { (result.from ≤ result.to) × (result.to ≤ length input.now) }
@@ -36,11 +41,11 @@ pub fn read(input: &[u8], at: usize) -> Header
     let from = behind_newline(jobs::numbers(input, at, 6, &mut v), input.len());
     Header {
         from,
-        to: bytes_to(from, v[0] as usize, input.len()),
-        output: v[1] as usize,
-        words: v[2] as usize,
-        numbers: v[3] as usize,
-        operations: v[4] as usize,
-        rows: v[5] as usize,
+        to: bytes_to(from, wide(v[0]), input.len()),
+        output: wide(v[1]),
+        words: wide(v[2]),
+        numbers: wide(v[3]),
+        operations: wide(v[4]),
+        rows: wide(v[5]),
     }
 }
