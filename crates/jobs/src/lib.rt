@@ -13,8 +13,6 @@ mod read;
 pub use lend::{Lent, Room, Stores, part};
 pub use read::{numbers, past_blanks};
 
-
-
 // A job that is read: its counts and options, what it is lent if there is room for it, and the place of the next job.
 #[derive(Clone, Copy)]
 pub struct Job {
@@ -39,7 +37,10 @@ fn read_records(s: &[u8], h: Header, records: &mut [u32], room: Room) -> (Option
 {
     let Some(size) = lend::following(h, room.records) else {
         let all = lend::size_of(h);
-        return (None, read::pass_over(s, h.next, all.nodes + all.operations + all.rows));
+        return (
+            None,
+            read::pass_over(s, h.next, all.nodes + all.operations + all.rows),
+        );
     };
     let end = read::numbers(s, h.next, size.nodes + size.operations + size.rows, records);
     (lend::lend(h, size, room), end)
