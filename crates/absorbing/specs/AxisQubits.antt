@@ -2,10 +2,8 @@
 use Rattle.std.specs.Prelude.{◌≡◌, refl, ℕ, ◌+◌, ◌*◌, ◌≤◌, ◌<◌, suc, ◌-◌, ◌^◌, length, get_or, Result, Ok, Err}
 use Rattle.std.proofs.Common.{subst, sym, ◌∙◌, arith}
 use Rattle.std.proofs.Math.Path.{ap}
-use mathlib.Core.List.{List, ◌∷◌, ◌++◌}
-use Rattle.std.specs.Int.Bits.{bit_or, bit_and}
-use Rattle.std.specs.Int.Count.{count_trailing_zeros}
-use Rattle.bits.specs.LowestBit.{clear_lt}
+use mathlib.Core.List.{List, [], ◌∷◌, ◌++◌}
+use Rattle.std.specs.Int.Bits.{bit_or}
 use Rattle.pauli.specs.Word.{x_word, z_word}
 use Rattle.model.specs.Words.{word_of, set_bits, support}
 use Rattle.model.specs.Clifford.{Touched, touch, touch_all}
@@ -18,7 +16,7 @@ use Rattle.model.specs.declared.ExpansionLimit.{ExpansionLimit}
 use Rattle.model.specs.Interface.{expansion_limit}
 use Rattle.steps.specs.State.{with_slots}
 use Rattle.words_wellformed.specs.Inside.{inside_support}
-use Rattle.clifford_states.specs.SetBits.{set_bits_none, set_bits_lowest, qubits_at, qubits_from, support_from, qubits_end, qubits_next}
+use Rattle.clifford_states.specs.SetBits.{qubits_at, qubits_from, support_from, qubits_end, qubits_next}
 use Rattle.clifford_states.specs.SetBits.{touch_all_append, touch_all_axes, support_number}
 use Rattle.clifford.specs.Holds.{Holds, SomeTouched, LeftF, TouchedAs, as_next, as_limit, HeldAt, left_none, left_then, granted_left}
 use Rattle.clifford.specs.Holds.{axis_in, axis_number, AxisAt}
@@ -35,25 +33,28 @@ pub record BitsAt (z : Shape) (n m p j w : ℕ) (ws xs : List ℕ) (t : Touched)
 pub number_small : {z : Shape} {n m p j w : ℕ} {ws xs : List ℕ} {t : Touched} → BitsAt z n m p j w ws xs t → j < 64
 number_small h = omega (arith, h.number, h.at.granted.sized.few)
 
--- those of `rest` are still to be touched
-pub record BitsNow (z : Shape) (j w : ℕ) (ws xs : List ℕ) (st : State) (rest : ℕ) (t : Touched) : Type 0 where
+-- qubits qs are still to be touched
+pub record BitsNow (z : Shape) (j w : ℕ) (ws xs : List ℕ) (st : State) (qs : List ℕ) (t : Touched) : Type 0 where
   pub now : Touched
-  pub whole : touch_all z.l t (set_bits 64 (64 * j) w) ≡ touch_all z.l now (set_bits 64 (64 * j) rest)
+  pub whole : touch_all z.l t (set_bits 64 (64 * j) w) ≡ touch_all z.l now qs
   pub at : HeldAt z st.axes st.slots st.peak ws xs now
-  pub qubits : Every (λ q. q < z.qubits) (set_bits 64 (64 * j) rest)
+  pub qubits : Every (λ q. q < z.qubits) qs
 
-pub record BitsLoop (z : Shape) (first : State) (j w : ℕ) (ws₀ xs₀ ws xs : List ℕ) (st : State) (rest : ℕ) : Type 0 where
-  pub small : rest < 2 ^ 64
+pub record BitsLoop (z : Shape) (first : State) (j w : ℕ) (ws₀ xs₀ ws xs : List ℕ) (st : State) (qs : List ℕ) : Type 0 where
   pub left : LeftF z ws₀ xs₀ ws xs
   pub same : st ≡ with_slots st.peak st.slots first
-  pub at : (t : Touched) → BitsAt z first.axes first.slots first.peak j w ws₀ xs₀ t → BitsNow z j w ws xs st rest t
+  pub at : (t : Touched) → BitsAt z first.axes first.slots first.peak j w ws₀ xs₀ t → BitsNow z j w ws xs st qs t
 
-pub bits_first : {z : Shape} {st : State} {j w : ℕ} {ws xs : List ℕ} → w < 2 ^ 64 → BitsLoop z st j w ws xs ws xs st w
-bits_first b = record {
-  small = b;
+pub bits_first : {z : Shape} {st : State} {j w : ℕ} {ws xs qs : List ℕ} → set_bits 64 (64 * j) w ≡ qs → BitsLoop z st j w ws xs ws xs st qs
+bits_first {z} e = record {
   left = left_none _ _ _;
   same = refl;
-  at = λ t h. record { now = t; whole = refl; at = h.at; qubits = h.qubits };
+  at = λ t h. record {
+    now = t;
+    whole = ap (touch_all z.l t) e;
+    at = h.at;
+    qubits = subst (Every (λ q. q < z.qubits)) e h.qubits;
+  };
 }
 
 -- what a turn's call leaves, where it touches qubit q
@@ -62,16 +63,9 @@ TouchLeft z st q ws xs r ws' xs' =
     LeftF z ws xs ws' xs'
     × ((t : Touched) → TouchAt z st.axes st.slots st.peak q ws xs t → TouchedAs z st r ws' xs' (touch z.l t q))
 
-module _ {z : Shape} {first st : State} {j w : ℕ} {ws₀ xs₀ ws xs : List ℕ} {rest q : ℕ} (b : BitsLoop z first j w ws₀ xs₀ ws xs st rest)
-    (some : rest ≡ 0 → ⊥) (place : q ≡ 64 * j + count_trailing_zeros 64 rest) where
-  -- the lowest bit first
-  lowest : set_bits 64 (64 * j) rest ≡ q ∷ set_bits 64 (64 * j) (bit_and rest (rest - 1))
-  lowest =
-      set_bits_lowest 64 (64 * j) rest (omega arith) b.small
-      ∙ ap (λ (x : ℕ). x ∷ set_bits 64 (64 * j) (bit_and rest (rest - 1))) (sym place)
-
-  split : {t : Touched} → BitsNow z j w ws xs st rest t
-      → (q < z.qubits) × Every (λ i. i < z.qubits) (set_bits 64 (64 * j) (bit_and rest (rest - 1)))
+module _ {z : Shape} {first st : State} {j w : ℕ} {ws₀ xs₀ ws xs qs : List ℕ} {q : ℕ} {rest : List ℕ}
+    (b : BitsLoop z first j w ws₀ xs₀ ws xs st qs) (lowest : qs ≡ q ∷ rest) where
+  split : {t : Touched} → BitsNow z j w ws xs st qs t → (q < z.qubits) × Every (λ i. i < z.qubits) rest
   split k = subst (Every (λ i. i < z.qubits)) lowest k.qubits
 
   pub bits_turn : SomeTouched (λ (t : Touched). BitsAt z first.axes first.slots first.peak j w ws₀ xs₀ t)
@@ -79,8 +73,8 @@ module _ {z : Shape} {first st : State} {j w : ℕ} {ws₀ xs₀ ws xs : List �
   bits_turn s = let k = b.at s.state s.it in record { state = k.now; it = record { at = k.at; qubit = (split k).0 } }
 
   -- the rest, from the state after q
-  after : {t : Touched} (k : BitsNow z j w ws xs st rest t)
-      → touch_all z.l t (set_bits 64 (64 * j) w) ≡ touch_all z.l (touch z.l k.now q) (set_bits 64 (64 * j) (bit_and rest (rest - 1)))
+  after : {t : Touched} (k : BitsNow z j w ws xs st qs t)
+      → touch_all z.l t (set_bits 64 (64 * j) w) ≡ touch_all z.l (touch z.l k.now q) rest
   unfolding touch_all
   after k = k.whole ∙ ap (touch_all z.l k.now) lowest
 
@@ -88,13 +82,12 @@ module _ {z : Shape} {first st : State} {j w : ℕ} {ws₀ xs₀ ws xs : List �
     pub bits_left : LeftF z ws₀ xs₀ ws' xs'
     bits_left = left_then b.left call.0
 
-    said : {t : Touched} (k : BitsNow z j w ws xs st rest t) → TouchedAs z st r ws' xs' (touch z.l k.now q)
+    said : {t : Touched} (k : BitsNow z j w ws xs st qs t) → TouchedAs z st r ws' xs' (touch z.l k.now q)
     said k = call.1 k.now (record { at = k.at; qubit = (split k).0 })
 
     pub bits_next : SomeTouched (λ (t : Touched). BitsAt z first.axes first.slots first.peak j w ws₀ xs₀ t) → (s : State) → r ≡ Ok s
-        → BitsLoop z first j w ws₀ xs₀ ws' xs' s (bit_and rest (rest - 1))
+        → BitsLoop z first j w ws₀ xs₀ ws' xs' s rest
     bits_next some_state s e = record {
-      small = omega (arith, clear_lt rest (let p : 0 < rest = omega arith in p), b.small);
       left = bits_left;
       same = (said (b.at some_state.state some_state.it)).kept s e ∙ ap (with_slots s.peak s.slots) b.same;
       at = λ t h.
@@ -112,21 +105,16 @@ module _ {z : Shape} {first st : State} {j w : ℕ} {ws₀ xs₀ ws xs : List �
     bits_limit e t h =
         let k = b.at t h in
         let p = (said k).refused e in
-        as_limit (omega (
-          arith,
-          ap (λ (x : Touched). x.store.peak) (after k),
-          touch_all_rises z.l (touch z.l k.now q) (set_bits 64 (64 * j) (bit_and rest (rest - 1))),
-        ))
+        as_limit (omega (arith, ap (λ (x : Touched). x.store.peak) (after k), touch_all_rises z.l (touch z.l k.now q) rest))
 
 -- all are touched
-pub bits_end : {z : Shape} {first st : State} {j w : ℕ} {ws₀ xs₀ ws xs : List ℕ} {rest : ℕ}
-    → BitsLoop z first j w ws₀ xs₀ ws xs st rest → rest ≡ 0 → (t : Touched)
+pub bits_end : {z : Shape} {first st : State} {j w : ℕ} {ws₀ xs₀ ws xs qs : List ℕ}
+    → BitsLoop z first j w ws₀ xs₀ ws xs st qs → qs ≡ [] → (t : Touched)
     → BitsAt z first.axes first.slots first.peak j w ws₀ xs₀ t → TouchedAs z first (Ok st) ws xs (touch_all z.l t (set_bits 64 (64 * j) w))
 unfolding touch_all
-bits_end {z} {st = st} {j} {ws = ws} {xs} b e t h =
+bits_end {z} {st = st} {ws = ws} {xs} b e t h =
     let k = b.at t h in
-    as_next b.same (subst (Holds z st.axes st.slots st.peak ws xs) (sym (k.whole
-    ∙ ap (λ (x : ℕ). touch_all z.l k.now (set_bits 64 (64 * j) x)) e ∙ ap (touch_all z.l k.now) (set_bits_none 64 (64 * j)))) k.at.holds)
+    as_next b.same (subst (Holds z st.axes st.slots st.peak ws xs) (sym (k.whole ∙ ap (touch_all z.l k.now) e)) k.at.holds)
 
 -- ---- the qubits of an axis
 

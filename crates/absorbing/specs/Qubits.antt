@@ -1,13 +1,11 @@
 -- Images change qubit by qubit: those of the qubits of a list, and no others. Assumes nothing.
-use Rattle.std.specs.Prelude.{◌≡◌, refl, ◌⊎◌, ◌≢◌, Bool, true, false, ◌||◌, ℕ, suc, ◌+◌, ◌-◌, ◌*◌, ◌≤◌, ◌<◌, ◌^◌, eqb, length}
+use Rattle.std.specs.Prelude.{◌≡◌, refl, ◌⊎◌, ◌≢◌, Bool, true, false, ◌||◌, ℕ, suc, ◌+◌, ◌-◌, ◌*◌, ◌≤◌, ◌<◌, eqb, length}
 use Rattle.std.proofs.Math.Path.{sym, ap, ap₂}
 use Rattle.std.proofs.Common.{◌∙◌, subst, inl, inr, true≢false, arith, le_refl, mul-le-mul, eq-eqb, ne_eqb, eqb-true}
 use mathlib.Core.List.{List, [], ◌∷◌, ◌++◌, append_assoc, append-nil}
 use Rattle.std.proofs.Math.Decide.{ℕ_discrete, dec_lt}
-use Rattle.std.specs.Int.Bits.{bit_and, bit_or}
-use Rattle.std.specs.Int.Count.{count_trailing_zeros}
+use Rattle.std.specs.Int.Bits.{bit_or}
 use Rattle.std.proofs.Math.ListN.{get_or}
-use Rattle.bits.specs.LowestBit.{clear_lt}
 use Rattle.store.specs.Row.{row}
 use Rattle.store.specs.Part.{part_at}
 use Rattle.model.specs.Lists.{when◌then◌else◌, any_of, member}
@@ -21,7 +19,7 @@ use Rattle.layout.specs.Only.{Only, only_none, only_then}
 use Rattle.layout.specs.Words.{OnlyWords, words_none, words_then, words_in, words_part, slots_le}
 use Rattle.axes.specs.View.{word_at}
 use Rattle.words_wellformed.specs.SupportQubits.{Rising, set_bits_rising, support_rising}
-use Rattle.clifford_states.specs.SetBits.{set_bits_none, set_bits_lowest, qubits_at, qubits_from, support_from, qubits_end, qubits_next, support_number}
+use Rattle.clifford_states.specs.SetBits.{qubits_at, qubits_from, support_from, qubits_end, qubits_next, support_number}
 use Rattle.clifford.specs.Holds.{image_in}
 use Rattle.clifford.specs.Images.{image_rows}
 use Rattle.absorbing.specs.Turning.{TurnsPre, TurnedTo}
@@ -241,73 +239,67 @@ pub record NumberPre (z : Shape) (m b k j w : ℕ) (ws xs : List ℕ) : Type 0 w
   pub number : j < 64
   pub qubits : Every (λ q. q < z.qubits) (set_bits 64 (64 * j) w)
 
--- those of `done` are changed, those of `rest` are left
-pub record NumberNow (z : Shape) (m b k j w : ℕ) (ws₀ xs₀ ws xs : List ℕ) (rest : ℕ) : Type 0 where
+-- those of `done` are changed, qubits qs are left
+pub record NumberNow (z : Shape) (m b k j w : ℕ) (ws₀ xs₀ ws xs qs : List ℕ) : Type 0 where
   pub done : List ℕ
-  pub whole : set_bits 64 (64 * j) w ≡ done ++ set_bits 64 (64 * j) rest
+  pub whole : set_bits 64 (64 * j) w ≡ done ++ qs
   pub turned : TurnedFor z m b k done ws₀ xs₀ ws xs
-  pub qubits : Every (λ q. q < z.qubits) (set_bits 64 (64 * j) rest)
+  pub qubits : Every (λ q. q < z.qubits) qs
 
-pub record NumberLoop (z : Shape) (b k j w : ℕ) (ws₀ xs₀ ws xs : List ℕ) (rest : ℕ) : Type 0 where
-  pub small : rest < 2 ^ 64
-  pub at : (m : ℕ) → NumberPre z m b k j w ws₀ xs₀ → NumberNow z m b k j w ws₀ xs₀ ws xs rest
+pub record NumberLoop (z : Shape) (b k j w : ℕ) (ws₀ xs₀ ws xs qs : List ℕ) : Type 0 where
+  pub at : (m : ℕ) → NumberPre z m b k j w ws₀ xs₀ → NumberNow z m b k j w ws₀ xs₀ ws xs qs
 
-pub number_first : {z : Shape} {b k j w : ℕ} {ws xs : List ℕ} → w < 2 ^ 64 → NumberLoop z b k j w ws xs ws xs w
-number_first h = record { small = h; at = λ m pre. record { done = []; whole = refl; turned = for_none; qubits = pre.qubits } }
+pub number_first : {z : Shape} {b k j w : ℕ} {ws xs qs : List ℕ} → set_bits 64 (64 * j) w ≡ qs → NumberLoop z b k j w ws xs ws xs qs
+number_first {z} e = record {
+  at = λ m pre. record {
+    done = [];
+    whole = e;
+    turned = for_none;
+    qubits = subst (Every (λ q. q < z.qubits)) e pre.qubits;
+  };
+}
 
 -- what a turn's call leaves
 abbrev pub QubitLeft : Shape → ℕ → ℕ → ℕ → List ℕ → List ℕ → List ℕ → List ℕ → Type 0
 QubitLeft z q b k ws xs ws' xs' = (m : ℕ) → QubitsPre z m b k ws xs → TurnedFor z m b k (q ∷ []) ws xs ws' xs'
 
-module _ {z : Shape} {b k j w : ℕ} {ws₀ xs₀ ws xs : List ℕ} {rest q : ℕ} (loop : NumberLoop z b k j w ws₀ xs₀ ws xs rest)
-    (some : rest ≡ 0 → ⊥) (place : q ≡ 64 * j + count_trailing_zeros 64 rest) where
-  lowest : set_bits 64 (64 * j) rest ≡ q ∷ set_bits 64 (64 * j) (bit_and rest (rest - 1))
-  lowest =
-      set_bits_lowest 64 (64 * j) rest (omega arith) loop.small
-      ∙ ap (λ (x : ℕ). x ∷ set_bits 64 (64 * j) (bit_and rest (rest - 1))) (sym place)
-
+module _ {z : Shape} {b k j w : ℕ} {ws₀ xs₀ ws xs qs : List ℕ} {q : ℕ} {rest : List ℕ} (loop : NumberLoop z b k j w ws₀ xs₀ ws xs qs)
+    (lowest : qs ≡ q ∷ rest) where
   module _ {m : ℕ} (pre : NumberPre z m b k j w ws₀ xs₀) where
-    split : (q < z.qubits) × Every (λ i. i < z.qubits) (set_bits 64 (64 * j) (bit_and rest (rest - 1)))
+    split : (q < z.qubits) × Every (λ i. i < z.qubits) rest
     split = subst (Every (λ i. i < z.qubits)) lowest (loop.at m pre).qubits
 
     qubits_now : QubitsPre z m b k ws xs
     qubits_now = qubits_kept pre.at (loop.at m pre).turned
 
-    number_more : {ws' xs' : List ℕ} → QubitLeft z q b k ws xs ws' xs' → NumberNow z m b k j w ws₀ xs₀ ws' xs' (bit_and rest (rest - 1))
+    number_more : {ws' xs' : List ℕ} → QubitLeft z q b k ws xs ws' xs' → NumberNow z m b k j w ws₀ xs₀ ws' xs' rest
     number_more call =
         let now = loop.at m pre in
-        let cut : set_bits 64 (64 * j) w ≡ now.done ++ (q ∷ set_bits 64 (64 * j) (bit_and rest (rest - 1)))
-        = now.whole ∙ ap (λ (xs : List ℕ). now.done ++ xs) lowest in
+        let cut : set_bits 64 (64 * j) w ≡ now.done ++ (q ∷ rest) = now.whole ∙ ap (λ (xs : List ℕ). now.done ++ xs) lowest in
         record {
           done = now.done ++ (q ∷ []);
-          whole = cut ∙ sym (append_assoc now.done (q ∷ []) (set_bits 64 (64 * j) (bit_and rest (rest - 1))));
+          whole = cut ∙ sym (append_assoc now.done (q ∷ []) rest);
           turned = for_then pre.at now.turned (call m qubits_now) (λ r e f.
-              rising_apart (64 * j) (64 * j + 64) now.done (q ∷ set_bits 64 (64 * j) (bit_and rest (rest - 1)))
+              rising_apart (64 * j) (64 * j + 64) now.done (q ∷ rest)
               (subst (Rising (64 * j) (64 * j + 64)) cut (set_bits_rising 64 (64 * j) w)) r e (one r f));
           qubits = split.1;
         }
       where
-        one : (r : ℕ) → member r (q ∷ []) ≡ true → member r (q ∷ set_bits 64 (64 * j) (bit_and rest (rest - 1))) ≡ true
-        one r f =
-            member_append r (q ∷ []) (set_bits 64 (64 * j) (bit_and rest (rest - 1)))
-            ∙ ap (λ (x : Bool). x || member r (set_bits 64 (64 * j) (bit_and rest (rest - 1)))) f
+        one : (r : ℕ) → member r (q ∷ []) ≡ true → member r (q ∷ rest) ≡ true
+        one r f = member_append r (q ∷ []) rest ∙ ap (λ (x : Bool). x || member r rest) f
 
   pub number_turn : SomeSlots (λ m. NumberPre z m b k j w ws₀ xs₀) → SomeSlots (λ m. QubitsPre z m b k ws xs) × (q < z.qubits)
   number_turn s = (record { count = s.count; it = qubits_now s.it }, (split s.it).0)
 
-  pub number_next : {ws' xs' : List ℕ} → QubitLeft z q b k ws xs ws' xs' → NumberLoop z b k j w ws₀ xs₀ ws' xs' (bit_and rest (rest - 1))
-  number_next call = record {
-    small = omega (arith, clear_lt rest (let p : 0 < rest = omega arith in p), loop.small);
-    at = λ m pre. number_more pre call;
-  }
+  pub number_next : {ws' xs' : List ℕ} → QubitLeft z q b k ws xs ws' xs' → NumberLoop z b k j w ws₀ xs₀ ws' xs' rest
+  number_next call = record { at = λ m pre. number_more pre call }
 
-pub number_end : {z : Shape} {b k j w : ℕ} {ws₀ xs₀ ws xs : List ℕ} {rest : ℕ} → NumberLoop z b k j w ws₀ xs₀ ws xs rest → rest ≡ 0
+pub number_end : {z : Shape} {b k j w : ℕ} {ws₀ xs₀ ws xs qs : List ℕ} → NumberLoop z b k j w ws₀ xs₀ ws xs qs → qs ≡ []
     → (m : ℕ) → NumberPre z m b k j w ws₀ xs₀ → TurnedFor z m b k (set_bits 64 (64 * j) w) ws₀ xs₀ ws xs
-number_end {z} {b} {k} {j} {w} {ws₀} {xs₀} {ws} {xs} loop e m pre =
+number_end {z} {b} {k} {ws₀ = ws₀} {xs₀} {ws} {xs} loop e m pre =
     let now = loop.at m pre in
-    subst (λ (qs : List ℕ). TurnedFor z m b k qs ws₀ xs₀ ws xs) (sym (now.whole
-    ∙ ap (λ (x : ℕ). now.done ++ set_bits 64 (64 * j) x) e ∙ ap (λ (qs : List ℕ). now.done ++ qs) (set_bits_none 64 (64 * j))
-    ∙ append-nil now.done)) now.turned
+    subst (λ (qs : List ℕ). TurnedFor z m b k qs ws₀ xs₀ ws xs)
+    (sym (now.whole ∙ ap (λ (qs : List ℕ). now.done ++ qs) e ∙ append-nil now.done)) now.turned
 
 -- ---- the qubits that the word at a place acts on
 

@@ -35,11 +35,8 @@ fn touch_bits(
         → TouchedAs shape first result words.new numbers.new (touch_all shape.l t (set_bits 64 (64 * j) acted))) }
 {
     let mut st = first;
-    let mut rest = acted;
-    while rest != 0 {
-        let q = 64 * j + u64::trailing_zeros(rest) as usize;
-        st = clifford::touch(words, numbers, shape, st, q)?;
-        rest &= rest - 1;
+    for place in bits::set_bits(acted) {
+        st = clifford::touch(words, numbers, shape, st, 64 * j + place)?;
     }
     Ok(st)
 }
@@ -149,11 +146,8 @@ fn turn_bits(
         → TurnedFor shape m b k (set_bits 64 (64 * j) acted)
         words.old numbers.old words.new numbers.new }
 {
-    let mut rest = acted;
-    while rest != 0 {
-        let q = 64 * j + u64::trailing_zeros(rest) as usize;
-        turn_qubit(words, numbers, shape, q, b, k);
-        rest &= rest - 1;
+    for place in bits::set_bits(acted) {
+        turn_qubit(words, numbers, shape, 64 * j + place, b, k);
     }
 }
 

@@ -1,10 +1,11 @@
 -- The places of a number's set bits, rising: the lowest of them, then those that are left when it is cleared. Assumes nothing.
-use Rattle.std.specs.Prelude.{◌≡◌, refl, ℕ, zero, suc, ◌+◌, ◌-◌, ◌/◌, ◌%◌, ◌^◌, ◌<◌, List, [], ◌∷◌, cond, eqb}
-use Rattle.std.proofs.Common.{sym, ap, ap₂, ◌∙◌, pow-suc, add-zero, zero-add, arith, eq-eqb, ne_eqb}
+use Rattle.std.specs.Prelude.{◌≡◌, refl, ◌⊎◌, ℕ, zero, suc, ◌+◌, ◌-◌, ◌/◌, ◌%◌, ◌^◌, ◌≤◌, ◌<◌, List, [], ◌∷◌, cond, eqb}
+use Rattle.std.proofs.Common.{sym, ap, ap₂, ◌∙◌, subst, inl, inr, pow-suc, add-zero, zero-add, arith, eq-eqb, ne_eqb}
+use Rattle.std.proofs.Math.Decide.{dec_lt}
 use Rattle.std.specs.Int.Bits.{bit_and, and_self}
 use Rattle.std.specs.Int.Count.{count_trailing_zeros, under}
 use Rattle.bits.specs.Digit.{Digit, off, on, low}
-use Rattle.bits.specs.Bit.{and_half, and_low}
+use Rattle.bits.specs.Bit.{bit, bit_high, and_half, and_low}
 
 -- the set bits among n's first k, counted from q
 unfoldable pub set_bits : ℕ → ℕ → ℕ → List ℕ
@@ -21,11 +22,11 @@ set_bits_none zero q = refl
 set_bits_none (suc k) q = set_bits_none k (suc q)
 
 -- its lowest digit by itself
-set_bits_odd : (k q n : ℕ) → n % 2 ≡ 1 → set_bits (suc k) q n ≡ q ∷ set_bits k (suc q) (n / 2)
+pub set_bits_odd : (k q n : ℕ) → n % 2 ≡ 1 → set_bits (suc k) q n ≡ q ∷ set_bits k (suc q) (n / 2)
 unfolding set_bits
 set_bits_odd k q n h = rw (eq-eqb (n % 2) 1 h)
 
-set_bits_even : (k q n : ℕ) → n % 2 ≡ 0 → set_bits (suc k) q n ≡ set_bits k (suc q) (n / 2)
+pub set_bits_even : (k q n : ℕ) → n % 2 ≡ 0 → set_bits (suc k) q n ≡ set_bits k (suc q) (n / 2)
 unfolding set_bits
 set_bits_even k q n h = rw (ne_eqb (n % 2) 1 (omega arith))
 
@@ -72,3 +73,28 @@ set_bits_lt (suc k) q n x xs e = go (λ h. set_bits_lt k (suc q) (n / 2) x xs h)
         let f : ◌≡◌ {A = List ℕ} (q ∷ set_bits k (suc q) (n / 2)) (x ∷ xs) = sym (set_bits_odd k q n z) ∙ e in
         let s : q ≡ x = cc in
         omega arith
+
+-- n is one of a list
+abbrev pub Among : ℕ → List ℕ → Type 0
+Among n [] = ⊥
+Among n (x ∷ xs) = (n ≡ x) ⊎ Among n xs
+
+-- each set bit is among them
+set_bits_have : (k q n i : ℕ) → i < k → bit n i ≡ 1 → Among (q + i) (set_bits k q n)
+unfolding bit
+set_bits_have zero q n i b h = absurd (omega arith)
+set_bits_have (suc k) q n zero b h = subst (Among (q + 0)) (sym (set_bits_odd k q n h)) (inl (add-zero q))
+set_bits_have (suc k) q n (suc i) b h =
+    let next : suc q + i ≡ q + suc i = omega arith in
+    go (subst (λ (x : ℕ). Among x (set_bits k (suc q) (n / 2))) next (set_bits_have k (suc q) (n / 2) i (omega arith) h)) (low n) refl
+  where
+    go : {d : ℕ} → Among (q + suc i) (set_bits k (suc q) (n / 2)) → Digit d → n % 2 ≡ d → Among (q + suc i) (set_bits (suc k) q n)
+    go later off e = subst (Among (q + suc i)) (sym (set_bits_even k q n e)) later
+    go later on e = subst (Among (q + suc i)) (sym (set_bits_odd k q n e)) (inr later)
+
+pub places_have : (n i : ℕ) → n < 2 ^ 64 → bit n i ≡ 1 → Among i (places n)
+places_have n i f h = subst (λ (x : ℕ). Among x (places n)) (zero-add i) (set_bits_have 64 0 n i (go (dec_lt i 64)) h)
+  where
+    go : Dec (i < 64) → i < 64
+    go (yes b) = b
+    go (no b) = absurd (omega (arith, bit_high n 64 i f (let m : 64 ≤ i = omega arith in m)))

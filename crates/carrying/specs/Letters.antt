@@ -2,13 +2,11 @@
 use Rattle.std.specs.Prelude.{◌≡◌, length, get_or, replicate}
 use Rattle.std.proofs.Common.{subst, ap₂, ◌∙◌}
 use Rattle.std.proofs.Math.Path.{refl, sym, ap}
-use mathlib.Core.List.{List, ◌∷◌, ◌++◌}
-use Prim.Native.Nat.{ℕ, ◌+◌, ◌*◌, ◌≤◌, ◌<◌, suc, ◌-◌, ◌^◌}
+use mathlib.Core.List.{List, [], ◌∷◌, ◌++◌}
+use Prim.Native.Nat.{ℕ, ◌+◌, ◌*◌, ◌≤◌, ◌<◌, suc, ◌-◌}
 use native.Mathlib.Omega.{arith}
 use Rattle.std.proofs.lemmas.List.{length-replicate}
-use Rattle.std.specs.Int.Bits.{bit_or, bit_and}
-use Rattle.std.specs.Int.Count.{count_trailing_zeros}
-use Rattle.bits.specs.LowestBit.{clear_lt}
+use Rattle.std.specs.Int.Bits.{bit_or}
 use Rattle.store.specs.Part.{put, part_put_same}
 use Rattle.store.specs.Row.{row}
 use Rattle.pauli.specs.Word.{identity}
@@ -26,7 +24,7 @@ use Rattle.words_wellformed.specs.Inside.{Inside, inside_acts}
 use Rattle.words_wellformed.specs.Conjugation.{value_eq}
 use Rattle.words_wellformed.specs.SupportQubits.{support_all}
 use Rattle.clifford_states.specs.Slots.{slot_of, image_at, letter_free, letter_held}
-use Rattle.clifford_states.specs.SetBits.{set_bits_none, set_bits_lowest, qubits_at, qubits_from, support_from, qubits_end, qubits_next}
+use Rattle.clifford_states.specs.SetBits.{qubits_at, qubits_from, support_from, qubits_end, qubits_next}
 use Rattle.clifford_states.specs.SetBits.{support_number, multiply_images_append}
 use Rattle.clifford.specs.Holds.{image_in, mask_place, SomeTouched, HeldAt, holds_behind, axis_in, axis_number}
 use Rattle.clifford.specs.Images.{ImageThere}
@@ -167,37 +165,34 @@ pub record LettersTimes (z : Shape) (id e : ℕ) (ws : List ℕ) (t : Touched) (
   pub value : scratch_value z ws' r ≡ multiply_images z.l t.held (axis_word id t) (scratch_value z ws e) qs
   pub words : OnlyWords z.limit (mask_place z) ws ws'
 
--- those of `rest` are still to be multiplied
-pub record LettersNow (z : Shape) (id j w e : ℕ) (ws₀ ws xs : List ℕ) (f rest : ℕ) (t : Touched) : Type 0 where
+-- those of qubits qs are still to be multiplied
+pub record LettersNow (z : Shape) (id j w e : ℕ) (ws₀ ws xs : List ℕ) (f : ℕ) (qs : List ℕ) (t : Touched) : Type 0 where
   pub whole : multiply_images z.l t.held (axis_word id t) (scratch_value z ws₀ e) (set_bits 64 (64 * j) w)
-      ≡ multiply_images z.l t.held (axis_word id t) (scratch_value z ws f) (set_bits 64 (64 * j) rest)
+      ≡ multiply_images z.l t.held (axis_word id t) (scratch_value z ws f) qs
   pub held : AxisHeld z id ws xs t
-  pub qubits : Every (Acted z id t) (set_bits 64 (64 * j) rest)
+  pub qubits : Every (Acted z id t) qs
 
-pub record LettersLoop (z : Shape) (id j w e : ℕ) (ws₀ ws xs : List ℕ) (f rest : ℕ) : Type 0 where
-  pub small : rest < 2 ^ 64
+pub record LettersLoop (z : Shape) (id j w e : ℕ) (ws₀ ws xs : List ℕ) (f : ℕ) (qs : List ℕ) : Type 0 where
   pub phase : f < 4
   pub words : OnlyWords z.limit (mask_place z) ws₀ ws
-  pub at : (t : Touched) → LettersAt z id j w e ws₀ xs t → LettersNow z id j w e ws₀ ws xs f rest t
+  pub at : (t : Touched) → LettersAt z id j w e ws₀ xs t → LettersNow z id j w e ws₀ ws xs f qs t
 
-pub letters_first : {z : Shape} {id j w e : ℕ} {ws xs : List ℕ} → w < 2 ^ 64 → SomeTouched (λ (t : Touched). LettersAt z id j w e ws xs t)
-    → LettersLoop z id j w e ws ws xs e w
-letters_first b s = record {
-  small = b;
+pub letters_first : {z : Shape} {id j w e : ℕ} {ws xs qs : List ℕ} → set_bits 64 (64 * j) w ≡ qs
+    → SomeTouched (λ (t : Touched). LettersAt z id j w e ws xs t) → LettersLoop z id j w e ws ws xs e qs
+letters_first {z} {id} {e = e} {ws} all s = record {
   phase = s.it.small;
   words = words_none _ _ _;
-  at = λ t h. record { whole = refl; held = h.held; qubits = h.qubits };
+  at = λ t h. record {
+    whole = ap (multiply_images z.l t.held (axis_word id t) (scratch_value z ws e)) all;
+    held = h.held;
+    qubits = subst (Every (Acted z id t)) all h.qubits;
+  };
 }
 
-module _ {z : Shape} {id j w e : ℕ} {ws₀ ws xs : List ℕ} {f rest q : ℕ} (b : LettersLoop z id j w e ws₀ ws xs f rest)
-    (some : rest ≡ 0 → ⊥) (place : q ≡ 64 * j + count_trailing_zeros 64 rest) where
-  lowest : set_bits 64 (64 * j) rest ≡ q ∷ set_bits 64 (64 * j) (bit_and rest (rest - 1))
-  lowest =
-      set_bits_lowest 64 (64 * j) rest (omega arith) b.small
-      ∙ ap (λ (x : ℕ). x ∷ set_bits 64 (64 * j) (bit_and rest (rest - 1))) (sym place)
-
+module _ {z : Shape} {id j w e : ℕ} {ws₀ ws xs : List ℕ} {f q : ℕ} {qs rest : List ℕ} (b : LettersLoop z id j w e ws₀ ws xs f qs)
+    (lowest : qs ≡ q ∷ rest) where
   module _ {t : Touched} (h : LettersAt z id j w e ws₀ xs t) where
-    split : Acted z id t q × Every (Acted z id t) (set_bits 64 (64 * j) (bit_and rest (rest - 1)))
+    split : Acted z id t q × Every (Acted z id t) rest
     split = subst (Every (Acted z id t)) lowest (b.at t h).qubits
 
     pub letter_at : LetterAt z id q f ws xs t
@@ -208,10 +203,9 @@ module _ {z : Shape} {id j w e : ℕ} {ws₀ ws xs : List ℕ} {f rest q : ℕ} 
 
   pub letters_next : {ws' : List ℕ} {r : ℕ} → SomeTouched (λ (t : Touched). LettersAt z id j w e ws₀ xs t)
       → ((t : Touched) → LetterAt z id q f ws xs t → ScratchTimes z f ws (letter_of_axis z id q t) ws' r)
-      → LettersLoop z id j w e ws₀ ws' xs r (bit_and rest (rest - 1))
+      → LettersLoop z id j w e ws₀ ws' xs r rest
   unfolding multiply_images letter_of_axis
   letters_next s call = record {
-    small = omega (arith, clear_lt rest (let p : 0 < rest = omega arith in p), b.small);
     phase = (call s.state (letter_at s.it)).small;
     words = words_then b.words (call s.state (letter_at s.it)).words;
     at = λ t h.
@@ -220,22 +214,18 @@ module _ {z : Shape} {id j w e : ℕ} {ws₀ ws xs : List ℕ} {f rest q : ℕ} 
         record {
           whole =
               k.whole ∙ ap (multiply_images z.l t.held (axis_word id t) (scratch_value z ws f)) lowest
-              ∙ ap (λ (v : Value). multiply_images z.l t.held (axis_word id t) v (set_bits 64 (64 * j) (bit_and rest (rest - 1))))
-              (sym c.value);
+              ∙ ap (λ (v : Value). multiply_images z.l t.held (axis_word id t) v rest) (sym c.value);
           held = axis_behind k.held c.words;
           qubits = (split h).1;
         };
   }
 
-pub letters_end : {z : Shape} {id j w e : ℕ} {ws₀ ws xs : List ℕ} {f rest : ℕ} → LettersLoop z id j w e ws₀ ws xs f rest → rest ≡ 0
+pub letters_end : {z : Shape} {id j w e : ℕ} {ws₀ ws xs : List ℕ} {f : ℕ} {qs : List ℕ} → LettersLoop z id j w e ws₀ ws xs f qs → qs ≡ []
     → (t : Touched) → LettersAt z id j w e ws₀ xs t → LettersTimes z id e ws₀ t (set_bits 64 (64 * j) w) ws f
 unfolding multiply_images
-letters_end {z} {id} {j} {ws = ws} {f = f} b e t h = record {
+letters_end {z} {id} {ws = ws} {f = f} b e t h = record {
   small = b.phase;
-  value =
-      sym ((b.at t h).whole
-      ∙ ap (λ (x : ℕ). multiply_images z.l t.held (axis_word id t) (scratch_value z ws f) (set_bits 64 (64 * j) x)) e
-      ∙ ap (multiply_images z.l t.held (axis_word id t) (scratch_value z ws f)) (set_bits_none 64 (64 * j)));
+  value = sym ((b.at t h).whole ∙ ap (multiply_images z.l t.held (axis_word id t) (scratch_value z ws f)) e);
   words = b.words;
 }
 

@@ -89,11 +89,8 @@ fn carry_bits(
         → LettersTimes shape id before words.old t (set_bits 64 (64 * j) acted) words.new result }
 {
     let mut phase = before;
-    let mut rest = acted;
-    while rest != 0 {
-        let q = 64 * j + u64::trailing_zeros(rest) as usize;
-        phase = carry_letter(words, numbers, shape, id, q, phase);
-        rest &= rest - 1;
+    for place in bits::set_bits(acted) {
+        phase = carry_letter(words, numbers, shape, id, 64 * j + place, phase);
     }
     phase
 }

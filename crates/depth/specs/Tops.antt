@@ -1,16 +1,13 @@
 -- The highest level so far of each bit of a signature, and walks over a signature's bits. Assumes nothing.
-use Rattle.std.specs.Prelude.{◌≡◌, ◌⊎◌, List, [], ◌∷◌, ℕ, ◌-◌, ◌*◌, ◌^◌, ◌≤◌, ◌<◌, min, max, length, get_or, set}
+use Rattle.std.specs.Prelude.{◌≡◌, ◌⊎◌, List, [], ◌∷◌, ℕ, ◌*◌, ◌^◌, ◌≤◌, ◌<◌, min, max, length, get_or, set}
 use Rattle.std.proofs.Math.Path.{sym}
 use Rattle.std.proofs.Common.{ap, ◌∙◌, subst, inl, inr, ⊎_elim}
 use native.Mathlib.Omega.{arith}
 use Rattle.std.proofs.Math.Decide.{ℕ_discrete}
-use Rattle.std.specs.Int.Bits.{bit_and}
-use Rattle.std.proofs.lemmas.Nat.{and_le_l}
-use Rattle.std.specs.Int.Count.{count_trailing_zeros}
 use Rattle.std.proofs.Math.Dec.{ltb}
 use borrow.Author.Tests.{lt-ltb, le-ltb, ltb-true}
-use Rattle.bits.specs.Bit.{bit, bit_bit_or, zero_bit, pow_other}
-use Rattle.bits.specs.LowestBit.{lowest_bit}
+use Rattle.bits.specs.Bit.{bit}
+use Rattle.bits.specs.SetBits.{Among, places, places_have}
 use Rattle.store.specs.Row.{row, Written}
 use Rattle.model.specs.Lists.{when◌then◌else◌}
 use Rattle.theory.specs.Cases.{if_true, if_false, on_if}
@@ -51,41 +48,24 @@ pub record BitPre (u : ℕ) (s : List ℕ) : Type 0 where
 
 -- ---- bit by bit
 
--- a set bit is the lowest, or is left when that is cleared
-bit_left : (w k : ℕ) → 0 < w → w < 2 ^ 64 → bit w k ≡ 1 → (bit (bit_and w (w - 1)) k ≡ 1) ⊎ (k ≡ count_trailing_zeros 64 w)
-bit_left w k p h e = go (ℕ_discrete k (count_trailing_zeros 64 w))
-  where
-    go : Dec (k ≡ count_trailing_zeros 64 w) → (bit (bit_and w (w - 1)) k ≡ 1) ⊎ (k ≡ count_trailing_zeros 64 w)
-    go (yes q) = inr q
-    go (no q) = inl (omega (
-      arith,
-      ap (λ (n : ℕ). bit n k) (lowest_bit 64 w p h),
-      bit_bit_or (bit_and w (w - 1)) (2 ^ count_trailing_zeros 64 w) k,
-      pow_other (count_trailing_zeros 64 w) k q,
-    ))
+-- each bit of sig is among the places that are left, or P holds of it
+pub record BitsLeft (P : ℕ → Type 0) (sig : ℕ) (ps : List ℕ) : Type 0 where
+  pub left : (k : ℕ) → bit sig k ≡ 1 → Among k ps ⊎ P k
 
--- each bit of sig is among those that are left, or P holds of it
-pub record BitsLeft (P : ℕ → Type 0) (sig rest : ℕ) : Type 0 where
-  pub fits : rest < 2 ^ 64
-  pub left : (k : ℕ) → bit sig k ≡ 1 → (bit rest k ≡ 1) ⊎ P k
-
-pub bits_first : {P : ℕ → Type 0} {sig : ℕ} → sig < 2 ^ 64 → BitsLeft P sig sig
-bits_first h = record { fits = h; left = λ k e. inl e }
+pub bits_first : {P : ℕ → Type 0} {sig v : ℕ} → sig < 2 ^ 64 → v ≡ sig → BitsLeft P sig (places v)
+bits_first {sig = sig} h e = record { left = λ k f. inl (subst (λ (n : ℕ). Among k (places n)) (sym e) (places_have sig k h f)) }
 
 -- the lowest bit's turn: what held still holds
-bits_next : {P Q : ℕ → Type 0} {sig rest : ℕ} → 0 < rest → BitsLeft P sig rest → ((k : ℕ) → P k → Q k) → Q (count_trailing_zeros 64 rest)
-    → BitsLeft Q sig (bit_and rest (rest - 1))
-bits_next {P} {Q} {sig} {rest} p b more own = record {
-  fits = omega (arith, b.fits, and_le_l rest (rest - 1));
+bits_next : {P Q : ℕ → Type 0} {sig p : ℕ} {ps rest : List ℕ} → ps ≡ p ∷ rest → BitsLeft P sig ps → ((k : ℕ) → P k → Q k) → Q p
+    → BitsLeft Q sig rest
+bits_next {P} {Q} {p = p} {ps} {rest} lowest b more own = record {
   left = λ k e. ⊎_elim
-      (λ (x : bit rest k ≡ 1). ⊎_elim (λ y. inl y) (λ (y : k ≡ count_trailing_zeros 64 rest). inr (subst Q (sym y) own))
-      (bit_left rest k p b.fits x))
+      (λ (x : Among k ps). ⊎_elim (λ (y : k ≡ p). inr (subst Q (sym y) own)) (λ (y : Among k rest). inl y) (subst (Among k) lowest x))
       (λ (x : P k). inr (more k x)) (b.left k e);
 }
 
-bits_end : {P : ℕ → Type 0} {sig rest : ℕ} → rest ≡ 0 → BitsLeft P sig rest → (k : ℕ) → bit sig k ≡ 1 → P k
-bits_end {P} {rest = rest} z b k e =
-    ⊎_elim (λ (x : bit rest k ≡ 1). absurd (omega (arith, ap (λ (n : ℕ). bit n k) z, zero_bit k))) (λ x. x) (b.left k e)
+bits_end : {P : ℕ → Type 0} {sig : ℕ} {ps : List ℕ} → ps ≡ [] → BitsLeft P sig ps → (k : ℕ) → bit sig k ≡ 1 → P k
+bits_end {P} {ps = ps} none b k e = ⊎_elim (λ (x : Among k ps). absurd (subst (Among k) none x)) (λ (x : P k). x) (b.left k e)
 
 -- ---- the bound
 
@@ -99,13 +79,13 @@ abbrev pub LowerThan : ℕ → List ℕ → ℕ → ℕ → Type 0
 LowerThan u s most k = top_of s u k ≤ most
 
 module _ (u : ℕ) (s : List ℕ) {sig : ℕ} where
-  pub bound_turn : {most rest top m : ℕ} → 0 < rest → BitsLeft (LowerThan u s most) sig rest → top ≡ top_of s u (count_trailing_zeros 64 rest)
-      → m ≡ max most top → BitsLeft (LowerThan u s m) sig (bit_and rest (rest - 1))
-  bound_turn p b e f = bits_next p b (λ k h. omega arith) (omega arith)
+  pub bound_turn : {most p top m : ℕ} {ps rest : List ℕ} → ps ≡ p ∷ rest → BitsLeft (LowerThan u s most) sig ps → top ≡ top_of s u p
+      → m ≡ max most top → BitsLeft (LowerThan u s m) sig rest
+  bound_turn lowest b e f = bits_next lowest b (λ k h. omega arith) (omega arith)
 
-  pub bound_end : {most rest reached r : ℕ} → rest ≡ 0 → BitsLeft (LowerThan u s most) sig rest → r ≡ min most reached
+  pub bound_end : {most reached r : ℕ} {ps : List ℕ} → ps ≡ [] → BitsLeft (LowerThan u s most) sig ps → r ≡ min most reached
       → BoundOf u s sig reached r
-  bound_end {most} {rest} z b e = record { bits = λ k h. omega (arith, bits_end z b k h); most = omega arith }
+  bound_end {most} none b e = record { bits = λ k h. omega (arith, bits_end none b k h); most = omega arith }
 
 -- ---- levels are raised
 
@@ -142,26 +122,25 @@ pub record Raised (u : ℕ) (s : List ℕ) (sig v : ℕ) (t : List ℕ) : Type 0
   pub own : (k : ℕ) → bit sig k ≡ 1 → v ≤ top_of t u k
 
 -- all bits but those that are left
-pub record RaisedTo (u : ℕ) (s : List ℕ) (sig v rest : ℕ) (t : List ℕ) : Type 0 where
+pub record RaisedTo (u : ℕ) (s : List ℕ) (sig v : ℕ) (ps t : List ℕ) : Type 0 where
   pub only : Only (level_top ∷ []) u s t
   pub up : (j : ℕ) → top_of s u j ≤ top_of t u j
-  pub bits : BitsLeft (λ k. v ≤ top_of t u k) sig rest
+  pub bits : BitsLeft (λ k. v ≤ top_of t u k) sig ps
 
 module _ {u : ℕ} {s : List ℕ} {sig v : ℕ} where
-  pub raise_start : sig < 2 ^ 64 → RaisedTo u s sig v sig s
-  raise_start h = record { only = only_none _ _ _; up = λ j. omega arith; bits = bits_first h }
+  pub raise_start : {w : ℕ} → sig < 2 ^ 64 → w ≡ sig → RaisedTo u s sig v (places w) s
+  raise_start h e = record { only = only_none _ _ _; up = λ j. omega arith; bits = bits_first h e }
 
-  module _ {rest : ℕ} {t : List ℕ} (a : RaisedTo u s sig v rest t) where
+  module _ {ps t : List ℕ} (a : RaisedTo u s sig v ps t) where
     pub raise_pre : BitPre u s → BitPre u t
     raise_pre pre = record { long = omega (arith, pre.long, a.only.long); some = pre.some }
 
-    pub raise_turn : {x : List ℕ} → 0 < rest → OneRaised u t (count_trailing_zeros 64 rest) v x
-        → RaisedTo u s sig v (bit_and rest (rest - 1)) x
-    raise_turn {x} p w = record {
+    pub raise_turn : {p : ℕ} {rest x : List ℕ} → ps ≡ p ∷ rest → OneRaised u t p v x → RaisedTo u s sig v rest x
+    raise_turn lowest w = record {
       only = only_then a.only w.only;
       up = λ j. omega (arith, a.up j, w.up j);
-      bits = bits_next p a.bits (λ k h. omega (arith, w.up k)) w.own;
+      bits = bits_next lowest a.bits (λ k h. omega (arith, w.up k)) w.own;
     }
 
-    pub raise_end : rest ≡ 0 → Raised u s sig v t
-    raise_end z = record { only = a.only; up = a.up; own = bits_end z a.bits }
+    pub raise_end : ps ≡ [] → Raised u s sig v t
+    raise_end none = record { only = a.only; up = a.up; own = bits_end none a.bits }

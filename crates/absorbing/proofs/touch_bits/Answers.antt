@@ -1,51 +1,45 @@
--- The bits of `rest` are still to be touched. Assumes nothing.
-use Rattle.absorbing.specs.AxisQubits.{bits_first, bits_turn, bits_left, bits_next, bits_limit, bits_end, number_small}
-use lib.Count.{trailing_le}
-use Rattle.bits.specs.LowestBit.{clear_lt}
-use mathlib.Core.Path.{refl}
-use native.Mathlib.Omega.{arith}
+-- The qubits of the places left are still to be touched. Assumes nothing.
+use Rattle.std.proofs.Common.{ap, arith}
+use Rattle.bits.specs.SetBits.{set_bits_lt}
 use Rattle.steps.specs.State.{is_limit}
+use Rattle.clifford_states.specs.SetBits.{qubits_in, qubits_all}
+use Rattle.absorbing.specs.AxisQubits.{bits_first, bits_turn, bits_left, bits_next, bits_limit, bits_end, number_small}
 use Rattle.absorbing.proofs.touch_bits.Goals as goal
 
-pub loop-rest-init : goal.loop-rest-init
-loop-rest-init c = bits_first c.ranges.acted.fits
+pub loop-place-init : goal.loop-place-init
+loop-place-init c = bits_first (qubits_all _ (cc))
 
-pub overflow_mul-q : goal.overflow_mul-q
-overflow_mul-q c = omega (arith, number_small c.requires.it)
+pub overflow_mul-j : goal.overflow_mul-j
+overflow_mul-j c = omega (arith, number_small c.requires.it)
 
-pub overflow_cast-q : goal.overflow_cast-q
-overflow_cast-q c = omega (arith, trailing_le 64 c.loop-rest.rest)
-
-pub overflow_add-q : goal.overflow_add-q
-overflow_add-q c = omega (arith, number_small c.requires.it, trailing_le 64 c.loop-rest.rest)
+pub overflow_add-j : goal.overflow_add-j
+overflow_add-j c = omega (arith, number_small c.requires.it, set_bits_lt 64 0 _ _ _ c.in-Some.ensures.steps)
 
 pub touch-requires : goal.touch-requires
-touch-requires c = bits_turn c.loop-rest.invariant c.loop-rest-test.true refl c.requires
+touch-requires c = bits_turn c.loop-place.invariant (ap (qubits_in _) c.in-Some.ensures.steps) c.requires
 
 pub shape_of-words-in_err-st : goal.shape_of-words-in_err-st
-shape_of-words-in_err-st c = (bits_left c.loop-rest.invariant c.loop-rest-test.true refl c.touch.ensures).words.long
+shape_of-words-in_err-st c = (bits_left c.loop-place.invariant (ap (qubits_in _) c.in-Some.ensures.steps) c.touch.ensures).words.long
 
 pub shape_of-numbers-in_err-st : goal.shape_of-numbers-in_err-st
-shape_of-numbers-in_err-st c = (bits_left c.loop-rest.invariant c.loop-rest-test.true refl c.touch.ensures).numbers.long
+shape_of-numbers-in_err-st c = (bits_left c.loop-place.invariant (ap (qubits_in _) c.in-Some.ensures.steps) c.touch.ensures).numbers.long
 
 pub returns-in_err-st : goal.returns-in_err-st
-returns-in_err-st c = (
-  bits_left c.loop-rest.invariant c.loop-rest-test.true refl c.touch.ensures,
-  rw (is_limit _ c.from_residual.ensures.0) (bits_limit c.loop-rest.invariant
-      c.loop-rest-test.true refl c.touch.ensures c.in_err-st.was),
-)
+returns-in_err-st c =
+    let more = ap (qubits_in _) c.in-Some.ensures.steps in (
+      bits_left c.loop-place.invariant more c.touch.ensures,
+      rw (is_limit _ c.from_residual.ensures.0) (bits_limit c.loop-place.invariant more c.touch.ensures c.in_err-st.was),
+    )
 
-pub loop-rest-smaller : goal.loop-rest-smaller
-loop-rest-smaller c = clear_lt _ (omega arith)
-
-pub loop-rest-preserved : goal.loop-rest-preserved
-loop-rest-preserved c = bits_next c.loop-rest.invariant c.loop-rest-test.true refl c.touch.ensures c.requires _ c.in_ok-st.was
+pub loop-place-preserved : goal.loop-place-preserved
+loop-place-preserved c =
+    bits_next c.loop-place.invariant (ap (qubits_in _) c.in-Some.ensures.steps) c.touch.ensures c.requires _ c.in_ok-st.was
 
 pub shape_of-words : goal.shape_of-words
-shape_of-words c = c.loop-rest.invariant.left.words.long
+shape_of-words c = c.loop-place.invariant.left.words.long
 
 pub shape_of-numbers : goal.shape_of-numbers
-shape_of-numbers c = c.loop-rest.invariant.left.numbers.long
+shape_of-numbers c = c.loop-place.invariant.left.numbers.long
 
 pub returns : goal.returns
-returns c = (c.loop-rest.invariant.left, bits_end c.loop-rest.invariant c.loop-rest-test.false)
+returns c = (c.loop-place.invariant.left, bits_end c.loop-place.invariant (ap (qubits_in _) c.in-None.ensures.steps.0))

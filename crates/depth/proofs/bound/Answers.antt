@@ -1,17 +1,12 @@
 -- The loop's invariant: each bit of the signature is left, or has no higher level than the most so far. Assumes nothing.
-use Rattle.bits.specs.LowestBit.{clear_lt}
 use Rattle.depth.specs.Tops.{bits_first, bound_turn, bound_end}
-use native.Mathlib.Omega.{arith}
 use Rattle.depth.proofs.bound.Goals as goal
 
-pub loop-rest-init : goal.loop-rest-init
-loop-rest-init c = bits_first c.ranges.sig.fits
+pub loop-k-init : goal.loop-k-init
+loop-k-init c = bits_first c.ranges.sig.fits (cc)
 
-pub loop-rest-smaller : goal.loop-rest-smaller
-loop-rest-smaller c = clear_lt _ (omega arith)
-
-pub loop-rest-preserved : goal.loop-rest-preserved
-loop-rest-preserved c = bound_turn _ _ (omega arith) c.loop-rest.invariant c.top_of-top.ensures c.max-most.ensures
+pub loop-k-preserved : goal.loop-k-preserved
+loop-k-preserved c = bound_turn _ _ c.in-Some.ensures.steps c.loop-k.invariant c.top_of.ensures c.max-most.ensures
 
 pub returns : goal.returns
-returns c = bound_end _ _ (omega arith) c.loop-rest.invariant c.min.ensures
+returns c = bound_end _ _ c.in-None.ensures.steps.0 c.loop-k.invariant c.min.ensures

@@ -1,9 +1,7 @@
 -- The loop's invariant: each bit of the signature is left, or has no higher level than the most so far. Assumes nothing.
+use Rattle.bits.specs.SetBits.{places}
 use Rattle.depth.specs.Tops.{BitsLeft, LowerThan}
 use Rattle.depth.proofs.bound.Given as goal
 
-abbrev pub invariant-loop-rest : goal.invariant-loop-rest
-invariant-loop-rest l = BitsLeft (LowerThan l.u l.numbers l.most) l.sig l.rest
-
-abbrev pub decreases-loop-rest : goal.decreases-loop-rest
-decreases-loop-rest l = l.rest
+abbrev pub invariant-loop-k : goal.invariant-loop-k
+invariant-loop-k l = BitsLeft (LowerThan l.u l.numbers l.most) l.sig (places l.k-iterator.0)
