@@ -1,11 +1,15 @@
 -- The counters of what comes out: T-count and plain rotations. Assumes nothing.
 use Rattle.std.specs.Prelude.{◌≡◌, Bool, not, ◌&&◌, List, map, ℕ, ◌%◌, ◌≤◌, eqb}
+use denote.Enum.Bare.{sameb}
 use Rattle.std.proofs.Common.{sym, ap, ◌∙◌}
 use Rattle.model.specs.Lists.{count_of, is_odd}
 use Rattle.model.specs.Program.{field_of}
 use Rattle.model.specs.Items.{is_rotation}
 use Rattle.model.specs.Results.{item_record, result_t_count}
 use Rattle.layout.specs.Rows.{items_row}
+use Rattle.records.specs.declared.OperationKind.TheVariants.{Measure}
+use Rattle.records.specs.contracts.OperationKind.{the_type}
+use Rattle.records.specs.Kinds.{measure_test, number_test}
 use Rattle.records.specs.Operations.{operations_in}
 use Rattle.items.specs.declared.Tagged.{Tagged}
 use Rattle.items.specs.View.{tagged_at, item_said, item_at, view_in, items_in, view_map}
@@ -24,9 +28,12 @@ abbrev pub OddItem : List ℕ → Tagged → Bool → Type 0
 OddItem os x b = (count : ℕ) → x.tag ≤ count → b ≡ is_odd_record (record_said count os x)
 
 pub odd_item : (os : List ℕ) (x : Tagged) (r : OperationResult) {b : Bool} → RecordMade os x r
-    → b ≡ not (eqb r.kind 2) && eqb (r.angle % 2) 1 → OddItem os x b
+    → b ≡ not (sameb the_type r.kind Measure) && eqb (r.angle % 2) 1 → OddItem os x b
 unfolding is_odd_record
-odd_item os x r m e count h = e ∙ ap is_odd_record (m count h)
+odd_item os x r m e count h =
+    e
+    ∙ ap (λ (a : Bool). not a && eqb (r.angle % 2) 1) (measure_test r.kind ∙ sym (number_test r.kind))
+    ∙ ap is_odd_record (m count h)
 
 -- ---- those of the first k items
 

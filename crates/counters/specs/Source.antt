@@ -1,11 +1,15 @@
 -- The counters of the program that was handed in. Assumes nothing.
-use Rattle.std.specs.Prelude.{◌≡◌, refl, Bool, true, false, not, ◌&&◌, List, ℕ, zero, suc, ◌+◌, ◌%◌, ◌<◌, eqb, ltb}
-use Rattle.std.proofs.Common.{sym, ap, ◌∙◌, arith, ext_get_or, ne_eqb, le-ltb}
+use Rattle.std.specs.Prelude.{◌≡◌, refl, Bool, true, false, not, ◌&&◌, List, ℕ, ◌+◌, ◌%◌, ◌<◌, eqb}
+use denote.Enum.Bare.{sameb}
+use Rattle.std.proofs.Common.{sym, ap, ◌∙◌, arith, ext_get_or}
 use Rattle.store.specs.From.{list_from, from_length, from_at}
 use Rattle.model.specs.Lists.{count_of, is_odd}
-use Rattle.model.specs.Program.{kind_of, is_measure, is_rotate, Operation}
+use Rattle.model.specs.Program.{is_measure, is_rotate, Operation}
 use Rattle.model.specs.Results.{no_operation, source_t_count, source_rotations}
+use Rattle.records.specs.declared.OperationKind.TheVariants.{Rotate, Measure}
+use Rattle.records.specs.contracts.OperationKind.{the_type}
 use Rattle.records.specs.declared.OperationRecord.{OperationRecord}
+use Rattle.records.specs.Kinds.{measure_test, rotate_test}
 use Rattle.records.specs.Records.{operation_said}
 use Rattle.records.specs.Operations.{operations_in, operation_here, operations_count, operation_here_lem}
 use Rattle.counters.specs.Total.{total, one_if, count_from}
@@ -20,19 +24,7 @@ operations_from count os =
     operation_here_lem count os i h ∙ ap (operation_here os) (let z : i ≡ 0 + i = omega arith in z)
     ∙ sym (from_at (operation_here os) 0 count i no_operation h))
 
--- ---- tests of a kind
-
-pub measure_test : (k : ℕ) → eqb k 2 ≡ is_measure (kind_of k)
-measure_test zero = refl
-measure_test (suc zero) = refl
-measure_test (suc (suc zero)) = refl
-measure_test (suc (suc (suc k))) = ne_eqb (suc (suc (suc k))) 2 (omega arith)
-
-pub rotate_test : (k : ℕ) → ltb k 2 ≡ is_rotate (kind_of k)
-rotate_test zero = refl
-rotate_test (suc zero) = refl
-rotate_test (suc (suc zero)) = refl
-rotate_test (suc (suc (suc k))) = le-ltb (suc (suc (suc k))) 2 (omega arith)
+-- ---- tests
 
 -- what two tests answer, by the first
 pub and_yes : {a : Bool} (b : Bool) → a ≡ true → b ≡ a && b
@@ -47,7 +39,7 @@ unfoldable pub is_odd_source : Operation → Bool
 is_odd_source o = not (is_measure o.kind) && is_odd o.angle
 
 -- what the code tests
-pub odd_source : (o : OperationRecord) → not (eqb o.kind 2) && eqb (o.angle % 2) 1 ≡ is_odd_source (operation_said o)
+pub odd_source : (o : OperationRecord) → not (sameb the_type o.kind Measure) && eqb (o.angle % 2) 1 ≡ is_odd_source (operation_said o)
 unfolding is_odd_source operation_said
 odd_source o = rw (measure_test o.kind) refl
 
@@ -60,7 +52,7 @@ source_t_count_lem count os =
 
 -- ---- plain rotations
 
-pub rotate_source : (o : OperationRecord) → ltb o.kind 2 ≡ is_rotate (operation_said o).kind
+pub rotate_source : (o : OperationRecord) → sameb the_type o.kind Rotate ≡ is_rotate (operation_said o).kind
 unfolding operation_said
 rotate_source o = rotate_test o.kind
 

@@ -1,5 +1,5 @@
 -- The weight of the program that was handed in: before any operation drops out. Assumes nothing.
-use Rattle.std.specs.Prelude.{◌≡◌, true, false, List, ℕ, ◌+◌, ◌*◌, ◌≤◌, ◌<◌, eqb, length}
+use Rattle.std.specs.Prelude.{◌≡◌, true, false, List, ℕ, ◌+◌, ◌*◌, ◌≤◌, ◌<◌, length}
 use Rattle.std.proofs.Common.{sym, ap, ◌∙◌, subst, arith}
 use Rattle.pauli.specs.Word.{width}
 use Rattle.pauli.specs.Letter.{weight}
@@ -15,12 +15,13 @@ use Rattle.layout.specs.Rows.{row_count}
 use Rattle.layout.specs.Words.{axis_place}
 use Rattle.axes.specs.View.{axes_of}
 use Rattle.records.specs.declared.OperationRecord.{OperationRecord}
+use Rattle.records.specs.Kinds.{kind_said}
 use Rattle.records.specs.Records.{operation_record, operation_said}
 use Rattle.records.specs.Operations.{operations_in, operation_here}
 use Rattle.work.specs.Rows.{root_at}
 use Rattle.work.specs.RowPut.{RootPre}
 use Rattle.counters.specs.Total.{total, TotalTo, total_none, total_more, total_all, total_same, sum_from}
-use Rattle.counters.specs.Source.{operations_from, measure_test}
+use Rattle.counters.specs.Source.{operations_from}
 use Rattle.counters.specs.Weight.{AxisPre, AxisWeight}
 
 -- ---- an operation's
@@ -37,17 +38,18 @@ pub record OperationWeight (os ws xs : List ℕ) (u l i v : ℕ) : Type 0 where
   pub number : (n : ℕ) → (root_at xs u i).axis < n → v ≡ source_said l (axes_of l n ws) os xs u i
   pub small : v ≤ 64 * l
 
-measured : (os : List ℕ) (i : ℕ) (o : OperationRecord) → o ≡ operation_record os i → eqb o.kind 2 ≡ is_measure (operation_here os i).kind
+measured : (os : List ℕ) (i : ℕ) (o : OperationRecord) → o ≡ operation_record os i
+    → is_measure (kind_said o.kind) ≡ is_measure (operation_here os i).kind
 unfolding operation_said
-measured os i o e = ap (λ (x : OperationRecord). eqb x.kind 2) e ∙ measure_test (operation_record os i).kind
+measured os i o e = ap (λ (x : OperationRecord). is_measure (kind_said x.kind)) e
 
-pub source_none : (os ws xs : List ℕ) (u l i : ℕ) (o : OperationRecord) → o ≡ operation_record os i → eqb o.kind 2 ≡ true
+pub source_none : (os ws xs : List ℕ) (u l i : ℕ) (o : OperationRecord) → o ≡ operation_record os i → is_measure (kind_said o.kind) ≡ true
     → OperationWeight os ws xs u l i 0
 unfolding source_said
 source_none os ws xs u l i o e t = record { number = λ n h. sym (if_true _ _ (sym (measured os i o e) ∙ t)); small = omega arith }
 
-pub source_some : (os ws xs : List ℕ) (u l i : ℕ) (o : OperationRecord) (a v : ℕ) → o ≡ operation_record os i → eqb o.kind 2 ≡ false
-    → a ≡ (root_at xs u i).axis → AxisWeight ws l a v → OperationWeight os ws xs u l i v
+pub source_some : (os ws xs : List ℕ) (u l i : ℕ) (o : OperationRecord) (a v : ℕ) → o ≡ operation_record os i
+    → is_measure (kind_said o.kind) ≡ false → a ≡ (root_at xs u i).axis → AxisWeight ws l a v → OperationWeight os ws xs u l i v
 unfolding source_said
 source_some os ws xs u l i o a v e t f w =
     let g = subst (λ (b : ℕ). AxisWeight ws l b v) f w in

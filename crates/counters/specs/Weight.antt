@@ -14,6 +14,7 @@ use Rattle.theory.specs.Cases.{if_true, if_false}
 use Rattle.layout.specs.Rows.{items_row}
 use Rattle.layout.specs.Words.{axis_place}
 use Rattle.axes.specs.View.{axes_of}
+use Rattle.records.specs.Kinds.{kind_number, kind_said, number_test}
 use Rattle.records.specs.Operations.{operations_in}
 use Rattle.items.specs.declared.Tagged.{Tagged}
 use Rattle.items.specs.View.{tagged_at, item_said, item_at, item_of_tag, view_in, items_in}
@@ -67,24 +68,26 @@ pub record ItemWeight (os ws : List ℕ) (l : ℕ) (x : Tagged) (v : ℕ) : Type
   pub number : (count n : ℕ) → x.tag ≤ count → x.axis < n → v ≡ weight_said l (operations_in count os) (axes_of l n ws) (item_said x)
   pub small : v ≤ 64 * l
 
--- a record of kind 2 is a measurement's: its item weighs nothing
+-- a measurement's item weighs nothing
 kind_of_lem : (op : Operation) (kind : Kind) (a s w : ℕ) (r : OperationResult) → operation_fields r ≡ barrier_record op kind a s
-    → (when is_measure kind then 0 else w) ≡ (when eqb r.kind 2 then 0 else w)
+    → (when is_measure kind then 0 else w) ≡ (when is_measure (kind_said r.kind) then 0 else w)
 unfolding barrier_record when◌then◌else◌
 kind_of_lem op rotate a s w r e = let z : ◌≡◌ {A = ℕ} 6 0 = ap length e in absurd (omega arith)
-kind_of_lem op measure a s w r e = let k : r.kind ≡ 2 = cc in rw k refl
-kind_of_lem op conditional a s w r e = let k : r.kind ≡ 3 = cc in rw k refl
+kind_of_lem op measure a s w r e = let k : kind_number r.kind ≡ 2 = cc in rw (sym (number_test r.kind), k) refl
+kind_of_lem op conditional a s w r e = let k : kind_number r.kind ≡ 3 = cc in rw (sym (number_test r.kind), k) refl
 
 weighs : (l : ℕ) (ops : List Operation) (axes : List (List ℕ)) (t : ℕ) (x : Tagged) (r : OperationResult)
     → operation_fields r ≡ item_record ops (item_of_tag t x)
-    → weight_said l ops axes (item_of_tag t x) ≡ (when eqb r.kind 2 then 0 else weight l (word_of axes x.axis))
+    → weight_said l ops axes (item_of_tag t x) ≡ (when is_measure (kind_said r.kind) then 0 else weight l (word_of axes x.axis))
 unfolding weight_said item_record item_of_tag
-weighs l ops axes zero x r e = let k : r.kind ≡ 1 = cc in sym (if_false _ _ (ap (λ (y : ℕ). eqb y 2) k))
+weighs l ops axes zero x r e =
+    let k : kind_number r.kind ≡ 1 = cc in
+    sym (if_false _ _ (sym (number_test r.kind) ∙ ap (λ (y : ℕ). eqb y 2) k))
 weighs l ops axes (suc o) x r e =
     let op = operation_at ops o in
     kind_of_lem op op.kind x.axis x.angle (weight l (word_of axes x.axis)) r e
 
-pub weight_none : (os ws : List ℕ) (l : ℕ) (x : Tagged) (r : OperationResult) → RecordMade os x r → eqb r.kind 2 ≡ true
+pub weight_none : (os ws : List ℕ) (l : ℕ) (x : Tagged) (r : OperationResult) → RecordMade os x r → is_measure (kind_said r.kind) ≡ true
     → ItemWeight os ws l x 0
 unfolding item_said
 weight_none os ws l x r m e = record {
@@ -92,8 +95,8 @@ weight_none os ws l x r m e = record {
   small = omega arith;
 }
 
-pub weight_some : (os ws : List ℕ) (l : ℕ) (x : Tagged) (r : OperationResult) (v : ℕ) → RecordMade os x r → eqb r.kind 2 ≡ false
-    → AxisWeight ws l x.axis v → ItemWeight os ws l x v
+pub weight_some : (os ws : List ℕ) (l : ℕ) (x : Tagged) (r : OperationResult) (v : ℕ) → RecordMade os x r
+    → is_measure (kind_said r.kind) ≡ false → AxisWeight ws l x.axis v → ItemWeight os ws l x v
 unfolding item_said
 weight_some os ws l x r v m e a = record {
   number = λ count n h b. a.number n b ∙ sym (weighs l (operations_in count os) (axes_of l n ws) x.tag x r (m count h) ∙ if_false _ _ e);

@@ -18,6 +18,7 @@ ghost use Rattle.counters.specs.Summary.{SummaryPre, Summed};
 
 use layout::{ITEMS, Shape};
 use model::Counters;
+use records::OperationKind;
 
 // Whether operation i of those handed in is an odd rotation, plain or conditional.
 fn is_odd_source(operations: &[u32], i: usize) -> bool
@@ -25,7 +26,7 @@ fn is_odd_source(operations: &[u32], i: usize) -> bool
     ensures { result ≡ is_odd_source (operation_here operations.now i) }
 {
     let o = records::operation_at(operations, i);
-    o.kind != 2 && o.angle % 2 == 1
+    o.kind != OperationKind::Measure && o.angle % 2 == 1
 }
 
 // The source's T-count.
@@ -41,7 +42,7 @@ fn is_rotate_source(operations: &[u32], i: usize) -> bool
     requires { i * 6 + 6 ≤ length operations.now }
     ensures { result ≡ is_rotate (operation_here operations.now i).kind }
 {
-    records::operation_at(operations, i).kind < 2
+    records::operation_at(operations, i).kind == OperationKind::Rotate
 }
 
 // The source's plain rotations.
@@ -61,7 +62,7 @@ fn is_odd_item(operations: &[u32], numbers: &[u32], u: usize, i: usize) -> bool
 {
     let x = items::item_at(numbers, u, ITEMS, i);
     let r = results::record_of(operations, x);
-    r.kind != 2 && r.angle % 2 == 1
+    r.kind != OperationKind::Measure && r.angle % 2 == 1
 }
 
 // The T-count of what comes out.
@@ -99,7 +100,7 @@ fn item_weight(operations: &[u32], words: &[u64], numbers: &[u32], shape: Shape,
         (tagged_at numbers.now shape.u items_row i) result }
 {
     let x = items::item_at(numbers, shape.u, ITEMS, i);
-    if results::record_of(operations, x).kind == 2 {
+    if results::record_of(operations, x).kind == OperationKind::Measure {
         return 0;
     }
     axis_weight(words, shape.l, x.axis as usize)
@@ -128,7 +129,7 @@ fn operation_weight(
     requires { OperationPre operations.now words.now numbers.now shape.u shape.l i }
     ensures { OperationWeight operations.now words.now numbers.now shape.u shape.l i result }
 {
-    if records::operation_at(operations, i).kind == 2 {
+    if records::operation_at(operations, i).kind == OperationKind::Measure {
         return 0;
     }
     let f = work::root_at(numbers, shape.u, i);

@@ -4,13 +4,14 @@ use Rattle.std.proofs.Common.{ap, ◌∙◌, add-zero, add_assoc, arith, ltb-tru
 use Rattle.std.proofs.Math.ListN.{get_or-map}
 use Rattle.store.specs.Part.{part, part_at}
 use Rattle.store.specs.Chunk.{chunks, chunks_at}
-use Rattle.model.specs.Program.{Node, identity, letter, product, node_of_kind, node_of, kind_of, Operation, operation_of, PauliRef, row_of}
+use Rattle.model.specs.Program.{Node, identity, letter, product, node_of_kind, node_of, Operation, operation_of, PauliRef, row_of}
 use Rattle.model.specs.Results.{no_operation}
 use Rattle.records.specs.declared.Factor.{Factor}
 use Rattle.records.specs.declared.NodeRecord.{NodeRecord}
 use Rattle.records.specs.declared.NodeRecord.TheVariants.{Identity, Letter, Product}
 use Rattle.records.specs.declared.OperationRecord.{OperationRecord}
 use Rattle.records.specs.declared.RowRecord.{RowRecord}
+use Rattle.records.specs.Kinds.{kind_record, kind_said, kind_of_lem}
 
 -- ---- a record's fields, in the order of 01
 
@@ -33,7 +34,7 @@ product_record (suc (suc k)) s n h = refl
 
 unfoldable pub operation_record : List ℕ → ℕ → OperationRecord
 operation_record s i = record {
-  kind = get_or s (i * 6) 0;
+  kind = kind_record (get_or s (i * 6) 0);
   node = get_or s (i * 6 + 1) 0;
   phase = get_or s (i * 6 + 2) 0;
   angle = get_or s (i * 6 + 3) 0;
@@ -58,7 +59,7 @@ node_said (Product a b) = product a.node a.phase b.node b.phase
 
 unfoldable pub operation_said : OperationRecord → Operation
 operation_said r = record {
-  kind = kind_of r.kind;
+  kind = kind_said r.kind;
   node = r.node;
   phase = r.phase;
   angle = r.angle;
@@ -98,7 +99,7 @@ node_said_lem count s n l =
 pub operation_said_lem : (count : ℕ) (s : List ℕ) (i : ℕ) → i < count
     → get_or (map operation_of (chunks 6 count s)) i no_operation ≡ operation_said (operation_record s i)
 unfolding operation_of no_operation operation_said operation_record
-operation_said_lem count s i l = said_at operation_of 6 count s i l ∙ simp (part_first, part_at, ltb-true)
+operation_said_lem count s i l = said_at operation_of 6 count s i l ∙ simp (part_first, part_at, ltb-true, kind_of_lem)
 
 pub row_said_lem : (count : ℕ) (s : List ℕ) (i : ℕ) → i < count
     → get_or (map row_of (chunks 4 count s)) i (record { node = 0; phase = 0 }) ≡ row_said (row_record s i)

@@ -2,6 +2,7 @@
 #![tactic(auto)]
 
 ghost use Rattle.std.specs.Prelude.{◌≡◌, ◌+◌, ◌*◌, ◌≤◌, length};
+ghost use Rattle.records.specs.Kinds.{kind_record, kind_number};
 ghost use Rattle.records.specs.Records.{factor_record, node_record, operation_record, row_record};
 
 // What a product multiplies: a node, with a phase.
@@ -19,10 +20,38 @@ pub enum NodeRecord {
     Product { left: Factor, right: Factor },
 }
 
-// An operation: kind 1 rotate, 2 measure, 3 conditional.
+// What an operation does, as document 01 numbers it.
+#[derive(Clone, Copy, PartialEq, Eq)]
+pub enum OperationKind {
+    Rotate = 1,
+    Measure = 2,
+    Conditional = 3,
+}
+
+impl From<u32> for OperationKind {
+    ghost from_gives = { λ n k. k ≡ kind_record n };
+
+    fn from(number: u32) -> OperationKind {
+        match number {
+            0 | 1 => OperationKind::Rotate,
+            2 => OperationKind::Measure,
+            _ => OperationKind::Conditional,
+        }
+    }
+}
+
+impl From<OperationKind> for u32 {
+    ghost from_gives = { λ k n. n ≡ kind_number k };
+
+    fn from(kind: OperationKind) -> u32 {
+        kind as u32
+    }
+}
+
+// An operation.
 #[derive(Clone, Copy)]
 pub struct OperationRecord {
-    pub kind: u32,
+    pub kind: OperationKind,
     pub node: u32,
     pub phase: u32,
     pub angle: u32,
@@ -73,7 +102,7 @@ pub fn operation_at(operations: &[u32], i: usize) -> OperationRecord
 {
     let at = i * 6;
     OperationRecord {
-        kind: operations[at],
+        kind: operations[at].into(),
         node: operations[at + 1],
         phase: operations[at + 2],
         angle: operations[at + 3],

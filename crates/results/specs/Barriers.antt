@@ -1,7 +1,7 @@
 -- Barriers are measurements and conditional rotations of the program. Assumes nothing.
 use Rattle.std.specs.Prelude.{◌≡◌, false, List, [], ◌∷◌, ℕ, zero, suc, ◌+◌, ◌≤◌, ◌<◌, length, get_or}
-use Rattle.std.proofs.Common.{ap, subst, true≢false, add-zero, zero-add, arith}
-use Rattle.model.specs.Program.{Kind, rotate, measure, conditional, kind_of, is_rotate, Operation, Program}
+use Rattle.std.proofs.Common.{ap, subst, add-zero, zero-add, arith}
+use Rattle.model.specs.Program.{Kind, rotate, measure, conditional, is_rotate, Operation, Program}
 use Rattle.model.specs.Words.{Value}
 use Rattle.model.specs.Roots.{operation_root}
 use Rattle.model.specs.Packing.{packed, values_of, SignedAxis, signed_axis}
@@ -55,8 +55,3 @@ barrier_among P (rotation r ∷ is) zero o a s d h l e = let z : ◌≡◌ {A = 
 barrier_among P (rotation r ∷ is) (suc i) o a s d h l e = barrier_among P is i o a s d h (omega arith) e
 barrier_among P (barrier x b t ∷ is) zero o a s d h l e = let z : x ≡ o = cc in subst P z h.0
 barrier_among P (barrier x b t ∷ is) (suc i) o a s d h l e = barrier_among P is i o a s d h.1 (omega arith) e
-
-pub barrier_kind : (k : ℕ) → is_rotate (kind_of k) ≡ false → 1 < k
-barrier_kind zero e = absurd (true≢false e)
-barrier_kind (suc zero) e = absurd (true≢false e)
-barrier_kind (suc (suc k)) e = omega arith

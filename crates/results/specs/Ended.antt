@@ -20,14 +20,14 @@ use Rattle.layout.specs.Rows.{items_row}
 use Rattle.layout.specs.Words.{axis_place}
 use Rattle.layout.specs.Shape.{Granted}
 use Rattle.axes.specs.View.{axes_of}
-use Rattle.records.specs.Records.{operation_record, operation_said}
+use Rattle.records.specs.Records.{operation_said}
 use Rattle.records.specs.Operations.{operations_in, operations_count, operation_here_lem}
 use Rattle.records.specs.Given.{Given, program_in, operations_in_lem}
 use Rattle.items.specs.declared.Tagged.{Tagged}
 use Rattle.items.specs.View.{tagged_at, item_said, items_in, said_other, view_at_0, view_length}
 use Rattle.work.specs.Work.{WorkIn}
 use Rattle.results.specs.Record.{RecordPre, ItemsPre, TagsTo}
-use Rattle.results.specs.Barriers.{BarrierOf, barrier_among, barrier_kind}
+use Rattle.results.specs.Barriers.{BarrierOf, barrier_among}
 use Rattle.results.specs.Zeros.{zeroed_from}
 use Rattle.results.specs.Operations.{WritePre, ResultsWritten}
 use Rattle.results.specs.Rows.{RowsPre, rows_to, rows_are}
@@ -73,7 +73,7 @@ module _ {z : Shape} {ns os rs : List ℕ} (given : Given z ns os rs) {w : Work}
       (angles_small p.operations given.fine.angles o) in
       record {
         long = omega (arith, chunk_in 6 z.operations o in_all, given.operations_long);
-        kind = barrier_kind (operation_record os o).kind (sym (ap (λ (x : Operation). is_rotate x.kind) said) ∙ b.1);
+        kind = sym (ap (λ (x : Operation). is_rotate x.kind) said) ∙ b.1;
         angle = rw said at small;
       }
 

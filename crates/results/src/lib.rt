@@ -1,12 +1,13 @@
 // The results of an accepted run, and zeros behind them.
 #![tactic(auto)]
 
-ghost use Rattle.std.specs.Prelude.{◌≡◌, ◌+◌, ◌*◌, ◌≤◌, ◌<◌, length};
+ghost use Rattle.std.specs.Prelude.{◌≡◌, false, ◌+◌, ◌*◌, ◌≤◌, ◌<◌, length};
 ghost use Rattle.store.specs.Part.{put};
-ghost use Rattle.model.specs.Program.{kind_of};
+ghost use Rattle.model.specs.Program.{is_rotate};
 ghost use Rattle.model.specs.Results.{sign_field, barrier_record};
 ghost use Rattle.model.specs.Rewriting.{then_zeros, zeros};
 ghost use Rattle.layout.specs.Rows.{items_row};
+ghost use Rattle.records.specs.Kinds.{kind_said};
 ghost use Rattle.records.specs.Records.{operation_said};
 ghost use Rattle.items.specs.View.{tagged_at};
 ghost use Rattle.work.specs.Rows.{root_said};
@@ -18,7 +19,7 @@ ghost use Rattle.results.specs.Operations.{OperationPre, OperationLaid, WritePre
 
 use items::Tagged;
 use layout::{ITEMS, NO_AXIS, Shape};
-use records::OperationRecord;
+use records::{OperationKind, OperationRecord};
 use work::Root;
 
 // 01's "-1 there is 65,535 for an outcome or target".
@@ -27,10 +28,10 @@ const NO_OUTCOME: u32 = 65535;
 // 01's "else 4,294,967,295".
 const MINUS_ONE: u32 = 4294967295;
 
-// An operation that comes out: kind 1 rotate, 2 measure, 3 conditional; axis by id, sign 1 or -1.
+// An operation that comes out: axis by id, sign 1 or -1.
 #[derive(Clone, Copy)]
 pub struct OperationResult {
-    pub kind: u32,
+    pub kind: OperationKind,
     pub axis: u32,
     pub sign: u32,
     pub angle: u32,
@@ -44,7 +45,7 @@ impl OperationResult {
         ensures { result ≡ operation_fields self }
     {
         [
-            self.kind,
+            self.kind.into(),
             self.axis,
             self.sign,
             self.angle,
@@ -84,12 +85,12 @@ fn sign_field(s: u32) -> u32
 
 // A barrier's record, from its operation's.
 fn barrier_record(o: OperationRecord, x: Tagged) -> OperationResult
-    requires { (1 < o.kind) × (o.angle ≤ 7) }
-    ensures { operation_fields result ≡ barrier_record (operation_said o) (kind_of o.kind) x.axis x.angle }
+    requires { (is_rotate (kind_said o.kind) ≡ false) × (o.angle ≤ 7) }
+    ensures { operation_fields result ≡ barrier_record (operation_said o) (kind_said o.kind) x.axis x.angle }
 {
-    if o.kind == 2 {
+    if o.kind == OperationKind::Measure {
         return OperationResult {
-            kind: 2,
+            kind: OperationKind::Measure,
             axis: x.axis,
             sign: sign_field(x.angle),
             angle: 0,
@@ -98,7 +99,7 @@ fn barrier_record(o: OperationRecord, x: Tagged) -> OperationResult
         };
     }
     OperationResult {
-        kind: 3,
+        kind: OperationKind::Conditional,
         axis: x.axis,
         sign: 1,
         angle: items::with_sign(x.angle, o.angle),
@@ -114,7 +115,7 @@ pub fn record_of(operations: &[u32], x: Tagged) -> OperationResult
 {
     if x.is_rotation() {
         return OperationResult {
-            kind: 1,
+            kind: OperationKind::Rotate,
             axis: x.axis,
             sign: 1,
             angle: x.angle,

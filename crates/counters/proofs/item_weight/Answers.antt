@@ -1,12 +1,14 @@
 -- A measurement, or an axis. Assumes nothing.
-use borrow.Author.Tests.{eq-eqb, ne_eqb}
+use mathlib.Core.Path.{sym, ◌∙◌}
+use Rattle.records.specs.Kinds.{measure_test}
 use Rattle.counters.specs.Weight.{weight_none, weight_some}
 use Rattle.counters.proofs.item_weight.Goals as goal
 
-pub returns-then-record_of-eq2 : goal.returns-then-record_of-eq2
-returns-then-record_of-eq2 c = weight_none _ _ _ _ _ (rw c.item_at-x.ensures at c.record_of.ensures) (eq-eqb _ _ c.if-record_of-eq2.true)
+pub returns-then-eq : goal.returns-then-eq
+returns-then-eq c =
+    weight_none _ _ _ _ _ (rw c.item_at-x.ensures at c.record_of.ensures) (sym (measure_test _) ∙ sym c.if-eq.ensures)
 
 pub returns : goal.returns
 returns c =
-    weight_some _ _ _ _ _ _ (rw c.item_at-x.ensures at c.record_of.ensures) (ne_eqb _ _ c.if-record_of-eq2.false)
+    weight_some _ _ _ _ _ _ (rw c.item_at-x.ensures at c.record_of.ensures) (sym (measure_test _) ∙ sym c.if-eq.ensures)
     (rw c.item_at-x.ensures at c.axis_weight.ensures)

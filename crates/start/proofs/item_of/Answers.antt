@@ -1,16 +1,9 @@
--- The two cases: a barrier, or a rotation. Assumes nothing.
-use mathlib.Core.Path.{refl, ap, subst}
-use Prim.Native.Nat.{◌≤◌, ◌<◌}
+-- The two cases: a rotation, or a barrier. Assumes nothing.
+use mathlib.Core.Path.{refl, sym, ap, ◌∙◌}
 use Rattle.model.specs.Packing.{SignedAxis}
-use Rattle.records.specs.declared.OperationRecord.{OperationRecord}
+use Rattle.records.specs.Kinds.{rotate_test}
 use Rattle.start.specs.Item.{made_barrier, made_rotation}
-use native.Mathlib.Omega.{arith}
 use Rattle.start.proofs.item_of.Goals as goal
-
-pub returns-then-o-gt1 : goal.returns-then-o-gt1
-returns-then-o-gt1 c =
-    made_barrier c.args.shape _ _ _ _ _ c.root_at-f.result c.root_at-f.ensures _
-    (subst (λ (r : OperationRecord). 1 < r.kind) c.operation_at-o.ensures c.if-o-gt1.true) refl refl refl
 
 pub rotation_of-requires : goal.rotation_of-requires
 rotation_of-requires c =
@@ -21,8 +14,15 @@ rotation_of-requires c =
       angle = rw c.operation_at-o.ensures c.requires.angle;
     })
 
+pub returns-then-eq : goal.returns-then-eq
+returns-then-eq c =
+    let o = c.operation_at-o in
+    made_rotation c.args.shape _ _ _ _ _ c.root_at-f.result c.root_at-f.ensures _
+    (rw o.ensures at (sym (rotate_test o.result.kind) ∙ sym c.if-eq.ensures))
+    (rw (o.ensures, c.sizes_of-z.ensures) at c.rotation_of.ensures)
+
 pub returns : goal.returns
 returns c =
-    made_rotation c.args.shape _ _ _ _ _ c.root_at-f.result c.root_at-f.ensures _
-    (subst (λ (r : OperationRecord). r.kind ≤ 1) c.operation_at-o.ensures (omega arith))
-    (rw (c.operation_at-o.ensures, c.sizes_of-z.ensures) at c.rotation_of.ensures)
+    let o = c.operation_at-o in
+    made_barrier c.args.shape _ _ _ _ _ c.root_at-f.result c.root_at-f.ensures _
+    (rw o.ensures at (sym (rotate_test o.result.kind) ∙ sym c.if-eq.ensures)) refl refl refl
