@@ -114,9 +114,6 @@ module _ {z : Shape} {id q e : ℕ} {ws xs : List ℕ} {t : Touched} (h : Letter
       c_some : (0 < c) × (c ≤ 3)
       c_some = (omega (arith, letter_is, h.letter.some), omega (arith, letter_is, h.letter.small))
 
-      pub letter_low : (0 < c) × (c ≤ 3) × (0 < s)
-      letter_low = (c_some.0, c_some.1, omega arith)
-
       found : (s - 1 < length t.held) × (letter_image z.l t.held q (suc (c - 1)) ≡ image_at t.held (3 * (s - 1) + (c - 1)))
       found =
           letter_held z.l 0 (s - 1) t.held q (c - 1) (let a : c - 1 < 3 = omega (arith, c_some.0, c_some.1) in a)

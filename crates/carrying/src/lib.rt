@@ -3,6 +3,7 @@
 
 ghost use Rattle.std.specs.Prelude.{◌≡◌, true, ◌+◌, ◌*◌, ◌<◌, ◌≤◌, length};
 ghost use Rattle.pauli.specs.Letter.{single};
+ghost use Rattle.letter.specs.Letters.{number_of_letter};
 ghost use Rattle.model.specs.Words.{as_value, set_bits, support};
 ghost use Rattle.model.specs.Clifford.{Touched, word_image};
 ghost use Rattle.layout.specs.Words.{OnlyWords};
@@ -16,6 +17,7 @@ ghost use Rattle.carrying.specs.Fixed.{NoneMarked};
 ghost use Rattle.carrying.specs.Carrying.{CarryPre, LeftCarried, CarriedAs};
 
 use layout::{F_PHASE, F_SLOT, Shape};
+use letter::Letter;
 use model::ExpansionLimit;
 use steps::{Image, State};
 
@@ -28,9 +30,9 @@ fn fixes(words: &[u64], at: usize, mask: usize, l: usize) -> bool
 }
 
 // Multiplies a letter on qubit q behind the scratch word, whose phase is given; the phase then.
-fn times_letter(words: &mut [u64], shape: Shape, q: usize, letter: u32, phase: u32) -> u32
+fn times_letter(words: &mut [u64], shape: Shape, q: usize, letter: Letter, phase: u32) -> u32
     requires { TimesPre shape words.old × (q < 64 * shape.l) × (phase < 4) }
-    ensures { ScratchTimes shape phase words.old (as_value (single shape.l q letter)) words.new result }
+    ensures { ScratchTimes shape phase words.old (as_value (single shape.l q (number_of_letter letter))) words.new result }
 {
     let scratch = layout::scratch_at(shape.limit);
     let one = scratch + 2 * shape.l;
@@ -70,7 +72,7 @@ fn carry_letter(
     if slot == 0 {
         return times_letter(words, shape, q, letter, phase);
     }
-    let i = 3 * (slot - 1) + (letter as usize - 1);
+    let i = 3 * (slot - 1) + (usize::from(letter) - 1);
     times_image(words, numbers, shape, i, phase)
 }
 

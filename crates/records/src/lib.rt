@@ -16,6 +16,7 @@ pub struct Factor {
 #[derive(Clone, Copy)]
 pub enum NodeRecord {
     Identity,
+    // The letter is a number still: a record says the model's node before Checking has tested that it is at most 3.
     Letter { qubit: usize, letter: u32 },
     Product { left: Factor, right: Factor },
 }

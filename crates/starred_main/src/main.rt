@@ -4,12 +4,11 @@
 ghost use Rattle.std.specs.Prelude.{◌≡◌, ◌<◌, length};
 
 use angle::PauliAngle;
+use letter::Letter::{self, I, X, Y, Z};
 use std::io;
 
-const LETTERS: [u8; 4] = [b'I', b'X', b'Y', b'Z'];
-
 // Letters a and b on two qubits.
-fn word(a: u32, b: u32) -> [u64; 2] {
+fn word(a: Letter, b: Letter) -> [u64; 2] {
     let mut w = [0u64; 4];
     letter::put_letter(&mut w, 0, 1, 0, a);
     letter::put_letter(&mut w, 2, 1, 1, b);
@@ -17,10 +16,13 @@ fn word(a: u32, b: u32) -> [u64; 2] {
     [w[0], w[1]]
 }
 
-fn show_letter(rt: &impl Print, letter: u32) -> io::Result<()> {
-    let k = (letter % 4) as usize;
-    let name = [LETTERS[k]];
-    rt.write_all(&name)
+fn show_letter(rt: &impl Print, letter: Letter) -> io::Result<()> {
+    rt.print(match letter {
+        I => "I",
+        X => "X",
+        Y => "Y",
+        Z => "Z",
+    })
 }
 
 // The letters of a word of two qubits.
@@ -68,16 +70,16 @@ fn show_bucket(rt: &impl Print, q: usize) -> io::Result<()>
 {
     let l = pauli::width(65);
     let mut w = [0u64; 4];
-    letter::put_letter(&mut w, 0, l, q, 1);
+    letter::put_letter(&mut w, 0, l, q, X);
     let s = support::support_signature(&w, l);
     println!(rt; "qubit {q} in bucket {}", s.trailing_zeros())
 }
 
 fn main(rt: HostRuntime) -> io::Result<()> {
-    show_product(&rt, &word(1, 0), &word(2, 0))?;
-    show_product(&rt, &word(1, 0), &word(3, 0))?;
-    show_product(&rt, &word(3, 0), &word(1, 0))?;
-    show_product(&rt, &word(1, 1), &word(3, 3))?;
+    show_product(&rt, &word(X, I), &word(Y, I))?;
+    show_product(&rt, &word(X, I), &word(Z, I))?;
+    show_product(&rt, &word(Z, I), &word(X, I))?;
+    show_product(&rt, &word(X, X), &word(Z, Z))?;
     show_normalized(&rt, -4)?;
     show_normalized(&rt, 5)?;
     show_normalized(&rt, -5)?;

@@ -1,14 +1,21 @@
 -- Nothing for I, else the line. Assumes nothing.
+use Rattle.std.proofs.Common.{◌≡◌, ◌∙◌, arith, rules}
+use Rattle.letter.specs.Letters.{number_of_letter}
 use Rattle.listing_print.specs.Printed.{printed_none, printed_as, room_as}
 use Rattle.listing_print.specs.Letters.{no_letter, one_letter}
-use native.Mathlib.Omega.{arith}
 use Rattle.listing_print.proofs.letters.qubit.Goals as goal
 
-pub returns-then-c-eq0 : goal.returns-then-c-eq0
-returns-then-c-eq0 c = printed_as (no_letter _ _ _ _ c.letter_at-c.ensures c.if-c-eq0.true) (printed_none _ _ (omega (arith, c.requires.2)))
+pub returns-then-eq : goal.returns-then-eq
+returns-then-eq c =
+    let none : number_of_letter c.letter_at-c.result ≡ 0 = search rules in
+    printed_as (no_letter _ _ _ _ c.letter_at-c.ensures none) (printed_none _ _ (omega (arith, c.requires.2)))
 
 pub line-requires : goal.line-requires
-line-requires c = room_as _ (one_letter _ _ _ _ c.letter_at-c.ensures c.if-c-eq0.false) c.requires.2
+line-requires c =
+    let some : c.from.result ≡ 0 → ⊥ = search rules in
+    room_as _ (one_letter _ _ _ _ (c.from.ensures ∙ c.letter_at-c.ensures) some) c.requires.2
 
 pub returns : goal.returns
-returns c = printed_as (one_letter _ _ _ _ c.letter_at-c.ensures c.if-c-eq0.false) c.line.ensures
+returns c =
+    let some : c.from.result ≡ 0 → ⊥ = search rules in
+    printed_as (one_letter _ _ _ _ (c.from.ensures ∙ c.letter_at-c.ensures) some) c.line.ensures
