@@ -12,7 +12,7 @@ use Rattle.layout.specs.Only.{Only}
 use Rattle.layout.specs.Words.{axis_place, slots_le, OnlyWords}
 use Rattle.layout.specs.Shape.{longest_row, Granted}
 use Rattle.axes.specs.declared.Sizes.{Sizes}
-use Rattle.axes.specs.View.{axes_of, axes_length, axes_words}
+use Rattle.axes.specs.View.{axes_of, axes_length, axes_words, axis_word, read_long}
 use Rattle.axes.specs.Pick.{pick_of, digits_of}
 use Rattle.axes.specs.Beside.{Beside, same_beside, only_beside, only_index, is_apart, apart_commutes}
 use Rattle.axes.specs.Chains.{Index, index_kept, index_none}
@@ -65,6 +65,10 @@ module _ {z : Sizes} {ws xs : List ℕ} {axes : List (List ℕ)} (h : HoldsAxes 
   -- an axis has its word in the store
   pub held_axis : (a : ℕ) → a < z.axes → axis_place z.l a + 2 * z.l ≤ length ws
   held_axis a b = omega (arith, h.within, h.words_long, slots_le z.l a z.axes b)
+
+  -- the word that is read as an axis is as long as a word
+  pub held_long : (a : ℕ) → a < z.axes → {p : List ℕ} → p ≡ word_of (stored_axes z ws) a → length p ≡ 2 * z.l
+  held_long a b e = read_long z.l ws a (λ n k. e ∙ axis_word z.l z.axes ws a b ∙ sym (axis_word z.l n ws a k)) (held_axis a b)
 
   -- and its entry in a row
   pub held_entry : (a : ℕ) → a < z.axes → a < z.u

@@ -4,3 +4,4 @@ pub mod PickExamples
 pub mod Chains
 pub mod Beside
 pub mod Held
+pub mod OneProof

@@ -9,6 +9,7 @@ ghost use Rattle.layout.specs.Words.{axis_place};
 ghost use Rattle.axes.specs.View.{axes_of, word_at};
 ghost use Rattle.axes.specs.Beside.{is_apart};
 ghost use Rattle.axes.specs.Held.{sizes_of, stored_axes, Stored};
+ghost use Rattle.axes.specs.OneProof.{stored_prop};
 
 use layout::{SIGNATURE, Shape};
 use pauli::anticommutes;
@@ -63,13 +64,32 @@ pub fn apart(numbers: &[u32], z: Sizes, a: usize, b: usize) -> bool
     store::read_wide(numbers, z.u, SIGNATURE, a) & store::read_wide(numbers, z.u, SIGNATURE, b) == 0
 }
 
-// Whether axes a and b anticommute.
-pub fn anticommute(words: &[u64], numbers: &[u32], z: Sizes, a: usize, b: usize) -> bool
-    requires { Stored z words.now numbers.now × (a < z.axes) × (b < z.axes) }
-    ensures { result ≡ anticommute z.l (stored_axes z words.now) a b }
-{
-    if apart(numbers, z, a, b) {
-        return false;
+// The stored axes, as they are read: both work stores, and how many axes lie in them.
+#[derive(Clone, Copy)]
+pub struct StoredAxes<'a> {
+    pub words: &'a [u64],
+    pub numbers: &'a [u32],
+    pub sizes: Sizes,
+    pub ghost stored: { Stored sizes words.now numbers.now } by { stored_prop sizes words.now numbers.now },
+}
+
+impl<'a> StoredAxes<'a> {
+    // The word of axis id.
+    pub fn axis(self, id: usize) -> &'a [u64]
+        requires { id < self.sizes.axes }
+        ensures { result.now ≡ word_of (stored_axes self.entry.sizes self.entry.words.now) id }
+    {
+        axis(self.words, id, self.sizes.l)
     }
-    anticommutes(axis(words, a, z.l), axis(words, b, z.l), z.l)
+
+    // Whether axes a and b anticommute.
+    pub fn anticommute(self, a: usize, b: usize) -> bool
+        requires { (a < self.sizes.axes) × (b < self.sizes.axes) }
+        ensures { result ≡ anticommute self.entry.sizes.l (stored_axes self.entry.sizes self.entry.words.now) a b }
+    {
+        if apart(self.numbers, self.sizes, a, b) {
+            return false;
+        }
+        anticommutes(self.axis(a), self.axis(b), self.sizes.l)
+    }
 }

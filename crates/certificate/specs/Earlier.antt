@@ -17,7 +17,7 @@ use Rattle.items.specs.Put.{EntryPre}
 use Rattle.axes.specs.declared.Sizes.{Sizes}
 use Rattle.axes.specs.Held.{Stored, stored_axes}
 use Rattle.certificate.specs.declared.Group.{Group}
-use Rattle.certificate.specs.Groups.{StoresFit, axes_within, RotsGood, GroupGood, GroupsPre, group_in}
+use Rattle.certificate.specs.Groups.{axes_within, RotsGood, GroupGood, GroupsPre, group_in}
 use Rattle.certificate.specs.Terms.{AxesPre, product_of}
 use Rattle.certificate.specs.Meets.{meets_word, own_product}
 use Rattle.certificate.specs.Turns.{SumPre, sum_to, sum_at, pair_vanishes, row_from, row_turn, axis_at}
@@ -25,8 +25,7 @@ use Rattle.certificate.specs.Turns.{SumPre, sum_to, sum_at, pair_vanishes, row_f
 -- ---- which pair has a word
 
 -- an axis, and items of a group
-pub record HasPre (z : Sizes) (ws xs : List ℕ) (x from e pa qa : ℕ) : Type 0 where
-  pub stores : StoresFit z ws xs
+pub record HasPre (z : Sizes) (xs : List ℕ) (x from e pa qa : ℕ) : Type 0 where
   pub rots : RotsGood z xs items_row from e
   pub x_in : x < z.axes
   pub p_in : pa < z.axes
@@ -40,8 +39,7 @@ pub record HasWord (z : Sizes) (ws xs : List ℕ) (x from e pa qa : ℕ) : Type 
   pub same : same_list (product_of z ws x (axis_at z xs place)) (product_of z ws pa qa) ≡ true
 
 -- an item, and a group
-pub record RowHasPre (z : Sizes) (ws xs : List ℕ) (p : ℕ) (b : Group) (pa qa : ℕ) : Type 0 where
-  pub stores : StoresFit z ws xs
+pub record RowHasPre (z : Sizes) (xs : List ℕ) (p : ℕ) (b : Group) (pa qa : ℕ) : Type 0 where
   pub second : GroupGood z xs b
   pub here : p < z.u
   pub axis_in : axis_at z xs p < z.axes
@@ -54,8 +52,7 @@ pub record RowHas (z : Sizes) (ws xs : List ℕ) (p : ℕ) (b : Group) (pa qa : 
   pub has : HasWord z ws xs (axis_at z xs p) b.from b.end pa qa
 
 -- items, and a group
-pub record RowsHavePre (z : Sizes) (ws xs : List ℕ) (from e : ℕ) (b : Group) (pa qa : ℕ) : Type 0 where
-  pub stores : StoresFit z ws xs
+pub record RowsHavePre (z : Sizes) (xs : List ℕ) (from e : ℕ) (b : Group) (pa qa : ℕ) : Type 0 where
   pub rots : RotsGood z xs items_row from e
   pub second : GroupGood z xs b
   pub p_in : pa < z.axes
@@ -80,7 +77,7 @@ pub record RowsPassed (z : Sizes) (ws xs : List ℕ) (a b : Group) (p : ℕ) : T
 
 -- an item of the first group
 pub record RowVanishPre (z : Sizes) (ws xs : List ℕ) (a b : Group) (p : ℕ) : Type 0 where
-  pub groups : GroupsPre z ws xs a b
+  pub groups : GroupsPre z xs a b
   pub from_in : a.from ≤ p
   pub end_in : p < a.end
   pub rows : RowsPassed z ws xs a b p
@@ -94,7 +91,7 @@ pub record PairPre (z : Sizes) (ws xs : List ℕ) (a b : Group) (p q : ℕ) : Ty
 
 -- their axes, which anticommute
 pub record WordPre (z : Sizes) (ws xs : List ℕ) (a b : Group) (p q pa qa : ℕ) : Type 0 where
-  pub sum : SumPre z ws xs a b pa qa
+  pub sum : SumPre z xs a b pa qa
   pub odd : anticommute z.l (stored_axes z ws) pa qa ≡ true
   pub p_low : a.from ≤ p
   pub p_high : p ≤ a.end
@@ -109,25 +106,25 @@ pub record WordPre (z : Sizes) (ws xs : List ℕ) (a b : Group) (p q pa qa : ℕ
 good_part : {z : Sizes} {xs : List ℕ} {r b e : ℕ} → RotsGood z xs r b e → (c : ℕ) → b ≤ c → c ≤ e → RotsGood z xs r b c
 good_part h c m k = let n = h.end_in in record { order = m; end_in = omega arith; good = λ i a d. h.good i a (omega arith) }
 
-module _ {z : Sizes} {ws xs : List ℕ} {x from e pa qa : ℕ} (h : HasPre z ws xs x from e pa qa) (q : ℕ) (f : from ≤ q) (k : q < e) where
+module _ {z : Sizes} {ws xs : List ℕ} {x from e pa qa : ℕ} (s : Stored z ws xs) (h : HasPre z xs x from e pa qa) (q : ℕ) (f : from ≤ q)
+    (k : q < e) where
   pub has_entry : EntryPre xs z.u items_row q
-  has_entry = let n = h.rots.end_in in record { long = h.stores.held.numbers_long; rows = omega arith; here = omega arith }
+  has_entry = let n = h.rots.end_in in record { long = s.numbers_long; rows = omega arith; here = omega arith }
 
   pub has_item : (y : ℕ) → y ≡ axis_at z xs q → AxesPre z ws x y
   unfolding rot_said
-  has_item y d = record { axes_in_lem = axes_within h.stores; a_in = h.x_in; b_in = rw d (h.rots.good q f k).axis_in }
+  has_item y d = record { axes_in_lem = axes_within s; a_in = h.x_in; b_in = rw d (h.rots.good q f k).axis_in }
 
   pub has_pair : AxesPre z ws pa qa
-  has_pair = record { axes_in_lem = axes_within h.stores; a_in = h.p_in; b_in = h.q_in }
+  has_pair = record { axes_in_lem = axes_within s; a_in = h.p_in; b_in = h.q_in }
 
-module _ {z : Sizes} {ws xs : List ℕ} {from e : ℕ} {b : Group} {pa qa : ℕ} (h : RowsHavePre z ws xs from e b pa qa) (p : ℕ) (f : from ≤ p)
+module _ {z : Sizes} {xs : List ℕ} {from e : ℕ} {b : Group} {pa qa : ℕ} (h : RowsHavePre z xs from e b pa qa) (p : ℕ) (f : from ≤ p)
     (k : p < e) where
-  pub rows_row : RowHasPre z ws xs p b pa qa
+  pub rows_row : RowHasPre z xs p b pa qa
   unfolding rot_said
   rows_row =
       let n = h.rots.end_in in
       record {
-        stores = h.stores;
         second = h.second;
         here = omega arith;
         axis_in = (h.rots.good p f k).axis_in;
@@ -136,18 +133,16 @@ module _ {z : Sizes} {ws xs : List ℕ} {from e : ℕ} {b : Group} {pa qa : ℕ}
       }
 
 module _ {z : Sizes} {ws xs : List ℕ} {a b : Group} {p q pa qa : ℕ} (h : WordPre z ws xs a b p q pa qa) where
-  pub word_has : HasPre z ws xs pa b.from q pa qa
+  pub word_has : HasPre z xs pa b.from q pa qa
   word_has = record {
-    stores = h.sum.groups.stores;
     rots = good_part h.sum.groups.second q h.q_low h.q_high;
     x_in = h.sum.p_in;
     p_in = h.sum.p_in;
     q_in = h.sum.q_in;
   }
 
-  pub word_rows : RowsHavePre z ws xs a.from p b pa qa
+  pub word_rows : RowsHavePre z xs a.from p b pa qa
   word_rows = record {
-    stores = h.sum.groups.stores;
     rots = good_part h.sum.groups.first p h.p_low h.p_high;
     second = h.sum.groups.second;
     p_in = h.sum.p_in;
@@ -246,7 +241,7 @@ one_row {z} {ws} {xs} {a} {b} {p} h e t = record { row = λ i f k. go i f k (dec
 
 module _ {z : Sizes} {ws xs : List ℕ} {a b : Group} {p q : ℕ} (h : PairPre z ws xs a b p q) where
   module _ {pa qa : ℕ} (first : pa ≡ axis_at z xs p) (second : qa ≡ axis_at z xs q) where
-    pair_sums : SumPre z ws xs a b pa qa
+    pair_sums : SumPre z xs a b pa qa
     unfolding rot_said
     pair_sums = record {
       groups = h.row.groups;
@@ -254,8 +249,8 @@ module _ {z : Sizes} {ws xs : List ℕ} {a b : Group} {p q : ℕ} (h : PairPre z
       q_in = rw second (h.row.groups.second.good q h.low h.high).axis_in;
     }
 
-    pub pair_stored : Stored z ws xs × (pa < z.axes) × (qa < z.axes)
-    pair_stored = (h.row.groups.stores.held, pair_sums.p_in, pair_sums.q_in)
+    pub pair_stored : (pa < z.axes) × (qa < z.axes)
+    pair_stored = (pair_sums.p_in, pair_sums.q_in)
 
     pub pair_word : {r : Bool} → r ≡ anticommute z.l (stored_axes z ws) pa qa → r ≡ true → WordPre z ws xs a b p q pa qa
     pair_word e t =

@@ -14,7 +14,7 @@ use Rattle.theory.specs.Cases.{on_if}
 use Rattle.items.specs.declared.Tagged.{Tagged}
 use Rattle.items.specs.View.{rot_said}
 use Rattle.axes.specs.declared.Sizes.{Sizes}
-use Rattle.axes.specs.Held.{Stored, stored_axes}
+use Rattle.axes.specs.Held.{stored_axes}
 use Rattle.certificate.specs.declared.Group.{Group}
 use Rattle.certificate.specs.Sums.{share, pair_share, row_zero}
 use Rattle.certificate.specs.Terms.{product_of}
@@ -25,8 +25,7 @@ abbrev pub meets_word : Sizes → List ℕ → ℕ → ℕ → ℕ → Bool
 meets_word z ws x pa qa = anticommutes z.l (word_of (stored_axes z ws) x) (product_of z ws pa qa)
 
 -- three axes that are stored
-pub record MeetsPre (z : Sizes) (ws xs : List ℕ) (x pa qa : ℕ) : Type 0 where
-  pub held : Stored z ws xs
+pub record MeetsPre (z : Sizes) (x pa qa : ℕ) : Type 0 where
   pub x_in : x < z.axes
   pub p_in : pa < z.axes
   pub q_in : qa < z.axes
@@ -82,10 +81,9 @@ pair_none l axes w a b e =
         ∙ own_product l (word_of axes a.axis) (word_of axes b.axis) ∙ d)
 
 -- what asking it of a row's rotation demands
-pub share_meets : {z : Sizes} {ws xs : List ℕ} {x : Tagged} {b : Group} {pa qa : ℕ} → RowPre z ws xs x b pa qa
-    → MeetsPre z ws xs x.axis pa qa
+pub share_meets : {z : Sizes} {xs : List ℕ} {x : Tagged} {b : Group} {pa qa : ℕ} → RowPre z xs x b pa qa → MeetsPre z x.axis pa qa
 unfolding rot_said
-share_meets h = record { held = h.stores.held; x_in = h.first.axis_in; p_in = h.p_in; q_in = h.q_in }
+share_meets h = record { x_in = h.first.axis_in; p_in = h.p_in; q_in = h.q_in }
 
 -- r commutes with the product word: its row adds nothing
 pub share_none : (z : Sizes) (ws xs : List ℕ) (x : Tagged) (b : Group) (pa qa : ℕ) {m : Bool} → m ≡ meets_word z ws x.axis pa qa → m ≡ false

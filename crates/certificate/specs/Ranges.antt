@@ -1,13 +1,15 @@
 -- What `all` and `any` answer over a range, and what the closure may be asked there. Assumes nothing.
-use Rattle.std.specs.Prelude.{◌≡◌, refl, Bool, true, false, ◌&&◌, ◌||◌, List, [], ◌∷◌, ℕ, zero, suc, ◌+◌, ◌-◌, ◌≤◌, ◌<◌, Option, Some, MatchOption}
+use Rattle.std.specs.Prelude.{◌≡◌, refl, Bool, true, false, ◌&&◌, ◌||◌, List, [], ◌∷◌, length, ℕ, zero, suc, ◌+◌, ◌-◌, ◌≤◌, ◌<◌, Option, Some, MatchOption}
 use Rattle.std.proofs.Common.{sym, ap, ◌∙◌, subst, arith}
 use Rattle.std.specs.Fn.{Called}
 use Rattle.std.specs.Iterator.{Yields, YieldsThen, CallableAtEachTurn}
-use Rattle.std.specs.List.{FoldsTo, range_with_len, list_all, list_any}
+use Rattle.std.specs.Bool.{MatchBool, ⊤}
+use Rattle.std.specs.List.{FoldsTo, range_with_len, list_all, list_any, HoldsAt, AllWithin}
 use Rattle.std.specs.declared.ops.Range.{Range}
 use Rattle.std.proofs.iter.Yields.{nat_range_steps}
-use Rattle.std.proofs.lemmas.Iterator.{YieldsList-from_range}
+use Rattle.std.proofs.lemmas.Iterator.{YieldsList-from_range, cases_from_any}
 use Rattle.std.proofs.lemmas.Iterator.Search.{all_from_yields_List, any_from_yields_List}
+use Rattle.std.proofs.lemmas.List.FromFn.{length-range_with_len, get_or-range_with_len}
 use denote.Param.Members.{Mut}
 
 -- ---- the answer: t says what the closure answers at a place, `left` what the places from one on answer together
@@ -43,6 +45,22 @@ module _ {F : Type 0} {g : Mut F (ℕ × Unit {0}) Bool} {s : Range ℕ} (u : Ra
   any_over ran says turn done =
       any_from_yields_List t u f r ran (YieldsList-from_range s.start s.end _ refl refl) says
       ∙ any_turns t left s.end turn done (s.end - s.start) s.start refl
+
+-- where `any` answers with true, a place at which the closure does
+pub any_found : {F : Type 0} {g : Mut F (ℕ × Unit {0}) Bool} {s : Range ℕ} (u : Range ℕ) (f : F) (r : Bool) (Yes : ℕ → Type 0)
+    → (xs : List ℕ) × (o : Option ℕ) × (j : F) × YieldsThen nat_range_steps s xs o u
+    × FoldsTo (λ p x q. Called g p (x, tt) false q) f xs j
+    × MatchOption o (r ≡ false) (λ x. (r ≡ true) × ((h : F) × Called g j (x, tt) true h))
+    → ((x : ℕ) (q : F) → Called g f (x, tt) true q → Yes x) → ((x : ℕ) (q : F) → Called g f (x, tt) false q → q ≡ f)
+    → r ≡ true → (x : ℕ) × (s.start ≤ x) × (x < s.end) × Yes x
+any_found {s = s} u f r Yes ran says stays e =
+    let n = s.end - s.start in
+    let found = subst (λ (b : Bool). MatchBool b ((k : ℕ) × (k < length (range_with_len s.start n)) × HoldsAt Yes (range_with_len s.start n) k)
+    (AllWithin (λ _. ⊤) (range_with_len s.start n) 0 (length (range_with_len s.start n)))) e
+    (cases_from_any u f r Yes (λ _. ⊤) ran (YieldsList-from_range s.start s.end _ refl refl) says (λ x q k. (stays x q k, tt))) in
+    let within : found.0 < n = omega (arith, found.1, length-range_with_len s.start n) in
+    let at = get_or-range_with_len s.start n found.0 0 within in
+    (s.start + found.0, omega arith, omega arith, subst Yes at (found.2 0))
 
 -- ---- the closure may be asked at a place where Past holds, which each answer carries on to the next
 

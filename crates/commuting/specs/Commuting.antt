@@ -17,8 +17,7 @@ use Rattle.items.specs.View.{tagged_at, rot_said, rots_in, view_length, view_at,
 use Rattle.items.specs.Put.{EntryPre}
 
 -- the axis and those of the rotations are stored
-pub record CommutesPre (z : Sizes) (ws xs : List ℕ) (b from end axis : ℕ) : Type 0 where
-  pub held : Stored z ws xs
+pub record CommutesPre (z : Sizes) (xs : List ℕ) (b from end axis : ℕ) : Type 0 where
   pub rows : b + 2 < row_count
   pub end_in : end ≤ z.u
   pub axes_in_lem : (i : ℕ) → from ≤ i → i < end → (tagged_at xs z.u b i).axis < z.axes
@@ -76,14 +75,9 @@ module _ (z : Sizes) (ws xs : List ℕ) (b end axis : ℕ) where
 
 -- ---- what a turn demands
 
-module _ {z : Sizes} {ws xs : List ℕ} {b from end axis : ℕ} (h : CommutesPre z ws xs b from end axis) where
-  pub entry_in : (i : ℕ) → i < end → EntryPre xs z.u b i
-  entry_in i k = record { long = h.held.numbers_long; rows = h.rows; here = omega (arith, h.end_in) }
+module _ {z : Sizes} {xs : List ℕ} {b from end axis : ℕ} (h : CommutesPre z xs b from end axis) where
+  pub entry_in : {ws : List ℕ} → Stored z ws xs → (i : ℕ) → i < end → EntryPre xs z.u b i
+  entry_in s i k = record { long = s.numbers_long; rows = h.rows; here = omega (arith, h.end_in) }
 
-  pub axes_stored : {i other : ℕ} → from ≤ i → i < end → other ≡ (tagged_at xs z.u b i).axis
-      → Stored z ws xs × (other < z.axes) × (axis < z.axes)
-  axes_stored {i} low high e = (h.held, rw e (h.axes_in_lem i low high), h.axis_in)
-
-  pub axes_given : (i : ℕ) → from ≤ i → i < end → (other : ℕ) → other ≡ (tagged_at xs z.u b i).axis
-      → Stored z ws xs × (other < z.axes) × (axis < z.axes)
-  axes_given i low high other e = axes_stored low high e
+  pub axes_given : (i : ℕ) → from ≤ i → i < end → (other : ℕ) → other ≡ (tagged_at xs z.u b i).axis → (other < z.axes) × (axis < z.axes)
+  axes_given i low high other e = (rw e (h.axes_in_lem i low high), h.axis_in)

@@ -7,7 +7,6 @@ use Rattle.model.specs.Depth.{Level, depth_from, t_depth}
 use Rattle.theory.specs.StreamState.{AllIn}
 use Rattle.layout.specs.Rows.{items_row}
 use Rattle.layout.specs.Only.{Only}
-use Rattle.layout.specs.Shape.{longest_row}
 use Rattle.axes.specs.declared.Sizes.{Sizes}
 use Rattle.axes.specs.Held.{stored_axes, Stored}
 use Rattle.items.specs.View.{tagged_at, rot_at, item_at, items_in}
@@ -47,7 +46,6 @@ segment_in z ws s st i = segment_of z.l (stored_axes z ws) (rots_of s z.u) st i
 
 -- axis a, whose support lies within sig, is to stand behind the segment's rotations before item i
 pub record LevelPre (z : Sizes) (ws s : List ℕ) (st : Depth) (i a sig : ℕ) : Type 0 where
-  pub stored : Stored z ws s
   pub here : i < z.u
   pub axes : (j : ℕ) → j ≤ i → (tagged_at s z.u items_row j).axis < z.axes
   pub own : a < z.axes
@@ -60,7 +58,6 @@ level_here z ws s total start = level_in z.l (stored_axes z ws) (rots_of s z.u) 
 
 -- the list of level v holds the rotations of that level from start up to i
 pub record WalkPre (z : Sizes) (ws s : List ℕ) (total start i a v : ℕ) : Type 0 where
-  pub stored : Stored z ws s
   pub here : i < z.u
   pub axes : (j : ℕ) → j ≤ i → (tagged_at s z.u items_row j).axis < z.axes
   pub own : a < z.axes
@@ -84,7 +81,6 @@ LevelIs z ws s st i a r = r ≡ st.total + highest_asked z.l (stored_axes z ws) 
 
 pub record TurnPre (z : Sizes) (ws s : List ℕ) (i : ℕ) (st : Depth) : Type 0 where
   pub stored : Stored z ws s
-  pub short : z.u ≤ longest_row
   pub here : i < z.u
   pub axes : (j : ℕ) → j ≤ i → (tagged_at s z.u items_row j).axis < z.axes
   pub levels : Holding z ws s i st
@@ -111,7 +107,6 @@ pub record Turned (z : Sizes) (ws s : List ℕ) (i : ℕ) (st r : Depth) (t : Li
 -- they are there, and their axes are stored; levels are below 2 ^ 32, as no row is longer than the domain's longest
 pub record DepthPre (z : Sizes) (ws s : List ℕ) (count : ℕ) : Type 0 where
   pub stored : Stored z ws s
-  pub short : z.u ≤ longest_row
   pub items : count ≤ z.u
   pub axes : AllIn z.axes (items_in s z.u items_row 0 count)
 

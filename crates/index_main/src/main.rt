@@ -1,11 +1,11 @@
 // Interns words one after the other, and prints each word's id by its chain and by the scan: 02, M-102, run.
 #![tactic(auto)]
 
-ghost use Rattle.std.specs.Prelude.{◌≡◌, ◌+◌, ◌<◌, ◌≤◌, length, IfOk};
+ghost use Rattle.std.specs.Prelude.{◌≡◌, ◌+◌, ◌*◌, ◌<◌, ◌≤◌, length, IfOk};
 ghost use Rattle.layout.specs.Words.{OnlyWords};
-ghost use Rattle.index_main.specs.Ready.{WordBehind, Ready, ReadyAfter};
+ghost use Rattle.index_main.specs.Ready.{Ready, ReadyAfter};
 
-use axes::Sizes;
+use axes::{Sizes, StoredAxes};
 use interning::StoredAxis;
 use model::Counts;
 use std::io;
@@ -68,21 +68,22 @@ fn show_stored(rt: &impl Print, id: usize, agreed: bool) -> io::Result<()> {
 }
 
 // Whether chain and scan agree on the word behind the limit.
-fn agree(words: &[u64], numbers: &[u32], sizes: Sizes) -> bool
-    requires { WordBehind sizes words.now numbers.now }
+fn agree(axes: StoredAxes) -> bool
+    requires { axes.sizes.limit + 2 * axes.sizes.l ≤ length axes.words.now }
 {
-    let w = axes::word_at(words, sizes.limit, sizes.l);
-    interning::agree(words, numbers, sizes, w)
+    let w = axes::word_at(axes.words, axes.sizes.limit, axes.sizes.l);
+    interning::agree(axes, w)
 }
 
 // The start of a line: the word's id by its chain, and by the scan; the number of axes if it is none of them.
-fn show_ids(rt: &impl Print, words: &[u64], numbers: &[u32], sizes: Sizes) -> io::Result<()>
-    requires { WordBehind sizes words.now numbers.now }
+fn show_ids(rt: &impl Print, axes: StoredAxes) -> io::Result<()>
+    requires { axes.sizes.limit + 2 * axes.sizes.l ≤ length axes.words.now }
 {
-    let w = axes::word_at(words, sizes.limit, sizes.l);
-    let found = interning::find(words, numbers, sizes, w);
+    let sizes = axes.sizes;
+    let w = axes::word_at(axes.words, sizes.limit, sizes.l);
+    let found = interning::find(axes, w);
     show(rt, found.unwrap_or(sizes.axes), b" ")?;
-    let scanned = interning::scan(words, sizes.l, sizes.axes, w);
+    let scanned = interning::scan(axes.words, sizes.l, sizes.axes, w);
     show(rt, scanned.unwrap_or(sizes.axes), b" ")
 }
 
@@ -97,16 +98,25 @@ fn store(
     requires { Ready sizes peak words.old numbers.old }
     ensures { IfOk result (λ stored. ReadyAfter sizes stored words.new numbers.new) }
 {
-    show_ids(rt, &words[..], &numbers[..], sizes)?;
-    let before = agree(&words[..], &numbers[..], sizes);
+    let axes = StoredAxes {
+        words: &words[..],
+        numbers: &numbers[..],
+        sizes,
+    };
+    show_ids(rt, axes)?;
+    let before = agree(axes);
     let Ok(a) = interning::intern(words, numbers, sizes, 0, peak, sizes.limit) else {
         return Ok(None);
     };
-    let with_it = Sizes {
-        axes: a.axes,
-        ..sizes
+    let with_it = StoredAxes {
+        words: &words[..],
+        numbers: &numbers[..],
+        sizes: Sizes {
+            axes: a.axes,
+            ..sizes
+        },
     };
-    let after = agree(&words[..], &numbers[..], with_it);
+    let after = agree(with_it);
     show_stored(rt, a.id, before & after)?;
     Ok(Some(a))
 }

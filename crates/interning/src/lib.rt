@@ -12,7 +12,7 @@ ghost use Rattle.interning.specs.Beside.{BesidePre, BesidePut};
 ghost use Rattle.interning.specs.Link.{LinkPre, LinkPut, Entered, ChainsCleared};
 ghost use Rattle.interning.specs.Intern.{InternPre, Stores};
 
-use axes::Sizes;
+use axes::{Sizes, StoredAxes};
 use layout::{FORK, HEADS, SIGNATURE};
 use model::ExpansionLimit;
 use pauli::same;
@@ -104,16 +104,15 @@ fn named_at(numbers: &[u32], place: usize) -> Option<usize>
 }
 
 // A word looked for by its chain: its id among the axes, or, as an error, the place at the end of its walk where its entry belongs.
-pub fn find(words: &[u64], numbers: &[u32], z: Sizes, w: &[u64]) -> Result<usize, usize>
-    requires { Stored z words.now numbers.now }
-    ensures { FoundAs z words.now numbers.now w.now result }
+pub fn find(axes: StoredAxes, w: &[u64]) -> Result<usize, usize>
+    ensures { FoundAs axes.entry.sizes axes.entry.words.now axes.entry.numbers.now w.now result }
 {
-    let mut walk = Walk::from_head(z, sums_of(w));
-    while let Some(axis) = named_at(numbers, walk.place) {
-        if same(axes::axis(words, axis, z.l), w) {
+    let mut walk = Walk::from_head(axes.sizes, sums_of(w));
+    while let Some(axis) = named_at(axes.numbers, walk.place) {
+        if same(axes.axis(axis), w) {
             return Ok(axis);
         }
-        walk = walk.behind(z, axis);
+        walk = walk.behind(axes.sizes, axis);
     }
     Err(walk.place)
 }
@@ -132,11 +131,10 @@ pub fn scan(words: &[u64], l: usize, axes: usize, w: &[u64]) -> Option<usize>
 }
 
 // 02: "Ids and results stay equal to the scan's, which is kept and proved to agree."
-pub fn agree(words: &[u64], numbers: &[u32], z: Sizes, w: &[u64]) -> bool
-    requires { Stored z words.now numbers.now }
+pub fn agree(axes: StoredAxes, w: &[u64]) -> bool
     ensures { result ≡ true }
 {
-    find(words, numbers, z, w).ok() == scan(words, z.l, z.axes, w)
+    find(axes, w).ok() == scan(axes.words, axes.sizes.l, axes.sizes.axes, w)
 }
 
 // Every chain is empty.
@@ -195,7 +193,12 @@ pub fn intern(
     ensures { Stores z others peak words.old numbers.old at result words.new numbers.new }
 {
     let w = axes::word_at(&words[..], at, z.l);
-    let place = match find(&words[..], &numbers[..], z, w) {
+    let axes = StoredAxes {
+        words: &words[..],
+        numbers: &numbers[..],
+        sizes: z,
+    };
+    let place = match find(axes, w) {
         Ok(id) => {
             return Ok(StoredAxis {
                 id,

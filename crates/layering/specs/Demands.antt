@@ -5,7 +5,6 @@ use Rattle.model.specs.Layering.{layer_segment}
 use Rattle.theory.specs.StreamState.{AllIn}
 use Rattle.layout.specs.Rows.{row_count, items_row, out_row, layers_row}
 use Rattle.layout.specs.Only.{Only}
-use Rattle.layout.specs.Shape.{longest_row}
 use Rattle.axes.specs.declared.Sizes.{Sizes}
 use Rattle.axes.specs.Held.{stored_axes, Stored}
 use Rattle.items.specs.View.{item_rows, tagged_at, items_in, rots_in}
@@ -51,7 +50,6 @@ segment_rows = out_row ∷ (out_row + 1) ∷ (out_row + 2) ∷ sweeps_rows
 -- the pass stands before an item; no more is put out or merged than was read
 pub record SegmentPre (z : Sizes) (ws s : List ℕ) (st : Layering) (count : ℕ) : Type 0 where
   pub stored : Stored z ws s
-  pub short : z.u ≤ longest_row
   pub items : count < z.u
   pub item : st.from < count
   pub size : st.out + st.merged ≤ st.from
@@ -73,7 +71,6 @@ pub record SegmentDone (z : Sizes) (ws s : List ℕ) (st : Layering) (count : �
 -- the items are there, and their axes are stored; no row is longer than the domain's longest, so ends are below 2 ^ 32
 pub record LayeringPre (z : Sizes) (ws s : List ℕ) (count : ℕ) : Type 0 where
   pub stored : Stored z ws s
-  pub short : z.u ≤ longest_row
   pub items : count < z.u
   pub axes : AllIn z.axes (items_in s z.u items_row 0 count)
 

@@ -69,7 +69,6 @@ layer_rows = layers_row ∷ (layers_row + 1) ∷ (layers_row + 2) ∷ layer_end 
 
 pub record ItemPre (z : Sizes) (ws s : List ℕ) (i : ℕ) (st : Laid) : Type 0 where
   pub stored : Stored z ws s
-  pub short : z.u ≤ longest_row
   pub here : i < z.u
   pub sound : Sound z.u s layer_end st
   pub size : st.len + st.merged < z.u
@@ -88,7 +87,6 @@ pub record ItemJoined (z : Sizes) (ws s : List ℕ) (i : ℕ) (st r : Laid) (t :
 
 pub record ItemsPre (z : Sizes) (ws s : List ℕ) (from end : ℕ) : Type 0 where
   pub stored : Stored z ws s
-  pub short : z.u ≤ longest_row
   pub order : from ≤ end
   pub here : end < z.u
   pub axes : AllHave (IsAxis z) (rots_in s z.u items_row from (end - from))

@@ -22,8 +22,7 @@ use Rattle.items.specs.Put.{EntryPre}
 abbrev pub out_at : Sizes → List ℕ → ℕ → Tagged
 out_at z xs i = tagged_at xs z.u out_row i
 
-pub record BlocksPre (z : Sizes) (ws xs : List ℕ) (i id : ℕ) : Type 0 where
-  pub held : Stored z ws xs
+pub record BlocksPre (z : Sizes) (xs : List ℕ) (i id : ℕ) : Type 0 where
   pub here : i < z.u
   pub tag : (out_at z xs i).tag ≡ 0
   pub there : (out_at z xs i).axis < z.axes
@@ -33,9 +32,9 @@ pub record BlocksPre (z : Sizes) (ws xs : List ℕ) (i id : ℕ) : Type 0 where
 unfoldable pub passes : Sizes → List ℕ → List ℕ → ℕ → ℕ → Bool
 passes z ws xs i id = lets_pass z.l (stored_axes z ws) id (item_at xs z.u out_row i)
 
-module _ {z : Sizes} {ws xs : List ℕ} {i id : ℕ} (pre : BlocksPre z ws xs i id) where
+module _ {z : Sizes} {ws xs : List ℕ} {i id : ℕ} (held : Stored z ws xs) (pre : BlocksPre z xs i id) where
   pub blocks_entry : EntryPre xs z.u out_row i
-  blocks_entry = record { long = pre.held.numbers_long; rows = omega arith; here = pre.here }
+  blocks_entry = record { long = held.numbers_long; rows = omega arith; here = pre.here }
 
   said : passes z ws xs i id ≡ (eqb (out_at z xs i).angle 0 || not (anticommute z.l (stored_axes z ws) (out_at z xs i).axis id))
   unfolding passes
@@ -82,8 +81,7 @@ module _ {A : Type 0} (f : A → Bool) where
 
 -- ---- the scan
 
-pub record ReachPre (z : Sizes) (out j id : ℕ) (ws xs : List ℕ) : Type 0 where
-  pub held : Stored z ws xs
+pub record ReachPre (z : Sizes) (out j id : ℕ) (xs : List ℕ) : Type 0 where
   pub fits : out ≤ z.u
   pub before : j < out
   pub tags : (i : ℕ) → j < i → i < out → (out_at z xs i).tag ≡ 0
@@ -100,7 +98,7 @@ pub record Passed (z : Sizes) (out j id : ℕ) (ws xs : List ℕ) (i : ℕ) : Ty
   pub high : i ≤ out
   pub all : all_of (lets_pass z.l (stored_axes z ws) id) (drop i (items_in xs z.u out_row 0 out)) ≡ true
 
-module _ {z : Sizes} {out j id : ℕ} {ws xs : List ℕ} (pre : ReachPre z out j id ws xs) where
+module _ {z : Sizes} {out j id : ℕ} (ws : List ℕ) {xs : List ℕ} (pre : ReachPre z out j id xs) where
   list_long : length (items_in xs z.u out_row 0 out) ≡ out
   list_long = view_length item_said xs z.u out_row 0 out
 
@@ -122,9 +120,8 @@ module _ {z : Sizes} {out j id : ℕ} {ws xs : List ℕ} (pre : ReachPre z out j
   }
 
   module _ {i : ℕ} (p : Passed z out j id ws xs i) (more : j + 1 < i) where
-    pub blocks_pre : BlocksPre z ws xs (i - 1) id
+    pub blocks_pre : BlocksPre z xs (i - 1) id
     blocks_pre = record {
-      held = pre.held;
       here = omega (arith, p.high, pre.fits);
       tag = pre.tags (i - 1) (omega arith) (omega (arith, p.high));
       there = pre.places (i - 1) (omega arith) (omega (arith, p.high));

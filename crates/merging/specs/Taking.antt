@@ -24,7 +24,7 @@ use Rattle.layout.specs.Only.{only_of, only_then}
 use Rattle.layout.specs.Words.{kept_none}
 use Rattle.layout.specs.Shape.{longest_row}
 use Rattle.axes.specs.declared.Sizes.{Sizes}
-use Rattle.axes.specs.Held.{sizes_of}
+use Rattle.axes.specs.Held.{sizes_of, Stored}
 use Rattle.items.specs.View.{tagged_at, said_rotation}
 use Rattle.items.specs.Put.{EntryPre, ItemPut, tagged_rotation}
 use Rattle.words_wellformed.specs.HeldImages.{IsQuarters}
@@ -347,7 +347,7 @@ named_in z merging start id xs {j} e = go merging refl
 -- the place that is named, where it is reached
 pub record PlacePre (z : Shape) (c : StreamRules) (st : State) (id : ℕ) (ws xs : List ℕ) : Type 0 where
   pub last : LastPre z id xs
-  pub reach : (j : ℕ) → last_said z c.merge st.start id xs ≡ Some j → ReachPre (sizes_of z st.axes) st.out j id ws xs
+  pub reach : (j : ℕ) → last_said z c.merge st.start id xs ≡ Some j → Stored (sizes_of z st.axes) ws xs × ReachPre (sizes_of z st.axes) st.out j id xs
 
 pub record PlaceFor (z : Shape) (c : StreamRules) (st : State) (id : ℕ) (ws xs : List ℕ) (r : Option ℕ) : Type 0 where
   pub none : r ≡ None → (last_said z c.merge st.start id xs ≡ None)
@@ -422,15 +422,17 @@ module _ {z : Shape} {c : StreamRules} {st : State} {id k a : ℕ} {ws xs : List
         let w = named_in z c.merge st.start id xs last in
         (w.0, omega (arith, w.1, h.at.holds.named id taking_last.axis))
 
-    pub taking_reach : {y : Sizes} → y ≡ sizes_of z st.axes → ReachPre y st.out j id ws xs
-    taking_reach e = rw e (record {
-      held = axes_stored h.at;
-      fits = omega (arith, out_few h.at);
-      before = place_in.1;
-      tags = λ i a b. h.at.holds.segment i (omega (arith, place_in.0)) b;
-      places = λ i a b. (out_rotation h.at i b (h.at.holds.segment i (omega (arith, place_in.0)) b)).0;
-      axis = h.id_in;
-    })
+    pub taking_reach : {y : Sizes} → y ≡ sizes_of z st.axes → Stored y ws xs × ReachPre y st.out j id xs
+    taking_reach e = rw e (
+      axes_stored h.at,
+      record {
+        fits = omega (arith, out_few h.at);
+        before = place_in.1;
+        tags = λ i a b. h.at.holds.segment i (omega (arith, place_in.0)) b;
+        places = λ i a b. (out_rotation h.at i b (h.at.holds.segment i (omega (arith, place_in.0)) b)).0;
+        axis = h.id_in;
+      },
+    )
 
     pub taking_merges : MergingAt z c st j id k a ws xs m n p
     taking_merges = record {

@@ -17,43 +17,35 @@ ghost use Rattle.merging.specs.Taking.{MergedAt, MergingAt, last_said, LastPre, 
 ghost use Rattle.merging.specs.LookedUp.{SourceAt};
 ghost use Rattle.merging.specs.Carried.{CarryingAt};
 
-use axes::Sizes;
+use axes::StoredAxes;
 use layout::{CARRIED_FROM, LAST, OUT, Shape};
 use model::ExpansionLimit;
 use steps::State;
 use stream_states::StreamRules;
 
 // Whether output i, a rotation, stops axis id: it is not by nothing, and anticommutes with it.
-fn blocks(words: &[u64], numbers: &[u32], z: Sizes, i: usize, id: usize) -> bool
-    requires { BlocksPre z words.now numbers.now i id }
-    ensures { result ≡ not (passes z words.now numbers.now i id) }
+fn blocks(axes: StoredAxes, i: usize, id: usize) -> bool
+    requires { BlocksPre axes.sizes axes.numbers.now i id }
+    ensures { result ≡ not (passes axes.entry.sizes axes.entry.words.now axes.entry.numbers.now i id) }
 {
     // The axis is read only where the angle is not 0.
-    if items::angle_at(numbers, z.u, OUT, i) == 0 {
+    if items::angle_at(axes.numbers, axes.sizes.u, OUT, i) == 0 {
         return false;
     }
-    let axis = items::axis_at(numbers, z.u, OUT, i) as usize;
-    axes::anticommute(words, numbers, z, axis, id)
+    let axis = items::axis_at(axes.numbers, axes.sizes.u, OUT, i) as usize;
+    axes.anticommute(axis, id)
 }
 
 // Whether axis id comes back to place j of the output: it is within lookback, and no later output stops it.
-fn can_reach(
-    words: &[u64],
-    numbers: &[u32],
-    z: Sizes,
-    lookback: usize,
-    out: usize,
-    j: usize,
-    id: usize,
-) -> bool
-    requires { ReachPre z out j id words.now numbers.now }
-    ensures { result ≡ reaches z lookback out j id words.now numbers.now }
+fn can_reach(axes: StoredAxes, lookback: usize, out: usize, j: usize, id: usize) -> bool
+    requires { ReachPre axes.sizes out j id axes.numbers.now }
+    ensures { result ≡ reaches axes.entry.sizes lookback out j id axes.entry.words.now axes.entry.numbers.now }
 {
     if lookback < out - j - 1 {
         return false;
     }
     for i in (j + 1..out).rev() {
-        if blocks(words, numbers, z, i, id) {
+        if blocks(axes, i, id) {
             return false;
         }
     }
@@ -271,7 +263,12 @@ fn place_for(
 {
     let j = last_of(numbers, shape, rules, st, id)?;
     let z = axes::sizes_of(shape, st.axes);
-    can_reach(words, numbers, z, rules.lookback, st.out, j, id).then_some(j)
+    let axes = StoredAxes {
+        words,
+        numbers,
+        sizes: z,
+    };
+    can_reach(axes, rules.lookback, st.out, j, id).then_some(j)
 }
 
 // A rotation by angle k about axis id, which was carried: absorbed, merged or put out.

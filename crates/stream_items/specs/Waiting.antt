@@ -81,8 +81,7 @@ unfoldable pub picked_by : Option ℕ → ℕ → List (List ℕ) → ℕ → Bo
 picked_by None l axes b = true
 picked_by (Some id) l axes b = anticommute l axes b id
 
-pub record PicksPre (z : Sizes) (only : Option ℕ) (b : ℕ) (ws xs : List ℕ) : Type 0 where
-  pub held : Stored z ws xs
+pub record PicksPre (z : Sizes) (only : Option ℕ) (b : ℕ) : Type 0 where
   pub there : b < z.axes
   pub axis : (id : ℕ) → only ≡ Some id → id < z.axes
 
@@ -199,8 +198,11 @@ module _ {z : Shape} {st : State} {only : Option ℕ} {i : ℕ} {ws xs : List �
       item_is = ap item_said (sym read)
 
       module _ {y : Sizes} (sizes : y ≡ sizes_of z st.axes) where
-        pub turn_picks : PicksPre y only x.axis ws xs
-        turn_picks = rw sizes (record { held = axes_stored h.at; there = x_rotation.0; axis = h.id_in })
+        pub turn_held : Stored y ws xs
+        turn_held = rw sizes (axes_stored h.at)
+
+        pub turn_picks : PicksPre y only x.axis
+        turn_picks = rw sizes (record { there = x_rotation.0; axis = h.id_in })
 
         -- what the test says of the model's
         picks_is : {s : Bool} → s ≡ picked_by only y.l (stored_axes y ws) x.axis

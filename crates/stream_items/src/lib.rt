@@ -17,7 +17,7 @@ ghost use Rattle.stream_items.specs.Items.{BlockingAt, unblocked, UnblockAt, Rot
 ghost use Rattle.stream_items.specs.Behind.{named_item, begins_at};
 ghost use Rattle.stream_items.specs.Loop.{ItemAt, StreamAt, SomeStream, StreamedAs};
 
-use axes::Sizes;
+use axes::StoredAxes;
 use items::Tagged;
 use layout::{ITEMS, OUT, Shape, WAITING};
 use model::{Absorption, ExpansionLimit, Lazy};
@@ -32,13 +32,13 @@ fn waits(x: Tagged) -> bool
 }
 
 // Whether axis b is to be absorbed: all are, or only those that anticommute with an axis.
-fn picks(words: &[u64], numbers: &[u32], z: Sizes, only: Option<usize>, b: usize) -> bool
-    requires { PicksPre z only b words.now numbers.now }
-    ensures { result ≡ picked_by only z.l (stored_axes z words.now) b }
+fn picks(axes: StoredAxes, only: Option<usize>, b: usize) -> bool
+    requires { PicksPre axes.sizes only b }
+    ensures { result ≡ picked_by only axes.entry.sizes.l (stored_axes axes.entry.sizes axes.entry.words.now) b }
 {
     match only {
         None => true,
-        Some(id) => axes::anticommute(words, numbers, z, b, id),
+        Some(id) => axes.anticommute(b, id),
     }
 }
 
@@ -64,7 +64,12 @@ fn waiting_turn(
     }
     let axis = x.axis as usize;
     let z = axes::sizes_of(shape, st.axes);
-    if !picks(&words[..], &numbers[..], z, only, axis) {
+    let axes = StoredAxes {
+        words: &words[..],
+        numbers: &numbers[..],
+        sizes: z,
+    };
+    if !picks(axes, only, axis) {
         store::write(numbers, shape.u, WAITING, st.waiting, j as u32);
         return Ok(State {
             waiting: st.waiting + 1,

@@ -31,7 +31,6 @@ Blocked z ws s from end axis r =
 
 pub record MovePre (z : Sizes) (ws s : List ℕ) (i : ℕ) (st : Moving) : Type 0 where
   pub stored : Stored z ws s
-  pub short : z.u ≤ longest_row
   pub here : i < z.u
   pub sound : Sound z.u s swept_end st.laid
   pub size : size_of st < z.u
@@ -51,7 +50,6 @@ pub record Moved (z : Sizes) (ws s : List ℕ) (i : ℕ) (st r : Moving) (t : Li
 
 pub record MovesPre (z : Sizes) (ws s : List ℕ) (st : Moving) (from end : ℕ) : Type 0 where
   pub stored : Stored z ws s
-  pub short : z.u ≤ longest_row
   pub order : from ≤ end
   pub here : end ≤ z.u
   pub sound : Sound z.u s swept_end st.laid
@@ -93,7 +91,6 @@ size_at s u k = begin_of s u layer_end (k + 1) - begin_of s u layer_end k
 
 pub record LayerPre (z : Sizes) (ws s : List ℕ) (st : Moving) (k : ℕ) : Type 0 where
   pub stored : Stored z ws s
-  pub short : z.u ≤ longest_row
   pub layer : k < z.u
   pub order : begin_of s z.u layer_end k ≤ begin_of s z.u layer_end (k + 1)
   pub here : begin_of s z.u layer_end (k + 1) ≤ z.u
@@ -136,7 +133,6 @@ pub record LayersFit (u : ℕ) (s : List ℕ) (e count : ℕ) : Type 0 where
 -- the first layer is the open one
 pub record RestPre (z : Sizes) (ws s : List ℕ) (st : Moving) (count : ℕ) : Type 0 where
   pub stored : Stored z ws s
-  pub short : z.u ≤ longest_row
   pub layers : LayersFit z.u s layer_end count
   pub one : 0 < count
   pub sound : Sound z.u s swept_end st.laid
@@ -158,7 +154,6 @@ pub record RestSwept (z : Sizes) (ws s : List ℕ) (st : Moving) (count : ℕ) (
 
 pub record SweepPre (z : Sizes) (ws s : List ℕ) (count merged : ℕ) : Type 0 where
   pub stored : Stored z ws s
-  pub short : z.u ≤ longest_row
   pub layers : LayersFit z.u s layer_end count
   pub one : 0 < count
   pub size : begin_of s z.u layer_end count + merged < z.u
@@ -241,7 +236,6 @@ pub record ZerosDropped (u : ℕ) (s : List ℕ) (count merged : ℕ) (r : Laid)
 -- all layers are closed, and there is room for another sweep
 pub record SweepsPre (z : Sizes) (ws s : List ℕ) (st : Laid) : Type 0 where
   pub stored : Stored z ws s
-  pub short : z.u ≤ longest_row
   pub sound : Sound z.u s layer_end st
   pub closed : st.start ≡ st.len
   pub few : st.count ≤ z.u

@@ -55,7 +55,6 @@ module _ (z : Sizes) (ws s : List ℕ) (st : Moving) (pre : SweepsPre z ws s st.
   pub once_sweep : (st.laid.count ≡ 0 → ⊥) → SweepPre z ws s st.laid.count st.laid.merged
   once_sweep n = record {
     stored = pre.stored;
-    short = pre.short;
     layers = record { few = pre.few; rise = pre.sound.rise; here = omega (arith, end_is, pre.size) };
     one = omega (arith, n);
     size = omega (arith, end_is, pre.size);
@@ -66,7 +65,7 @@ module _ (z : Sizes) (ws s : List ℕ) (st : Moving) (pre : SweepsPre z ws s st.
     pub once_zeros : ZerosPre z.u s₁ r₁.laid.count
     once_zeros = record {
       long = omega (arith, pre.stored.numbers_long, w.only.long);
-      short = pre.short;
+      short = pre.stored.fit.small;
       layers = record {
         few = omega (arith, w.count_is, pre.few);
         rise = w.sound.rise;
@@ -138,7 +137,6 @@ module _ (z : Sizes) (ws s : List ℕ) (st : Laid) where
     sweeps_again = record {
       ready = record {
         stored = held_rows a.ready.stored w.only refl;
-        short = a.ready.short;
         sound = w.sound;
         closed = w.closed;
         few = omega (arith, w.count, a.ready.few);

@@ -9,7 +9,7 @@ use Rattle.layout.specs.Rows.{trial_row, kept_row, written_row, entry_own, entry
 use Rattle.layout.specs.Only.{Only, only_none, only_written}
 use Rattle.items.specs.View.{item_rows}
 use Rattle.axes.specs.declared.Sizes.{Sizes}
-use Rattle.axes.specs.Held.{stored_axes}
+use Rattle.axes.specs.Held.{stored_axes, Stored}
 use Rattle.certificate.specs.declared.Group.{Group}
 use Rattle.certificate.specs.Groups.{GroupsPre, group_in}
 use Rattle.trial.specs.Plain.{exchange_rows}
@@ -66,7 +66,8 @@ commute_in z ws xs g h = generators_commute z.l (stored_axes z ws) (group_in z x
 
 -- two groups, and the place where it is kept
 pub record KeptPre (z : Sizes) (ws xs : List ℕ) (left right : Group) (place : ℕ) : Type 0 where
-  pub groups : GroupsPre z ws xs left right
+  pub stored : Stored z ws xs
+  pub groups : GroupsPre z xs left right
   pub here : place < z.u
   pub kept : Says (kept_at z xs place) (commute_in z ws xs left right)
 
@@ -94,7 +95,7 @@ module _ {z : Sizes} {ws xs : List ℕ} {left right : Group} {place : ℕ} (h : 
   pub kept_new : {r : Bool} {v : ℕ} {ys : List ℕ} → r ≡ commute_in z ws xs left right → v ≡ kept_number (Some r)
       → Written xs z.u kept_row place v ys → AnswerKept z ws xs left right place r ys
   kept_new {r} {v} {ys} e d w =
-      let long = h.groups.stores.held.numbers_long in
+      let long = h.stored.numbers_long in
       let new = written_row long (omega arith) h.here w in
       record {
         answer = e;

@@ -58,7 +58,7 @@ module _ {z : Sizes} {ws xs : List ℕ} {r : ThreeGroups} (h : RunsPre z ws xs r
       let a = h.first_order in
       let b = h.second_order in
       let c = h.third_order in
-      record { long = h.stores.held.numbers_long; order = omega arith; end_in = h.rots.end_in }
+      record { long = h.stored.numbers_long; order = omega arith; end_in = h.rots.end_in }
 
   pub forgotten_right : {ys : List ℕ} → Forgotten xs z.u r.first r.end ys → RunsKept z ws ys r
   forgotten_right f =

@@ -10,12 +10,13 @@ use Rattle.certificate.proofs.generators_commute.Goals as goal
 pub all-requires-clause-callable : goal.all-requires-clause-callable
 all-requires-clause-callable c =
     let a = c.args in
-    serves_in_turn (λ p. (a.a.from ≤ p) × RowsPassed a.z a.words.now a.numbers.now a.a a.b p) (λ p s k. search (rules, tests))
+    let v = a.axes in
+    serves_in_turn (λ p. (a.a.from ≤ p) × RowsPassed v.sizes v.words.now v.numbers.now a.a a.b p) (λ p s k. search (rules, tests))
     (λ p s high past k.
-    let e : true ≡ row_from a.z a.words.now a.numbers.now a.a a.b (rot_at a.numbers.now a.z.u items_row p) a.b.from = search (rules, tests) in
+    let e : true ≡ row_from v.sizes v.words.now v.numbers.now a.a a.b (rot_at v.numbers.now v.sizes.u items_row p) a.b.from = search (rules, tests) in
     (omega (arith, past.0), one_row past.1 e refl))
     (λ p high past.
-    let row : RowVanishPre a.z a.words.now a.numbers.now a.a a.b p =
+    let row : RowVanishPre v.sizes v.words.now v.numbers.now a.a a.b p =
     record { groups = c.requires; from_in = past.0; end_in = high; rows = past.1 } in
     search (rules, row))
     (omega arith, no_rows _ _ _ _ _)
@@ -23,7 +24,8 @@ all-requires-clause-callable c =
 pub returns : goal.returns
 returns c =
     let a = c.args in
-    all_over _ _ _ (λ p. row_from a.z a.words.now a.numbers.now a.a a.b (rot_at a.numbers.now a.z.u items_row p) a.b.from)
-    (rows_from a.z a.words.now a.numbers.now a.a a.b) c.all.ensures.ran
+    let v = a.axes in
+    all_over _ _ _ (λ p. row_from v.sizes v.words.now v.numbers.now a.a a.b (rot_at v.numbers.now v.sizes.u items_row p) a.b.from)
+    (rows_from v.sizes v.words.now v.numbers.now a.a a.b) c.all.ensures.ran
     (λ p b s k. search (rules, tests)) (λ p high. rows_turn _ _ _ _ _ _ high) (λ p over. rows_done _ _ _ _ _ _ over)
     ∙ sym (rows_all _ _ _ _ _)

@@ -6,5 +6,7 @@ use Rattle.certificate.proofs.has_word.Goals as goal
 
 pub any-requires-clause-callable : goal.any-requires-clause-callable
 any-requires-clause-callable c =
+    let s = c.args.axes.stored in
+    let r = c.requires in
     serves_from_Range (λ x q k. search (rules, tests))
-    (λ x low high. search (rules, has_entry c.requires x low high, has_item c.requires x low high, has_pair c.requires x low high))
+    (λ x low high. search (rules, has_entry s r x low high, has_item s r x low high, has_pair s r x low high))

@@ -16,4 +16,4 @@ pub returns-then-not-anticommute : goal.returns-then-not-anticommute
 returns-then-not-anticommute c =
     ap not c.if-not-anticommute.true
     ∙ pair_read c.requires c.axis_at-pa.ensures c.axis_at-qa.ensures
-    (pair_commutes c.args.z _ _ _ _ _ _ c.anticommute.ensures c.if-not-anticommute.true)
+    (pair_commutes c.args.axes.sizes _ _ _ _ _ _ c.anticommute.ensures c.if-not-anticommute.true)

@@ -6,4 +6,4 @@ pub meets_word-requires : goal.meets_word-requires
 meets_word-requires c = share_meets c.requires
 
 pub returns-then-not-meets_word : goal.returns-then-not-meets_word
-returns-then-not-meets_word c = share_none c.args.z _ _ _ _ _ _ c.meets_word.ensures c.if-not-meets_word.true
+returns-then-not-meets_word c = share_none c.args.axes.sizes _ _ _ _ _ _ c.meets_word.ensures c.if-not-meets_word.true

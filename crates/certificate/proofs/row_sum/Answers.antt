@@ -8,7 +8,7 @@ pub loop-q-init : goal.loop-q-init
 loop-q-init c = (omega arith, (let h = c.requires.second.order in omega arith), row_start _ _ _ _ _ _ _)
 
 pub term-sum-requires : goal.term-sum-requires
-term-sum-requires c = row_term c.requires _ c.loop-q.invariant.0 c.loop-q-test.true _ c.item_at-y.ensures
+term-sum-requires c = row_term c.args.axes.stored c.requires _ c.loop-q.invariant.0 c.loop-q-test.true _ c.item_at-y.ensures
 
 pub overflow_add-sum : goal.overflow_add-sum
 overflow_add-sum c =
@@ -17,7 +17,7 @@ overflow_add-sum c =
     let h = c.requires in
     add_fits row_most (omega arith) c.loop-q.sum-bits i.2 c.term-sum.ensures (pair_bound _ _ _ _ _)
     (row_step _ _ _ _ _ _ _ _ _ _ i.0 y.ensures c.term-sum.ensures)
-    (row_bound _ _ _ _ _ _ _ _ (room h c.loop-q-test.true))
+    (row_bound _ _ _ _ _ _ _ _ (room c.args.axes.stored h c.loop-q-test.true))
 
 pub loop-q-preserved : goal.loop-q-preserved
 loop-q-preserved c =
@@ -28,5 +28,5 @@ loop-q-preserved c =
       omega arith,
       add_read row_most (omega arith) c.loop-q.sum-bits i.2 c.term-sum.ensures (pair_bound _ _ _ _ _)
           (row_step _ _ _ _ _ _ _ _ _ _ i.0 y.ensures c.term-sum.ensures)
-          (row_bound _ _ _ _ _ _ _ _ (room h c.loop-q-test.true)),
+          (row_bound _ _ _ _ _ _ _ _ (room c.args.axes.stored h c.loop-q-test.true)),
     )

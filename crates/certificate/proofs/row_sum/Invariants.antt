@@ -7,7 +7,9 @@ use Rattle.certificate.proofs.row_sum.Given as goal
 
 abbrev pub invariant-loop-q : goal.invariant-loop-q
 invariant-loop-q l =
-    (l.fn.b.from ≤ l.q) × (l.q ≤ l.fn.b.end) × (l.sum ≡ row_to l.z l.words l.numbers (rot_said l.x) l.fn.b.from l.q l.pa l.qa)
+    let a = l.axes in
+    (l.fn.b.from ≤ l.q) × (l.q ≤ l.fn.b.end)
+    × (l.sum ≡ row_to a.sizes a.words.now a.numbers.now (rot_said l.x) l.fn.b.from l.q l.pa l.qa)
 
 abbrev pub decreases-loop-q : goal.decreases-loop-q
 decreases-loop-q l = l.fn.b.end - l.q

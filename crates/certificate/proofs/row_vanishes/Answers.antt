@@ -10,13 +10,14 @@ use Rattle.certificate.proofs.row_vanishes.Goals as goal
 pub all-requires-clause-callable : goal.all-requires-clause-callable
 all-requires-clause-callable c =
     let a = c.args in
-    let x = axis_at a.z a.numbers.now a.p in
-    serves_in_turn (λ q. (a.b.from ≤ q) × Passed a.z a.words.now a.numbers.now a.a a.b x a.b.from q) (λ q s k. search (rules, tests))
+    let v = a.axes in
+    let x = axis_at v.sizes v.numbers.now a.p in
+    serves_in_turn (λ q. (a.b.from ≤ q) × Passed v.sizes v.words.now v.numbers.now a.a a.b x a.b.from q) (λ q s k. search (rules, tests))
     (λ q s high past k.
-    let e : true ≡ pair_vanishes a.z a.words.now a.numbers.now a.a a.b x (axis_at a.z a.numbers.now q) = search (rules, tests) in
+    let e : true ≡ pair_vanishes v.sizes v.words.now v.numbers.now a.a a.b x (axis_at v.sizes v.numbers.now q) = search (rules, tests) in
     (omega (arith, past.0), one_passed past.1 e refl))
     (λ q high past.
-    let pair : PairPre a.z a.words.now a.numbers.now a.a a.b a.p q =
+    let pair : PairPre v.sizes v.words.now v.numbers.now a.a a.b a.p q =
     record { row = c.requires; low = past.0; high = high; earlier = past.1 } in
     search (rules, pair))
     (omega arith, none_passed _ _ _ _ _ _ _)
@@ -24,7 +25,8 @@ all-requires-clause-callable c =
 pub returns : goal.returns
 returns c =
     let a = c.args in
+    let v = a.axes in
     all_over _ _ _
-    (λ q. pair_vanishes a.z a.words.now a.numbers.now a.a a.b (axis_at a.z a.numbers.now a.p) (axis_at a.z a.numbers.now q))
-    (row_from a.z a.words.now a.numbers.now a.a a.b (rot_at a.numbers.now a.z.u items_row a.p)) c.all.ensures.ran
+    (λ q. pair_vanishes v.sizes v.words.now v.numbers.now a.a a.b (axis_at v.sizes v.numbers.now a.p) (axis_at v.sizes v.numbers.now q))
+    (row_from v.sizes v.words.now v.numbers.now a.a a.b (rot_at v.numbers.now v.sizes.u items_row a.p)) c.all.ensures.ran
     (λ q b s k. search (rules, tests)) (λ q high. row_next _ _ _ _ _ _ _ high) (λ q over. row_done _ _ _ _ _ _ _ over)

@@ -11,9 +11,9 @@ pub overflow_add-sum : goal.overflow_add-sum
 overflow_add-sum c =
     let i = c.loop-p.invariant in
     let h = c.requires in
-    add_fits sum_most (omega arith) c.loop-p.sum-bits i.2 c.row_share-sum.ensures (row_within h _)
+    add_fits sum_most (omega arith) c.loop-p.sum-bits i.2 c.row_share-sum.ensures (row_within c.args.axes.stored h _)
     (sum_step _ _ _ _ _ _ _ _ _ _ i.0 c.item_at-x.ensures c.row_share-sum.ensures)
-    (sum_within h c.loop-p-test.true)
+    (sum_within c.args.axes.stored h c.loop-p-test.true)
 
 pub loop-p-preserved : goal.loop-p-preserved
 loop-p-preserved c =
@@ -21,7 +21,7 @@ loop-p-preserved c =
     let h = c.requires in (
       omega arith,
       omega arith,
-      add_read sum_most (omega arith) c.loop-p.sum-bits i.2 c.row_share-sum.ensures (row_within h _)
+      add_read sum_most (omega arith) c.loop-p.sum-bits i.2 c.row_share-sum.ensures (row_within c.args.axes.stored h _)
           (sum_step _ _ _ _ _ _ _ _ _ _ i.0 c.item_at-x.ensures c.row_share-sum.ensures)
-          (sum_within h c.loop-p-test.true),
+          (sum_within c.args.axes.stored h c.loop-p-test.true),
     )

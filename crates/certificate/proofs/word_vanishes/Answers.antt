@@ -24,5 +24,5 @@ returns-then-rows_have c =
 
 pub returns-else-rows_have : goal.returns-else-rows_have
 returns-else-rows_have c =
-    zero_read sum_most (omega arith) c.sum_at.ensures (sum_whole c.requires.sum) ∙ pair_sum c.args.z _ _ _ _ _ _
+    zero_read sum_most (omega arith) c.sum_at.ensures (sum_whole c.args.axes.stored c.requires.sum) ∙ pair_sum c.args.axes.sizes _ _ _ _ _ _
     c.requires.odd c.sum_at.ensures

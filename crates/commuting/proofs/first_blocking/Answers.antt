@@ -10,14 +10,14 @@ find-requires c = record {
   can = tt;
   finite = tt;
   callable = serves_from_Range (λ x q k. search (rules, tests))
-      (λ x low high. search (rules, entry_in c.requires x high, axes_given c.requires x low high));
+      (λ x low high. search (rules, entry_in c.requires c.args.axes.stored x high, axes_given c.requires x low high));
 }
 
 pub returns : goal.returns
 returns c =
-    let a = c.args in
+    let a = c.args.axes in
     rw c.unwrap_or.ensures
     (blocking_first _
-    (first_from_Range _ _ _ _ (λ i. blocks a.z a.words.now a.numbers.now a.b a.end a.axis i ≡ true)
-    (λ i. blocks a.z a.words.now a.numbers.now a.b a.end a.axis i ≡ false) c.find.ensures.ran
+    (first_from_Range _ _ _ _ (λ i. blocks a.sizes a.words.now a.numbers.now c.args.b c.args.end c.args.axis i ≡ true)
+    (λ i. blocks a.sizes a.words.now a.numbers.now c.args.b c.args.end c.args.axis i ≡ false) c.find.ensures.ran
     (λ x q k. search (rules, tests)) (λ x q k. search (rules, tests))))

@@ -5,7 +5,7 @@ use Rattle.depth.proofs.asks.Goals as goal
 
 pub read_wide-requires : goal.read_wide-requires
 read_wide-requires c = (
-  c.requires.0.stored.numbers_long,
+  c.args.axes.stored.numbers_long,
   omega arith,
   omega
       (arith, reached_short c.requires.0.levels, c.requires.1, c.requires.2, c.requires.0.here),

@@ -4,7 +4,7 @@ use Rattle.depth.specs.Looking.{bit_pre, look_start, look_next, look_found, look
 use Rattle.depth.proofs.level.Goals as goal
 
 pub bound-most-requires : goal.bound-most-requires
-bound-most-requires c = bit_pre c.requires
+bound-most-requires c = bit_pre c.requires c.args.axes.stored
 
 pub loop-v-init : goal.loop-v-init
 loop-v-init c = look_start c.requires c.bound-most.ensures

@@ -3,4 +3,4 @@ use Rattle.depth.specs.Looking.{LookedTo}
 use Rattle.depth.proofs.level.Given as goal
 
 abbrev pub invariant-loop-v : goal.invariant-loop-v
-invariant-loop-v l = LookedTo l.z l.words l.numbers l.st l.i l.axis l.v
+invariant-loop-v l = LookedTo l.axes.sizes l.axes.words.now l.axes.numbers.now l.st l.i l.axis l.v

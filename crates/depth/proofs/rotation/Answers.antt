@@ -5,13 +5,13 @@ use native.Mathlib.Omega.{arith}
 use Rattle.depth.proofs.rotation.Goals as goal
 
 pub signature_of-sig-requires : goal.signature_of-sig-requires
-signature_of-sig-requires c = (c.requires.turn.stored, own_axis c.requires)
+signature_of-sig-requires c = own_axis c.requires
 
 pub level-requires : goal.level-requires
 level-requires c = turn_level c.requires c.signature_of-sig.ensures
 
 pub overflow_add-v : goal.overflow_add-v
-overflow_add-v c = omega (arith, level_high c.requires c.level.ensures refl, c.requires.turn.here, c.requires.turn.short)
+overflow_add-v c = omega (arith, level_high c.requires c.level.ensures refl, c.requires.turn.here, c.requires.turn.stored.fit.small)
 
 pub returns-then-v-st : goal.returns-then-v-st
 returns-then-v-st c = rotation_low c.requires c.level.ensures refl c.if-v-st.true

@@ -3,23 +3,26 @@ use Rattle.interning.specs.Find.{walking_first, walking_in, walking_end, walking
 use Rattle.interning.proofs.find.Goals as goal
 
 pub loop-axis-init : goal.loop-axis-init
-loop-axis-init c = walking_first c.requires _ c.sums_of.ensures c.from_head-walk.ensures
+loop-axis-init c = walking_first c.args.axes.stored _ c.sums_of.ensures c.from_head-walk.ensures
 
 pub named_at-requires : goal.named_at-requires
-named_at-requires c = walking_in c.requires c.loop-axis.invariant
+named_at-requires c = walking_in c.args.axes.stored c.loop-axis.invariant
 
 pub returns-then-same : goal.returns-then-same
 returns-then-same c =
-    walking_here c.requires c.loop-axis.invariant c.in-Some.ensures c.same.ensures c.if-same.true
-    (c.axis.ensures _ (walking_axis c.requires c.loop-axis.invariant c.in-Some.ensures))
+    walking_here c.args.axes.stored c.loop-axis.invariant c.in-Some.ensures c.same.ensures c.if-same.true
+    c.axis.ensures
 
 pub loop-axis-smaller : goal.loop-axis-smaller
-loop-axis-smaller c = (walking_next c.requires c.loop-axis.invariant c.in-Some.ensures c.same.ensures c.if-same.false
-    (c.axis.ensures _ (walking_axis c.requires c.loop-axis.invariant c.in-Some.ensures)) c.behind-walk.ensures).1
+loop-axis-smaller c = (walking_next c.args.axes.stored c.loop-axis.invariant c.in-Some.ensures c.same.ensures c.if-same.false
+    c.axis.ensures c.behind-walk.ensures).1
 
 pub loop-axis-preserved : goal.loop-axis-preserved
-loop-axis-preserved c = (walking_next c.requires c.loop-axis.invariant c.in-Some.ensures c.same.ensures c.if-same.false
-    (c.axis.ensures _ (walking_axis c.requires c.loop-axis.invariant c.in-Some.ensures)) c.behind-walk.ensures).0
+loop-axis-preserved c = (walking_next c.args.axes.stored c.loop-axis.invariant c.in-Some.ensures c.same.ensures c.if-same.false
+    c.axis.ensures c.behind-walk.ensures).0
 
 pub returns : goal.returns
-returns c = walking_end c.requires c.loop-axis.invariant c.in_default.ensures
+returns c = walking_end c.args.axes.stored c.loop-axis.invariant c.in_default.ensures
+
+pub axis-requires : goal.axis-requires
+axis-requires c = walking_axis c.args.axes.stored c.loop-axis.invariant c.in-Some.ensures

@@ -3,16 +3,16 @@ use Rattle.merging.specs.Reach.{blocks_entry, blocks_there, blocks_zero, blocks_
 use Rattle.merging.proofs.blocks.Goals as goal
 
 pub angle_at-requires : goal.angle_at-requires
-angle_at-requires c = blocks_entry c.requires
+angle_at-requires c = blocks_entry c.args.axes.stored c.requires
 
 pub returns-then-angle_at-eq0 : goal.returns-then-angle_at-eq0
-returns-then-angle_at-eq0 c = blocks_zero c.requires c.angle_at.ensures c.if-angle_at-eq0.true
+returns-then-angle_at-eq0 c = blocks_zero c.args.axes.stored c.requires c.angle_at.ensures c.if-angle_at-eq0.true
 
 pub axis_at-axis-requires : goal.axis_at-axis-requires
-axis_at-axis-requires c = blocks_entry c.requires
+axis_at-axis-requires c = blocks_entry c.args.axes.stored c.requires
 
 pub anticommute-requires : goal.anticommute-requires
-anticommute-requires c = (c.requires.held, blocks_there c.requires c.axis_at-axis.ensures, c.requires.axis)
+anticommute-requires c = (blocks_there c.args.axes.stored c.requires c.axis_at-axis.ensures, c.requires.axis)
 
 pub returns : goal.returns
-returns c = blocks_some c.requires c.angle_at.ensures c.if-angle_at-eq0.false c.axis_at-axis.ensures c.anticommute.ensures
+returns c = blocks_some c.args.axes.stored c.requires c.angle_at.ensures c.if-angle_at-eq0.false c.axis_at-axis.ensures c.anticommute.ensures

@@ -10,22 +10,22 @@ pub overflow_sub-out-2 : goal.overflow_sub-out-2
 overflow_sub-out-2 c = omega (arith, c.requires.before)
 
 pub returns-then-lookback-out : goal.returns-then-lookback-out
-returns-then-lookback-out c = reach_far c.requires _ c.if-lookback-out.true
+returns-then-lookback-out c = reach_far _ c.requires _ c.if-lookback-out.true
 
 pub loop-i-init : goal.loop-i-init
-loop-i-init c = passed_first c.requires
+loop-i-init c = passed_first _ c.requires
 
 pub overflow_add-i-start : goal.overflow_add-i-start
 overflow_add-i-start c = omega (arith, c.requires.before, c.ranges.out)
 
 pub blocks-requires : goal.blocks-requires
-blocks-requires c = blocks_pre c.requires c.loop-i.invariant c.loop-i-test.true
+blocks-requires c = blocks_pre _ c.requires c.loop-i.invariant c.loop-i-test.true
 
 pub returns-then-blocks : goal.returns-then-blocks
-returns-then-blocks c = reach_blocked c.requires c.loop-i.invariant c.loop-i-test.true _ c.blocks-in-loop-i.ensures c.if-blocks.true
+returns-then-blocks c = reach_blocked _ c.requires c.loop-i.invariant c.loop-i-test.true _ c.blocks-in-loop-i.ensures c.if-blocks.true
 
 pub loop-i-preserved : goal.loop-i-preserved
-loop-i-preserved c = passed_next c.requires c.loop-i.invariant c.loop-i-test.true c.blocks-in-loop-i.ensures c.if-blocks.false
+loop-i-preserved c = passed_next _ c.requires c.loop-i.invariant c.loop-i-test.true c.blocks-in-loop-i.ensures c.if-blocks.false
 
 pub returns : goal.returns
-returns c = reach_all c.requires _ c.if-lookback-out.false c.loop-i.invariant c.loop-i-test.false
+returns c = reach_all _ c.requires _ c.if-lookback-out.false c.loop-i.invariant c.loop-i-test.false

@@ -7,12 +7,13 @@ use Rattle.start.proofs.item_of.Goals as goal
 
 pub rotation_of-requires : goal.rotation_of-requires
 rotation_of-requires c =
-    rw c.sizes_of-z.ensures (record {
-      axes = c.requires.axes;
-      stored = rw (ap (λ (s : SignedAxis). s.axis) c.root_at-f.ensures)
-          c.requires.stored;
-      angle = rw c.operation_at-o.ensures c.requires.angle;
-    })
+    rw c.sizes_of-z.ensures (
+      rw (ap (λ (s : SignedAxis). s.axis) c.root_at-f.ensures) c.requires.stored,
+      rw c.operation_at-o.ensures c.requires.angle,
+    )
+
+pub invariant_of-stored : goal.invariant_of-stored
+invariant_of-stored c = record { stored = rw c.sizes_of-z.ensures c.requires.axes }
 
 pub returns-then-eq : goal.returns-then-eq
 returns-then-eq c =

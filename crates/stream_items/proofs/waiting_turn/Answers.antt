@@ -2,7 +2,7 @@
 use Rattle.model.specs.declared.Absorption.TheVariants.{Off as off}
 use Rattle.stream_states.specs.States.{left_none}
 use Rattle.merging.specs.Steps.{absorbed_left}
-use Rattle.stream_items.specs.Waiting.{turn_read, turn_entry, turn_small, turned_over, turn_picks, turned_left, left_kept}
+use Rattle.stream_items.specs.Waiting.{turn_read, turn_entry, turn_small, turned_over, turn_held, turn_picks, turned_left, left_kept}
 use Rattle.stream_items.specs.Waiting.{turn_merged, turned_absorbed}
 use mathlib.Core.Path.{refl}
 use native.Mathlib.Omega.{arith}
@@ -20,6 +20,11 @@ returns-then-not-waits c = (
   λ n p h. turned_over h c.read-j.ensures c.item_at-x.ensures c.waits.ensures
       c.if-not-waits.true,
 )
+
+pub invariant_of-axes : goal.invariant_of-axes
+invariant_of-axes c = record {
+  stored = turn_held c.requires.it c.read-j.ensures c.item_at-x.ensures c.waits.ensures c.if-not-waits.false c.sizes_of-z.ensures;
+}
 
 pub picks-requires : goal.picks-requires
 picks-requires c =

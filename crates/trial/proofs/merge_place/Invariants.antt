@@ -6,4 +6,6 @@ use Rattle.trial.proofs.merge_place.Given as goal
 
 abbrev pub invariant-loop-j : goal.invariant-loop-j
 invariant-loop-j l =
-    found_from l.z.l (stored_axes l.z l.words) l.numbers l.z.u l.i l.i ≡ found_from l.z.l (stored_axes l.z l.words) l.numbers l.z.u l.i l.j
+    let a = l.axes in
+    let z = a.sizes in
+    found_from z.l (stored_axes z a.words.now) a.numbers.now z.u l.i l.i ≡ found_from z.l (stored_axes z a.words.now) a.numbers.now z.u l.i l.j

@@ -1,13 +1,13 @@
 -- The place that is asked first, else the first one. Assumes nothing.
-use Rattle.commuting.specs.Commuting.{entry_in, axes_stored}
+use Rattle.commuting.specs.Commuting.{entry_in, axes_given}
 use Rattle.commuting.specs.Blocking.{blocking_at}
 use Rattle.sweeps.proofs.sweep.blocking.Goals as goal
 
 pub axis_at-other-requires : goal.axis_at-other-requires
-axis_at-other-requires c = entry_in c.requires _ c.if-at-end.true
+axis_at-other-requires c = entry_in c.requires c.args.axes.stored _ c.if-at-end.true
 
 pub anticommute-requires : goal.anticommute-requires
-anticommute-requires c = axes_stored c.requires c.if-from-at.true c.if-at-end.true c.axis_at-other.ensures
+anticommute-requires c = axes_given c.requires _ c.if-from-at.true c.if-at-end.true _ c.axis_at-other.ensures
 
 pub returns-then-anticommute : goal.returns-then-anticommute
 returns-then-anticommute c =
