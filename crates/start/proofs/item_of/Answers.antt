@@ -1,18 +1,8 @@
 -- The two cases: a rotation, or a barrier. Assumes nothing.
-use mathlib.Core.Path.{refl, sym, ap, ◌∙◌}
-use Rattle.model.specs.Packing.{SignedAxis}
+use mathlib.Core.Path.{refl, sym, ◌∙◌}
 use Rattle.records.specs.Kinds.{rotate_test}
 use Rattle.start.specs.Item.{made_barrier, made_rotation}
 use Rattle.start.proofs.item_of.Goals as goal
-
-pub rotation_of-requires : goal.rotation_of-requires
-rotation_of-requires c =
-    rw c.sizes_of-z.ensures (record {
-      axes = c.requires.axes;
-      stored = rw (ap (λ (s : SignedAxis). s.axis) c.root_at-f.ensures)
-          c.requires.stored;
-      angle = rw c.operation_at-o.ensures c.requires.angle;
-    })
 
 pub returns-then-eq : goal.returns-then-eq
 returns-then-eq c =
