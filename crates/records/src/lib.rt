@@ -60,7 +60,7 @@ pub struct OperationRecord {
     pub target: u32,
 }
 
-// A frame row: qubit, 0 x or 1 z, and the node and phase that it refers to.
+// A frame row: qubit, 0 x or 1 z, and the node and phase that it refers to; nothing tests the half, so it stays a number.
 #[derive(Clone, Copy)]
 pub struct RowRecord {
     pub qubit: u32,

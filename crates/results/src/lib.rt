@@ -55,7 +55,7 @@ impl OperationResult {
     }
 }
 
-// A frame row that comes out: qubit, 0 x or 1 z, axis by id, sign; kept is -1, 0.
+// A frame row that comes out: qubit, 0 x or 1 z, axis by id, sign; kept is -1, 0; nothing tests the half, so it stays a number.
 #[derive(Clone, Copy)]
 pub struct RowResult {
     pub qubit: u32,

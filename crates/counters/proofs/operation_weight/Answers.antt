@@ -8,9 +8,6 @@ use Rattle.counters.proofs.operation_weight.Goals as goal
 pub returns-then-eq : goal.returns-then-eq
 returns-then-eq c = source_none _ _ _ _ _ _ _ c.operation_at.ensures (sym (measure_test _) ∙ sym c.if-eq.ensures)
 
-pub axis_weight-requires : goal.axis_weight-requires
-axis_weight-requires c = rw (ap (λ (s : SignedAxis). s.axis) c.root_at-f.ensures) c.requires.axis
-
 pub returns : goal.returns
 returns c =
     source_some _ _ _ _ _ _ _ _ _ c.operation_at.ensures (sym (measure_test _) ∙ sym c.if-eq.ensures)
