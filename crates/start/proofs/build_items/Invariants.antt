@@ -1,6 +1,6 @@
 -- The loop's invariant: the items of the first i operations are there. Assumes nothing.
 use mathlib.Core.Path.{◌≡◌}
-use Prim.Native.Nat.{◌-◌, ◌≤◌}
+use Prim.Native.Nat.{◌≤◌}
 use Rattle.start.specs.Build.{ItemsBuilt}
 use Rattle.start.proofs.build_items.Given as goal
 
