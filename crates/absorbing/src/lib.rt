@@ -124,6 +124,7 @@ fn turn_qubit(words: &mut [u64], numbers: &mut [u32], shape: Shape, q: usize, b:
     ensures { (m : ℕ) → QubitsPre shape m b k words.old numbers.old
         → TurnedFor shape m b k (q ∷ []) words.old numbers.old words.new numbers.new }
 {
+    // Lent memory has a number for none: 0 is no slot.
     let slot = store::read(&numbers[..], shape.u, F_SLOT, q) as usize;
     if slot == 0 {
         return;

@@ -11,6 +11,7 @@ use std::ops::{Add, Neg};
 pub struct PauliAngle(pub u8);
 
 // A phase counts quarter turns, modulo 4: a power of i.
+// Not one type with `PauliAngle`: the two are told apart by name, and only the modulus is alike.
 #[derive(Clone, Copy, PartialEq, Eq)]
 pub struct Phase(pub u8);
 

@@ -68,6 +68,7 @@ fn carry_letter(
         → ScratchTimes shape phase words.old (letter_of_axis shape id q t) words.new result }
 {
     let letter = letter::letter_at(axes::axis(&words[..], id, shape.l), shape.l, q);
+    // Lent memory has a number for none: 0 is no slot.
     let slot = store::read(numbers, shape.u, F_SLOT, q) as usize;
     if slot == 0 {
         return times_letter(words, shape, q, letter, phase);

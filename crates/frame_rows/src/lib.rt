@@ -27,6 +27,7 @@ fn carry_row(
         → RowAs shape m j numbers.old p result words.new numbers.new) }
 {
     let x = work::root_at(&numbers[..], shape.u, j);
+    // Lent memory has a number for none.
     if x.axis == NO_AXIS {
         return Ok(st);
     }

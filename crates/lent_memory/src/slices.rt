@@ -16,6 +16,7 @@ pub fn unchanged_to<T: Number>(s: &[T], from: usize) -> usize
     requires { from ≤ length s.now }
     ensures { (from ≤ result) × (result ≤ length s.now) }
 {
+    // By index: what a place was lent depends on it.
     for i in from..s.len() {
         if s[i] != T::lent(i) {
             return i;
@@ -54,6 +55,7 @@ fn print_run<T: Number>(rt: &impl Print, s: &[T], from: usize) -> io::Result<usi
 // The line of a slice, behind its name.
 pub fn print<T: Number>(rt: &impl Print, s: &[T]) -> io::Result<()> {
     let mut at: usize = 0;
+    // A run of like numbers ends where it does.
     while at < s.len() {
         at = print_run(rt, s, at)?;
     }

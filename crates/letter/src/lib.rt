@@ -117,6 +117,7 @@ pub fn weight(w: &[u64], l: usize) -> usize
     ensures { result ≡ weight l w.now }
 {
     let mut n: usize = 0;
+    // By index: the two planes advance together.
     for j in 0..l {
         n += bits::count(w[j] | w[l + j]) as usize;
     }

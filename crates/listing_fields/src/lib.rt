@@ -28,6 +28,7 @@ pub fn fields(line: &[u8], to: &mut [u32]) -> Result<(), BadText>
     if line.len() / COLUMNS != to.len() {
         return Err(BadText);
     }
+    // By index: each number has its part of the line.
     for i in 0..to.len() {
         let a = i * COLUMNS;
         let e = a + COLUMNS;

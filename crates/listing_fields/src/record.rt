@@ -72,6 +72,7 @@ fn operation_line(line: &[u8], r: &mut [u32]) -> Result<(), BadText>
 }
 
 // A line of a record: an operation's, or one without -1.
+// `operation` says which columns the line has; no value goes with it.
 pub fn line(line: &[u8], operation: bool, r: &mut [u32]) -> Result<(), BadText>
     requires { operation ≡ true → length r.old ≡ 6 }
     ensures { values_of result r.new ≡

@@ -20,6 +20,7 @@ fn run(
     rows: &mut [u32],
 ) -> io::Result<()> {
     let mut at = jobs::past_blanks(input, 0);
+    // A listing tells where the next begins.
     while at < input.len() {
         at = call::run(rt, input, at, output, words, numbers, operations, rows)?;
     }

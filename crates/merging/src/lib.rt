@@ -56,6 +56,7 @@ fn can_reach(axes: StoredAxes, lookback: usize, out: usize, j: usize, id: usize)
 fn later(rules: StreamRules, k: u32) -> bool
     ensures { result ≡ is_later rules k }
 {
+    // Even is not odd, as in the model.
     rules.is_lazy() && k % 2 != 1
 }
 
@@ -135,6 +136,7 @@ fn absorb(
 fn at_once(rules: StreamRules, k: u32) -> bool
     ensures { result ≡ is_at_once rules.absorption && is_even k }
 {
+    // Even is not odd, as in the model.
     rules.is_at_once() && k % 2 != 1
 }
 

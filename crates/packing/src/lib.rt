@@ -105,6 +105,7 @@ fn pack_root(
 }
 
 // The root that an entry in a row of links names: the entry is 0, or a root's number and 1.
+// Not one function with the index's `named_at`: that reads by place, this by row.
 fn linked_at(numbers: &[u32], u: usize, links: usize, i: usize) -> Option<usize>
     requires { (24 * u ≤ length numbers.now) × (links < 24) × (i < u) }
     ensures { entry_of result ≡ get_or (row numbers.now u links) i 0 }

@@ -32,6 +32,7 @@ pub fn anticommutes(p: &[u64], q: &[u64], l: usize) -> bool
     ensures { result ≡ anticommutes l p.now q.now }
 {
     let mut acc: u64 = 0;
+    // By index: two planes of two words advance together.
     for j in 0..l {
         acc ^= (p[j] & q[l + j]) ^ (p[l + j] & q[j]);
     }

@@ -8,6 +8,7 @@ pub fn product_word_in(words: &mut [u64], p: usize, q: usize, o: usize, l: usize
     requires { StoredPre l words.old p q o }
     ensures { StoredWord l words.old p q o words.new }
 {
+    // By index: the three words lie in one store, and may be the same.
     for j in 0..2 * l {
         words[o + j] = words[p + j] ^ words[q + j];
     }

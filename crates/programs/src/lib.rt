@@ -21,6 +21,7 @@ pub fn read_full<R: Read>(from: &mut R, to: &mut [u8]) -> io::Result<usize>
     ensures whole { IfOk result (λ n. n < length to.new → IsAtEnd (R.remaining from.new)) }
 {
     let mut n = 0;
+    // How much a read gives is not known before.
     while n < to.len() {
         let more = from.read(&mut to[n..])?;
         if more == 0 {

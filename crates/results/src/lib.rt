@@ -172,6 +172,7 @@ fn row_record(changed: bool, f: Root, i: usize) -> RowResult
 {
     let qubit = (i / 2) as u32;
     let half = (i % 2) as u32;
+    // Lent memory has a number for none, in the rows and in the results.
     if changed && f.axis != NO_AXIS {
         return RowResult {
             qubit,

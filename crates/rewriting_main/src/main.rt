@@ -19,6 +19,7 @@ fn run(
     result_rows: &mut [u32],
 ) -> io::Result<()> {
     let mut at = jobs::past_blanks(input, 0);
+    // A job tells where the next begins.
     while at < input.len() {
         at = job::run(
             rt,

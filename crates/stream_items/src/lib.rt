@@ -28,6 +28,7 @@ use stream_states::StreamRules;
 fn waits(x: Tagged) -> bool
     ensures { result ≡ is_waiting (item_said x) }
 {
+    // Tag, then angle, as the model asks them.
     x.tag == 0 && x.angle != 0 && x.angle % 2 != 1
 }
 
@@ -243,6 +244,7 @@ fn stream_item(
         → SteppedAs shape g.absorption 1 (st.out + 1) st result words.new numbers.new
         (stream_item shape.l g rules.merge p (item_said x))) }
 {
+    // The tag is asked here, since its other values are the operations.
     if x.tag == 0 {
         return rotation(words, numbers, shape, rules, st, x.axis as usize, x.angle);
     }

@@ -32,6 +32,7 @@ pub fn support_signature(words: &[u64], l: usize) -> u64
         return words[0] | words[1];
     }
     let mut sig: u64 = 0;
+    // By index: the two planes advance together.
     for j in 0..l {
         sig = add_buckets(sig, words[j] | words[l + j], j, l);
     }
