@@ -24,7 +24,7 @@ fn refused(out: &mut [u8], refusal: Refusal) -> Listed
     requires { most_bytes ≤ length out.old }
     ensures { RefusedTo refusal out.old result out.new }
 {
-    let size = listing_print::refusal(out, refusal);
+    let size = listing_print::refusal(out, Err(refusal));
     Listed {
         answer: Err(refusal),
         size,

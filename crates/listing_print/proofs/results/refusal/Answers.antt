@@ -10,4 +10,4 @@ pub line-requires : goal.line-requires
 line-requires c = nine_room _ refl (omega arith)
 
 pub returns : goal.returns
-returns c = printed_as (refusal_text _ c.from-n.ensures) c.line.ensures
+returns c = printed_as (refusal_text _ c.number_of-n.ensures) c.line.ensures
