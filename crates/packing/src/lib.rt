@@ -150,7 +150,8 @@ fn pack_node(
 ) -> Result<Slots, PackingRefusal>
     requires { NodeAt shape st n records.nodes.now records.operations.now records.rows.now words.old numbers.old }
     ensures { RestKept shape words.old numbers.old words.new numbers.new
-        × Turned (program_in shape records.entry.nodes.now records.entry.operations.now records.entry.rows.now) shape (suc n) (suc n) 0
+        × Turned (program_in shape records.entry.nodes.now records.entry.operations.now records.entry.rows.now)
+        shape (suc n) (suc n) 0
         (before (program_in shape records.entry.nodes.now records.entry.operations.now records.entry.rows.now) (suc n))
         result words.new numbers.new }
 {
@@ -171,8 +172,9 @@ fn pack_nodes(
 ) -> Result<PackedAxes, PackingRefusal>
     requires { PackPre shape records.nodes.now records.operations.now records.rows.now words.old numbers.old
         × NoChains shape.u numbers.old }
-    ensures { PackedAs shape (program_in shape records.entry.nodes.now records.entry.operations.now records.entry.rows.now) result
-        words.old numbers.old words.new numbers.new }
+    ensures { PackedAs shape
+        (program_in shape records.entry.nodes.now records.entry.operations.now records.entry.rows.now)
+        result words.old numbers.old words.new numbers.new }
 {
     mentions::relevance(records, numbers, shape);
     roots::prepare(records, numbers, shape);
@@ -195,8 +197,9 @@ pub fn pack(
     shape: Shape,
 ) -> Result<PackedAxes, PackingRefusal>
     requires { PackPre shape records.nodes.now records.operations.now records.rows.now words.old numbers.old }
-    ensures { PackedAs shape (program_in shape records.entry.nodes.now records.entry.operations.now records.entry.rows.now) result
-        words.old numbers.old words.new numbers.new }
+    ensures { PackedAs shape
+        (program_in shape records.entry.nodes.now records.entry.operations.now records.entry.rows.now)
+        result words.old numbers.old words.new numbers.new }
 {
     interning::clear_chains(numbers, shape.u);
     pack_nodes(records, words, numbers, shape)
