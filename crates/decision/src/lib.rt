@@ -67,8 +67,8 @@ fn start_run(
 ) -> Started
     requires { PackedIn shape records.nodes.now records.operations.now records.rows.now axes
         words.now numbers.old }
-    ensures { StartedAs shape options records.entry.nodes.now records.entry.operations.now records.entry.rows.now axes
-        words.now numbers.old result numbers.new }
+    ensures { StartedAs shape options records.entry.nodes.now records.entry.operations.now records.entry.rows.now
+        axes words.now numbers.old result numbers.new }
 {
     let weight = counters::weight_before(records.operations, words, &numbers[..], shape);
     let items = start::build_items(records.operations, words, numbers, shape, axes);
@@ -139,7 +139,8 @@ fn passes(
 ) -> Result<Decided, PackingRefusal>
     requires { PackedIn shape records.nodes.now records.operations.now records.rows.now axes.count
         words.old numbers.old × OptionsIn options
-        × (axes.peak ≡ (packed (program_in shape records.nodes.now records.operations.now records.rows.now)).store.peak) }
+        × (axes.peak
+        ≡ (packed (program_in shape records.nodes.now records.operations.now records.rows.now)).store.peak) }
     ensures { DecisionAs shape options records.entry.nodes.now records.entry.operations.now records.entry.rows.now
         words.old numbers.old result words.new numbers.new }
 {
