@@ -12,6 +12,7 @@ ghost use Rattle.checking.specs.Table.{has_bit, with_bit};
 ghost use Rattle.checking.specs.Outcomes.{Entered, Checked};
 
 use model::{Counts, Lazy, Options, Refusal};
+use records::Records;
 
 // The most that lookback, window, candidates and word limit may be.
 const MOST: usize = 1048576;
@@ -42,13 +43,14 @@ fn bad_option(o: Options) -> bool
 }
 
 // Refusal 3, of the program.
-fn program_short(c: Counts, nodes: &[u32], operations: &[u32], rows: &[u32]) -> bool
+fn program_short(c: Counts, program: Records) -> bool
     requires { bad_count c ≡ false }
-    ensures { result ≡ program_short (job_of c nodes.now operations.now rows.now) }
+    ensures { result ≡ program_short
+        (job_of c program.entry.nodes.now program.entry.operations.now program.entry.rows.now) }
 {
-    (nodes.len() < 5 * c.nodes)
-        | (operations.len() < 6 * c.operations)
-        | (rows.len() < 8 * c.qubits)
+    (program.nodes.len() < 5 * c.nodes)
+        | (program.operations.len() < 6 * c.operations)
+        | (program.rows.len() < 8 * c.qubits)
 }
 
 // Refusal 3, of the work stores and the results.
@@ -245,13 +247,14 @@ fn check_operations(operations: &[u32], count: usize, nodes: usize) -> Result<()
 }
 
 // Refusals 4 to 8 of a program whose slices are long enough.
-fn check_program(c: Counts, nodes: &[u32], operations: &[u32], rows: &[u32]) -> Result<(), Refusal>
-    requires { program_short (job_of c nodes.now operations.now rows.now) ≡ false }
-    ensures { result ≡ check_program (job_of c nodes.now operations.now rows.now) }
+fn check_program(c: Counts, program: Records) -> Result<(), Refusal>
+    requires { program_short (job_of c program.nodes.now program.operations.now program.rows.now) ≡ false }
+    ensures { result ≡ check_program
+        (job_of c program.entry.nodes.now program.entry.operations.now program.entry.rows.now) }
 {
-    check_nodes(nodes, c.nodes, c.qubits)?;
-    check_operations(operations, c.operations, c.nodes)?;
-    check_rows(rows, 2 * c.qubits, c.nodes)
+    check_nodes(program.nodes, c.nodes, c.qubits)?;
+    check_operations(program.operations, c.operations, c.nodes)?;
+    check_rows(program.rows, 2 * c.qubits, c.nodes)
 }
 
 // Refusal 16: the place is outside the program, or holds a plain rotation.
@@ -282,18 +285,13 @@ fn check_place(operations: &[u32], count: usize, lazy: Lazy) -> Result<(), Refus
 }
 
 // Refusals 4 to 8, then 16.
-fn check_records(
-    c: Counts,
-    lazy: Lazy,
-    nodes: &[u32],
-    operations: &[u32],
-    rows: &[u32],
-) -> Result<(), Refusal>
-    requires { program_short (job_of c nodes.now operations.now rows.now) ≡ false }
-    ensures { result ≡ check_records lazy (job_of c nodes.now operations.now rows.now) }
+fn check_records(c: Counts, lazy: Lazy, program: Records) -> Result<(), Refusal>
+    requires { program_short (job_of c program.nodes.now program.operations.now program.rows.now) ≡ false }
+    ensures { result ≡ check_records lazy
+        (job_of c program.entry.nodes.now program.entry.operations.now program.entry.rows.now) }
 {
-    check_program(c, nodes, operations, rows)?;
-    check_place(operations, c.operations, lazy)
+    check_program(c, program)?;
+    check_place(program.operations, c.operations, lazy)
 }
 
 // Refusals 1 to 8 and 16; 0 passes.
@@ -317,7 +315,12 @@ pub fn checking(
     if bad_option(options) {
         return Err(Refusal::OptionOutside);
     }
-    if program_short(counts, nodes, operations, rows)
+    let program = Records {
+        nodes,
+        operations,
+        rows,
+    };
+    if program_short(counts, program)
         | lent_short(
             counts,
             options.max_packed_words,
@@ -330,5 +333,5 @@ pub fn checking(
         return Err(Refusal::SliceShort);
     }
     let lazy = options.lazy_cliffords;
-    check_records(counts, lazy, nodes, operations, rows)
+    check_records(counts, lazy, program)
 }

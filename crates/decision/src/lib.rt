@@ -17,6 +17,7 @@ use counters::RunCounts;
 use layout::Shape;
 use model::{Counters, Options};
 use packing_answer::{PackedAxes, PackingRefusal};
+use records::Records;
 use steps::State;
 
 // What the passes start from: items, the source's weight, its T-depth.
@@ -57,21 +58,20 @@ fn depth_of(
 
 // After packing with so many axes: the items, the source's weight and T-depth.
 fn start_run(
-    nodes: &[u32],
-    operations: &[u32],
-    rows: &[u32],
+    records: Records,
     words: &[u64],
     numbers: &mut [u32],
     shape: Shape,
     options: Options,
     axes: usize,
 ) -> Started
-    requires { PackedIn shape nodes.now operations.now rows.now axes words.now numbers.old }
-    ensures { StartedAs shape options nodes.now operations.now rows.now axes
-        words.now numbers.old result numbers.new }
+    requires { PackedIn shape records.nodes.now records.operations.now records.rows.now axes
+        words.now numbers.old }
+    ensures { StartedAs shape options records.entry.nodes.now records.entry.operations.now records.entry.rows.now
+        axes words.now numbers.old result numbers.new }
 {
-    let weight = counters::weight_before(operations, words, &numbers[..], shape);
-    let items = start::build_items(operations, words, numbers, shape, axes);
+    let weight = counters::weight_before(records.operations, words, &numbers[..], shape);
+    let items = start::build_items(records.operations, words, numbers, shape, axes);
     let depth = depth_of(words, numbers, shape, options.measure_depth, axes, items);
     Started {
         items,
@@ -82,9 +82,7 @@ fn start_run(
 
 // The end of a run: its T-depth and its counters.
 fn end_run(
-    nodes: &[u32],
-    operations: &[u32],
-    rows: &[u32],
+    records: Records,
     words: &[u64],
     numbers: &mut [u32],
     shape: Shape,
@@ -92,8 +90,9 @@ fn end_run(
     started: Started,
     run: State,
 ) -> Decided
-    requires { EndPre shape options nodes.now operations.now rows.now started run words.now numbers.old }
-    ensures { DecidedAs shape options nodes.now operations.now rows.now
+    requires { EndPre shape options records.nodes.now records.operations.now records.rows.now started run
+        words.now numbers.old }
+    ensures { DecidedAs shape options records.entry.nodes.now records.entry.operations.now records.entry.rows.now
         words.now numbers.old result numbers.new }
 {
     let depth = depth_of(
@@ -113,7 +112,14 @@ fn end_run(
         weight_before: started.weight,
         peak: run.peak,
     };
-    let counters = counters::summary(operations, words, &numbers[..], shape, run.out, counts);
+    let counters = counters::summary(
+        records.operations,
+        words,
+        &numbers[..],
+        shape,
+        run.out,
+        counts,
+    );
     Decided {
         items: run.out,
         axes: run.axes,
@@ -124,61 +130,39 @@ fn end_run(
 
 // The passes of a packed program, and how they end.
 fn passes(
-    nodes: &[u32],
-    operations: &[u32],
-    rows: &[u32],
+    records: Records,
     words: &mut [u64],
     numbers: &mut [u32],
     shape: Shape,
     options: Options,
     axes: PackedAxes,
 ) -> Result<Decided, PackingRefusal>
-    requires { PackedIn shape nodes.now operations.now rows.now axes.count words.old numbers.old × OptionsIn options
-        × (axes.peak ≡ (packed (program_in shape nodes.now operations.now rows.now)).store.peak) }
-    ensures { DecisionAs shape options nodes.now operations.now rows.now
+    requires { PackedIn shape records.nodes.now records.operations.now records.rows.now axes.count
+        words.old numbers.old × OptionsIn options
+        × (axes.peak
+        ≡ (packed (program_in shape records.nodes.now records.operations.now records.rows.now)).store.peak) }
+    ensures { DecisionAs shape options records.entry.nodes.now records.entry.operations.now records.entry.rows.now
         words.old numbers.old result words.new numbers.new }
 {
-    let s = start_run(
-        nodes,
-        operations,
-        rows,
-        &words[..],
-        numbers,
-        shape,
-        options,
-        axes.count,
-    );
+    let s = start_run(records, &words[..], numbers, shape, options, axes.count);
     let first = steps::first_state(axes.count, axes.peak, s.items);
     let run = rounds::passes(words, numbers, shape, options, first)?;
-    Ok(end_run(
-        nodes,
-        operations,
-        rows,
-        &words[..],
-        numbers,
-        shape,
-        options,
-        s,
-        run,
-    ))
+    Ok(end_run(records, &words[..], numbers, shape, options, s, run))
 }
 
 // Packs the program, and runs the passes unless packing refuses it.
 pub fn decide(
-    nodes: &[u32],
-    operations: &[u32],
-    rows: &[u32],
+    records: Records,
     words: &mut [u64],
     numbers: &mut [u32],
     shape: Shape,
     options: Options,
 ) -> Result<Decided, PackingRefusal>
-    requires { PackPre shape nodes.now operations.now rows.now words.old numbers.old × OptionsIn options }
-    ensures { DecisionAs shape options nodes.now operations.now rows.now
+    requires { PackPre shape records.nodes.now records.operations.now records.rows.now words.old numbers.old
+        × OptionsIn options }
+    ensures { DecisionAs shape options records.entry.nodes.now records.entry.operations.now records.entry.rows.now
         words.old numbers.old result words.new numbers.new }
 {
-    let axes = packing::pack(nodes, operations, rows, words, numbers, shape)?;
-    passes(
-        nodes, operations, rows, words, numbers, shape, options, axes,
-    )
+    let axes = packing::pack(records, words, numbers, shape)?;
+    passes(records, words, numbers, shape, options, axes)
 }

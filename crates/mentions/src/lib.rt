@@ -11,18 +11,18 @@ ghost use Rattle.mentions.specs.Relevant.{relevant_here, RelevantNodes};
 ghost use Rattle.mentions.specs.Relevance.{RelevancePre, Relevance};
 
 use layout::{ACTED, MARK, RELEVANT, Shape};
-use records::NodeRecord;
+use records::{NodeRecord, Records};
 
 // Row RELEVANT says of each node whether it mentions a qubit that an operation's nodes mention.
-pub fn relevance(nodes: &[u32], operations: &[u32], numbers: &mut [u32], shape: Shape)
-    requires { RelevancePre shape nodes.now operations.now numbers.old }
-    ensures { Relevance shape nodes.now operations.now numbers.old numbers.new }
+pub fn relevance(records: Records, numbers: &mut [u32], shape: Shape)
+    requires { RelevancePre shape records.nodes.now records.operations.now numbers.old }
+    ensures { Relevance shape records.entry.nodes.now records.entry.operations.now numbers.old numbers.new }
 {
     store::clear_row(numbers, shape.u, MARK, shape.nodes);
     store::clear_row(numbers, shape.u, ACTED, shape.qubits);
-    mark_operations(operations, numbers, shape.u, shape.operations);
-    mark_down(nodes, numbers, shape.u, shape.nodes);
-    relevant_nodes(nodes, numbers, shape.u, shape.nodes);
+    mark_operations(records.operations, numbers, shape.u, shape.operations);
+    mark_down(records.nodes, numbers, shape.u, shape.nodes);
+    relevant_nodes(records.nodes, numbers, shape.u, shape.nodes);
 }
 
 // Each operation's node is marked.

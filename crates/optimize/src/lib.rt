@@ -11,6 +11,7 @@ use decision::Decided;
 use layout::Shape;
 use model::{Counters, Counts, Options, Refusal};
 use packing_answer::PackingRefusal;
+use records::Records;
 
 // What an accepted call hands back: the counters, how many operations came out, how many axes are stored.
 #[derive(Clone, Copy)]
@@ -22,9 +23,7 @@ pub struct Rewritten {
 
 // An accepted run: results, then zeros.
 fn accept(
-    nodes: &[u32],
-    operations: &[u32],
-    rows: &[u32],
+    records: Records,
     words: &mut [u64],
     numbers: &mut [u32],
     result_operations: &mut [u32],
@@ -33,16 +32,16 @@ fn accept(
     options: Options,
     x: Decided,
 ) -> Rewritten
-    requires { AcceptPre shape options nodes.now operations.now rows.now x words.old numbers.old
-        result_operations.old result_rows.old }
+    requires { AcceptPre shape options records.nodes.now records.operations.now records.rows.now x
+        words.old numbers.old result_operations.old result_rows.old }
     ensures { reply_of (Ok result)
         (lent_of words.new numbers.new result_operations.new result_rows.new)
-        ≡ reply_in shape options nodes.now operations.now rows.now
+        ≡ reply_in shape options records.entry.nodes.now records.entry.operations.now records.entry.rows.now
         (lent_of words.old numbers.old result_operations.old result_rows.old) }
 {
     let counters = x.counters;
     results::finish(
-        operations,
+        records.operations,
         words,
         numbers,
         result_operations,
@@ -61,9 +60,7 @@ fn accept(
 
 // The lent slices and what is handed back, once it is decided how the run ends: a refusal cleans the work stores.
 fn conclude(
-    nodes: &[u32],
-    operations: &[u32],
-    rows: &[u32],
+    records: Records,
     words: &mut [u64],
     numbers: &mut [u32],
     result_operations: &mut [u32],
@@ -72,18 +69,16 @@ fn conclude(
     options: Options,
     d: Result<Decided, PackingRefusal>,
 ) -> Result<Rewritten, Refusal>
-    requires { ConcludePre shape options nodes.now operations.now rows.now d words.old numbers.old
-        result_operations.old result_rows.old }
+    requires { ConcludePre shape options records.nodes.now records.operations.now records.rows.now d
+        words.old numbers.old result_operations.old result_rows.old }
     ensures { reply_of result
         (lent_of words.new numbers.new result_operations.new result_rows.new)
-        ≡ reply_in shape options nodes.now operations.now rows.now
+        ≡ reply_in shape options records.entry.nodes.now records.entry.operations.now records.entry.rows.now
         (lent_of words.old numbers.old result_operations.old result_rows.old) }
 {
     match d {
         Ok(x) => Ok(accept(
-            nodes,
-            operations,
-            rows,
+            records,
             words,
             numbers,
             result_operations,
@@ -101,9 +96,7 @@ fn conclude(
 
 // A program that Checking passes: decided, then concluded.
 fn run(
-    nodes: &[u32],
-    operations: &[u32],
-    rows: &[u32],
+    records: Records,
     words: &mut [u64],
     numbers: &mut [u32],
     result_operations: &mut [u32],
@@ -111,18 +104,16 @@ fn run(
     shape: Shape,
     options: Options,
 ) -> Result<Rewritten, Refusal>
-    requires { RunPre shape options nodes.now operations.now rows.now words.old numbers.old
-        result_operations.old result_rows.old }
+    requires { RunPre shape options records.nodes.now records.operations.now records.rows.now
+        words.old numbers.old result_operations.old result_rows.old }
     ensures { reply_of result
         (lent_of words.new numbers.new result_operations.new result_rows.new)
-        ≡ reply_in shape options nodes.now operations.now rows.now
+        ≡ reply_in shape options records.entry.nodes.now records.entry.operations.now records.entry.rows.now
         (lent_of words.old numbers.old result_operations.old result_rows.old) }
 {
-    let d = decision::decide(nodes, operations, rows, words, numbers, shape, options);
+    let d = decision::decide(records, words, numbers, shape, options);
     conclude(
-        nodes,
-        operations,
-        rows,
+        records,
         words,
         numbers,
         result_operations,
@@ -161,10 +152,13 @@ pub fn optimize_rotations(
         &result_rows[..],
     )?;
     let shape = layout::shape_of(counts, options.max_packed_words);
-    run(
+    let records = Records {
         nodes,
         operations,
         rows,
+    };
+    run(
+        records,
         words,
         numbers,
         result_operations,

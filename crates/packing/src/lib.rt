@@ -19,7 +19,7 @@ mod values;
 
 use layout::{FIRST_ROOT, NEXT_ROOT, ROOT_AXIS, ROOT_SIGN, Shape, USES};
 use packing_answer::{PackedAxes, PackingRefusal};
-use records::NodeRecord;
+use records::{NodeRecord, Records};
 
 // Axes stored, the largest word sum that was tested, slots allocated, slots on the free stack, and the slot taken last.
 #[derive(Clone, Copy, Default)]
@@ -60,14 +60,14 @@ fn place_node(
 }
 
 // The phase of a reference: operations first, then frame rows.
-fn reference_phase(operations: &[u32], rows: &[u32], count: usize, root: usize) -> u32
-    requires { PhasePre count operations.now rows.now root }
-    ensures { result ≡ phase_in count operations.now rows.now root }
+fn reference_phase(records: Records, count: usize, root: usize) -> u32
+    requires { PhasePre count records.operations.now records.rows.now root }
+    ensures { result ≡ phase_in count records.entry.operations.now records.entry.rows.now root }
 {
     if root < count {
-        return records::operation_at(operations, root).phase;
+        return records.operation(root).phase;
     }
-    records::row_at(rows, root - count).phase
+    records.row(root - count).phase
 }
 
 // Stores a root of node n, whose reference has the phase, or refuses it.
@@ -115,24 +115,24 @@ fn linked_at(numbers: &[u32], u: usize, links: usize, i: usize) -> Option<usize>
 
 // Stores the roots of node n, in root order.
 fn pack_roots(
-    operations: &[u32],
-    rows: &[u32],
+    records: Records,
     words: &mut [u64],
     numbers: &mut [u32],
     shape: Shape,
     placed: Slots,
     n: usize,
 ) -> Result<Slots, PackingRefusal>
-    requires { SomeProgram (λ (p : Program). RootsAt p shape placed n operations.now rows.now words.old numbers.old) }
+    requires { SomeProgram (λ (p : Program). RootsAt p shape placed n records.operations.now records.rows.now
+        words.old numbers.old) }
     ensures { RestKept shape words.old numbers.old words.new numbers.new
         × ((p : Program)
-        → RootsAt p shape placed n operations.now rows.now words.old numbers.old
+        → RootsAt p shape placed n records.entry.operations.now records.entry.rows.now words.old numbers.old
         → Turned p shape (suc n) n (total p) (within p n (total p)) result words.new numbers.new) }
 {
     let mut st = placed;
     let mut next = linked_at(&numbers[..], shape.u, FIRST_ROOT, n);
     while let Some(root) = next {
-        let phase = reference_phase(operations, rows, shape.operations, root);
+        let phase = reference_phase(records, shape.operations, root);
         st = pack_root(words, numbers, shape, st, n, root, phase)?;
         next = linked_at(&numbers[..], shape.u, NEXT_ROOT, root);
     }
@@ -141,47 +141,46 @@ fn pack_roots(
 
 // Node n's turn.
 fn pack_node(
-    nodes: &[u32],
-    operations: &[u32],
-    rows: &[u32],
+    records: Records,
     words: &mut [u64],
     numbers: &mut [u32],
     shape: Shape,
     st: Slots,
     n: usize,
 ) -> Result<Slots, PackingRefusal>
-    requires { NodeAt shape st n nodes.now operations.now rows.now words.old numbers.old }
+    requires { NodeAt shape st n records.nodes.now records.operations.now records.rows.now words.old numbers.old }
     ensures { RestKept shape words.old numbers.old words.new numbers.new
-        × Turned (program_in shape nodes.now operations.now rows.now) shape (suc n) (suc n) 0
-        (before (program_in shape nodes.now operations.now rows.now) (suc n))
+        × Turned (program_in shape records.entry.nodes.now records.entry.operations.now records.entry.rows.now)
+        shape (suc n) (suc n) 0
+        (before (program_in shape records.entry.nodes.now records.entry.operations.now records.entry.rows.now) (suc n))
         result words.new numbers.new }
 {
     if store::read(&numbers[..], shape.u, USES, n) == 0 {
         return Ok(st);
     }
-    let x = records::node_at(nodes, n);
+    let x = records.node(n);
     let placed = place_node(words, numbers, shape, st, n, x)?;
-    pack_roots(operations, rows, words, numbers, shape, placed, n)
+    pack_roots(records, words, numbers, shape, placed, n)
 }
 
 // Packs the program node by node, where every chain of the index is still empty.
 fn pack_nodes(
-    nodes: &[u32],
-    operations: &[u32],
-    rows: &[u32],
+    records: Records,
     words: &mut [u64],
     numbers: &mut [u32],
     shape: Shape,
 ) -> Result<PackedAxes, PackingRefusal>
-    requires { PackPre shape nodes.now operations.now rows.now words.old numbers.old × NoChains shape.u numbers.old }
-    ensures { PackedAs shape (program_in shape nodes.now operations.now rows.now) result
-        words.old numbers.old words.new numbers.new }
+    requires { PackPre shape records.nodes.now records.operations.now records.rows.now words.old numbers.old
+        × NoChains shape.u numbers.old }
+    ensures { PackedAs shape
+        (program_in shape records.entry.nodes.now records.entry.operations.now records.entry.rows.now)
+        result words.old numbers.old words.new numbers.new }
 {
-    mentions::relevance(nodes, operations, numbers, shape);
-    roots::prepare(nodes, operations, rows, numbers, shape);
+    mentions::relevance(records, numbers, shape);
+    roots::prepare(records, numbers, shape);
     let mut st = Slots::default();
     for n in 0..shape.nodes {
-        st = pack_node(nodes, operations, rows, words, numbers, shape, st, n)?;
+        st = pack_node(records, words, numbers, shape, st, n)?;
     }
     Ok(PackedAxes {
         count: st.axes,
@@ -192,17 +191,16 @@ fn pack_nodes(
 // Packs the program: every root's axis and sign, and the axes' words, or a refusal by 9 or 10. Whatever the lent memory held, the chains
 // of the index are cleared first.
 pub fn pack(
-    nodes: &[u32],
-    operations: &[u32],
-    rows: &[u32],
+    records: Records,
     words: &mut [u64],
     numbers: &mut [u32],
     shape: Shape,
 ) -> Result<PackedAxes, PackingRefusal>
-    requires { PackPre shape nodes.now operations.now rows.now words.old numbers.old }
-    ensures { PackedAs shape (program_in shape nodes.now operations.now rows.now) result
-        words.old numbers.old words.new numbers.new }
+    requires { PackPre shape records.nodes.now records.operations.now records.rows.now words.old numbers.old }
+    ensures { PackedAs shape
+        (program_in shape records.entry.nodes.now records.entry.operations.now records.entry.rows.now)
+        result words.old numbers.old words.new numbers.new }
 {
     interning::clear_chains(numbers, shape.u);
-    pack_nodes(nodes, operations, rows, words, numbers, shape)
+    pack_nodes(records, words, numbers, shape)
 }

@@ -124,3 +124,37 @@ pub fn row_at(rows: &[u32], i: usize) -> RowRecord
         phase: rows[at + 3],
     }
 }
+
+// A program's records, as they were handed in.
+#[derive(Clone, Copy)]
+pub struct Records<'a> {
+    pub nodes: &'a [u32],
+    pub operations: &'a [u32],
+    pub rows: &'a [u32],
+}
+
+impl<'a> Records<'a> {
+    // Node n.
+    pub fn node(self, n: usize) -> NodeRecord
+        requires { n * 5 + 5 ≤ length self.nodes.now }
+        ensures { result ≡ node_record self.entry.nodes.now n }
+    {
+        node_at(self.nodes, n)
+    }
+
+    // Operation i.
+    pub fn operation(self, i: usize) -> OperationRecord
+        requires { i * 6 + 6 ≤ length self.operations.now }
+        ensures { result ≡ operation_record self.entry.operations.now i }
+    {
+        operation_at(self.operations, i)
+    }
+
+    // Frame row i.
+    pub fn row(self, i: usize) -> RowRecord
+        requires { i * 4 + 4 ≤ length self.rows.now }
+        ensures { result ≡ row_record self.entry.rows.now i }
+    {
+        row_at(self.rows, i)
+    }
+}

@@ -12,7 +12,7 @@ ghost use Rattle.roots.specs.Prepared.{PreparePre, Prepared};
 ghost use Rattle.roots.specs.UseCounts.{AddPre, Added, UsePre, ChildrenUsed, CountPre, UsesCounted};
 
 use layout::{FIRST_ROOT, NEXT_ROOT, NO_AXIS, RELEVANT, ROOT_AXIS, ROOT_SIGN, Shape, USES};
-use records::NodeRecord;
+use records::{NodeRecord, Records};
 
 // One use more of a node.
 fn add_use(numbers: &mut [u32], u: usize, node: usize)
@@ -86,14 +86,14 @@ fn link_rows(rows: &[u32], numbers: &mut [u32], shape: Shape)
 }
 
 // Each node's roots in root order; one use of its node for each root.
-fn link_roots(operations: &[u32], rows: &[u32], numbers: &mut [u32], shape: Shape)
-    requires { SomeProgram (λ (p : Program). LinkPre p shape operations.now rows.now numbers.old) }
-    ensures { RootsLinked shape operations.now rows.now numbers.old numbers.new }
+fn link_roots(records: Records, numbers: &mut [u32], shape: Shape)
+    requires { SomeProgram (λ (p : Program). LinkPre p shape records.operations.now records.rows.now numbers.old) }
+    ensures { RootsLinked shape records.entry.operations.now records.entry.rows.now numbers.old numbers.new }
 {
     store::clear_row(numbers, shape.u, FIRST_ROOT, shape.nodes);
     store::clear_row(numbers, shape.u, USES, shape.nodes);
-    link_rows(rows, numbers, shape);
-    link_operations(operations, numbers, shape);
+    link_rows(records.rows, numbers, shape);
+    link_operations(records.operations, numbers, shape);
 }
 
 // One use of each child of node n, if it is a used product.
@@ -122,11 +122,11 @@ fn count_uses(nodes: &[u32], numbers: &mut [u32], u: usize, count: usize)
 }
 
 // What packing needs before its first node, once row RELEVANT tells the relevant nodes.
-pub fn prepare(nodes: &[u32], operations: &[u32], rows: &[u32], numbers: &mut [u32], shape: Shape)
-    requires { PreparePre shape nodes.now operations.now rows.now numbers.old }
-    ensures { Prepared shape nodes.now operations.now rows.now numbers.old
-        numbers.new }
+pub fn prepare(records: Records, numbers: &mut [u32], shape: Shape)
+    requires { PreparePre shape records.nodes.now records.operations.now records.rows.now numbers.old }
+    ensures { Prepared shape records.entry.nodes.now records.entry.operations.now records.entry.rows.now
+        numbers.old numbers.new }
 {
-    link_roots(operations, rows, numbers, shape);
-    count_uses(nodes, numbers, shape.u, shape.nodes);
+    link_roots(records, numbers, shape);
+    count_uses(records.nodes, numbers, shape.u, shape.nodes);
 }

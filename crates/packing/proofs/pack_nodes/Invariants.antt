@@ -4,7 +4,9 @@ use Rattle.packing.specs.Packing.{AtNode}
 use Rattle.packing.proofs.pack_nodes.Given as goal
 
 abbrev pub invariant-loop-n : goal.invariant-loop-n
-invariant-loop-n l = AtNode l.shape l.nodes l.operations l.rows l.initial.words l.initial.numbers l.words l.numbers l.st l.n
+invariant-loop-n l =
+    let r = l.records in
+    AtNode l.shape r.nodes.now r.operations.now r.rows.now l.initial.words l.initial.numbers l.words l.numbers l.st l.n
 
 abbrev pub decreases-loop-n : goal.decreases-loop-n
 decreases-loop-n l = l.shape.nodes - l.n
