@@ -13,10 +13,6 @@ def code(text):
     return re.sub(r"//[^\n]*", lambda m: " " * len(m.group(0)), text)
 
 
-# a function: its name, parameters, result and contract up to the body, and the body
-FN = re.compile(r"^[ ]*(?:pub )?(?:extern \"C\" )?(?:final )?fn (\w+)(?:<[^>]*>)?\((.*?)\)(?: -> ([^\n{]+?))?\s*\n?((?:[ ]*(?:requires|ensures)\b.*?)?)\n?[ ]*\{\n(.*?)\n[ ]*\}$", re.S | re.M)
-
-
 def functions():
     for f, t in FILES.items():
         for m in re.finditer(r"^( *)(?:pub )?(?:extern \"C\" )?fn (\w+).*?^\1\}$", code(t), re.S | re.M):
