@@ -15,6 +15,9 @@ pub struct PauliAngle(pub u8);
 #[derive(Clone, Copy, PartialEq, Eq)]
 pub struct Phase(pub u8);
 
+// The signed angle that each remainder stands for.
+const SIGNED: [i8; 8] = [0, 1, 2, 3, 4, -3, -2, -1];
+
 impl PauliAngle {
     // The remainder by 8, from 0 to 7.
     pub fn new(eighths: i32) -> PauliAngle
@@ -23,12 +26,10 @@ impl PauliAngle {
         PauliAngle(eighths.rem_euclid(8) as u8)
     }
 
-    // The signed angle that the remainder stands for, from -3 to 4.
     pub fn signed_eighths(self) -> i8
         ensures { result ≡ signed_angle (self.0 % 8) }
     {
-        let k = (self.0 % 8) as i8;
-        if k <= 4 { k } else { k - 8 }
+        SIGNED[(self.0 % 8) as usize]
     }
 }
 

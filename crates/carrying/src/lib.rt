@@ -36,7 +36,7 @@ fn times_letter(words: &mut [u64], shape: Shape, q: usize, letter: Letter, phase
 {
     let scratch = layout::scratch_at(shape.limit);
     let one = scratch + 2 * shape.l;
-    letter::put_letter(words, one, shape.l, q, letter);
+    letter::write_letter(words, one, shape.l, q, letter);
     let e = product::product_in(words, scratch, one, scratch, shape.l);
     (phase + e.0 as u32) % 4
 }

@@ -25,7 +25,7 @@ fn is_odd_source(operations: &[u32], i: usize) -> bool
     requires { i * 6 + 6 ≤ length operations.now }
     ensures { result ≡ is_odd_source (operation_here operations.now i) }
 {
-    let o = records::operation_at(operations, i);
+    let o = records::operation(operations, i);
     o.kind != OperationKind::Measure && o.angle % 2 == 1
 }
 
@@ -42,7 +42,7 @@ fn is_rotate_source(operations: &[u32], i: usize) -> bool
     requires { i * 6 + 6 ≤ length operations.now }
     ensures { result ≡ is_rotate (operation_here operations.now i).kind }
 {
-    records::operation_at(operations, i).kind == OperationKind::Rotate
+    records::operation(operations, i).kind == OperationKind::Rotate
 }
 
 // The source's plain rotations.
@@ -129,7 +129,7 @@ fn operation_weight(
     requires { OperationPre operations.now words.now numbers.now shape.u shape.l i }
     ensures { OperationWeight operations.now words.now numbers.now shape.u shape.l i result }
 {
-    if records::operation_at(operations, i).kind == OperationKind::Measure {
+    if records::operation(operations, i).kind == OperationKind::Measure {
         return 0;
     }
     let f = work::root_at(numbers, shape.u, i);

@@ -64,7 +64,7 @@ fn show(rt: &impl Print, number: usize, end: &[u8]) -> io::Result<()> {
 // The end of a line: the id that a word is stored with, and 1 if chain and scan agreed before and after.
 fn show_stored(rt: &impl Print, id: usize, agreed: bool) -> io::Result<()> {
     show(rt, id, b" ")?;
-    show(rt, agreed as usize, b"\n")
+    rt.println(agreed as usize)
 }
 
 // Whether chain and scan agree on the word behind the limit.

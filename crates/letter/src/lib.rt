@@ -99,7 +99,7 @@ pub fn letter_at(w: &[u64], l: usize, q: usize) -> Letter
 }
 
 // The word at `at` becomes a letter at qubit q and I elsewhere.
-pub fn put_letter(words: &mut [u64], at: usize, l: usize, q: usize, letter: Letter)
+pub fn write_letter(words: &mut [u64], at: usize, l: usize, q: usize, letter: Letter)
     requires { (at + 2 * l ≤ length words.old) × (q < 64 * l) }
     ensures { words.new ≡ put words.old at (single l q (number_of_letter letter)) }
 {
@@ -109,6 +109,14 @@ pub fn put_letter(words: &mut [u64], at: usize, l: usize, q: usize, letter: Lett
     let j = q / 64;
     words[at + j] = letter.has_x() << (q % 64);
     words[at + (l + j)] = letter.has_z() << (q % 64);
+}
+
+// The same by a node's number for the letter, whatever it is.
+pub fn put_letter(words: &mut [u64], at: usize, l: usize, q: usize, letter: u32)
+    requires { (at + 2 * l ≤ length words.old) × (q < 64 * l) }
+    ensures { words.new ≡ put words.old at (single l q letter) }
+{
+    write_letter(words, at, l, q, letter.into());
 }
 
 // How many letters of w are not I.

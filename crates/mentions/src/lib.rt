@@ -31,7 +31,7 @@ fn mark_operations(operations: &[u32], numbers: &mut [u32], u: usize, count: usi
     ensures { MarkedOperations operations.now u count numbers.old numbers.new }
 {
     for i in 0..count {
-        let node = records::operation_at(operations, i).node as usize;
+        let node = records::operation(operations, i).node as usize;
         store::write(numbers, u, MARK, node, 1);
     }
 }
@@ -54,7 +54,7 @@ fn mark_from(nodes: &[u32], numbers: &mut [u32], u: usize, n: usize)
     if store::read(&numbers[..], u, MARK, n) == 0 {
         return;
     }
-    match records::node_at(nodes, n) {
+    match records::node(nodes, n) {
         NodeRecord::Identity => {}
         NodeRecord::Letter { qubit, .. } => store::write(numbers, u, ACTED, qubit, 1),
         NodeRecord::Product { left, right } => {
@@ -88,7 +88,7 @@ fn relevant(nodes: &[u32], numbers: &[u32], u: usize, n: usize) -> bool
     requires { NodePre nodes.now u n numbers.now }
     ensures { result ≡ relevant_here nodes.now u n numbers.now }
 {
-    match records::node_at(nodes, n) {
+    match records::node(nodes, n) {
         NodeRecord::Identity => false,
         NodeRecord::Letter { qubit, .. } => is_set(numbers, u, ACTED, qubit),
         NodeRecord::Product { left, right } => {

@@ -53,7 +53,7 @@ pub fn evaluate(words: &mut [u64], numbers: &[u32], shape: Shape, x: NodeRecord)
             Phase(0)
         }
         NodeRecord::Letter { qubit, letter } => {
-            letter::put_letter(words, at, shape.l, qubit, letter.into());
+            letter::put_letter(words, at, shape.l, qubit, letter);
             Phase(0)
         }
         NodeRecord::Product { left, right } => evaluate_product(words, numbers, shape, left, right),

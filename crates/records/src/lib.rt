@@ -3,7 +3,18 @@
 
 ghost use Rattle.std.specs.Prelude.{◌≡◌, ◌+◌, ◌*◌, ◌≤◌, length};
 ghost use Rattle.records.specs.Kinds.{kind_record, kind_number};
-ghost use Rattle.records.specs.Records.{factor_record, node_record, operation_record, row_record};
+ghost use Rattle.records.specs.Records.{node_record, operation_record, row_record};
+ghost use Rattle.records.specs.Numbers.{node_numbers, node_numbered, operation_numbers, operation_numbered};
+
+// A node's numbers as they stand, whatever its kind: a letter's qubit and letter are in the left factor's two fields.
+#[derive(Clone, Copy)]
+pub struct NodeNumbers {
+    pub kind: u32,
+    pub left: u32,
+    pub left_phase: u32,
+    pub right: u32,
+    pub right_phase: u32,
+}
 
 // What a product multiplies: a node, with a phase.
 #[derive(Clone, Copy)]
@@ -19,6 +30,31 @@ pub enum NodeRecord {
     // The letter is a number still: a record says the model's node before Checking has tested that it is at most 3.
     Letter { qubit: usize, letter: u32 },
     Product { left: Factor, right: Factor },
+}
+
+impl From<NodeNumbers> for NodeRecord {
+    ghost from_gives = { λ r n. n ≡ node_numbered r };
+
+    fn from(r: NodeNumbers) -> NodeRecord {
+        let left = Factor {
+            node: r.left as usize,
+            phase: r.left_phase,
+        };
+        match r.kind {
+            0 => NodeRecord::Identity,
+            1 => NodeRecord::Letter {
+                qubit: left.node,
+                letter: left.phase,
+            },
+            _ => NodeRecord::Product {
+                left,
+                right: Factor {
+                    node: r.right as usize,
+                    phase: r.right_phase,
+                },
+            },
+        }
+    }
 }
 
 // What an operation does, as document 01 numbers it.
@@ -49,6 +85,17 @@ impl From<OperationKind> for u32 {
     }
 }
 
+// An operation's numbers as they stand, its kind's too.
+#[derive(Clone, Copy)]
+pub struct OperationNumbers {
+    pub kind: u32,
+    pub node: u32,
+    pub phase: u32,
+    pub angle: u32,
+    pub outcome: u32,
+    pub target: u32,
+}
+
 // An operation.
 #[derive(Clone, Copy)]
 pub struct OperationRecord {
@@ -60,6 +107,21 @@ pub struct OperationRecord {
     pub target: u32,
 }
 
+impl From<OperationNumbers> for OperationRecord {
+    ghost from_gives = { λ r o. o ≡ operation_numbered r };
+
+    fn from(r: OperationNumbers) -> OperationRecord {
+        OperationRecord {
+            kind: r.kind.into(),
+            node: r.node,
+            phase: r.phase,
+            angle: r.angle,
+            outcome: r.outcome,
+            target: r.target,
+        }
+    }
+}
+
 // A frame row: qubit, 0 x or 1 z, and the node and phase that it refers to; nothing tests the half, so it stays a number.
 #[derive(Clone, Copy)]
 pub struct RowRecord {
@@ -69,47 +131,51 @@ pub struct RowRecord {
     pub phase: u32,
 }
 
-fn factor_at(nodes: &[u32], at: usize) -> Factor
-    requires { at + 2 ≤ length nodes.now }
-    ensures { result ≡ factor_record nodes.now at }
+// The numbers of node n.
+pub fn node_at(nodes: &[u32], n: usize) -> NodeNumbers
+    requires { n * 5 + 5 ≤ length nodes.now }
+    ensures { result ≡ node_numbers nodes.now n }
 {
-    Factor {
-        node: nodes[at] as usize,
-        phase: nodes[at + 1],
+    let at = n * 5;
+    NodeNumbers {
+        kind: nodes[at],
+        left: nodes[at + 1],
+        left_phase: nodes[at + 2],
+        right: nodes[at + 3],
+        right_phase: nodes[at + 4],
     }
 }
 
-pub fn node_at(nodes: &[u32], n: usize) -> NodeRecord
+// Node n.
+pub fn node(nodes: &[u32], n: usize) -> NodeRecord
     requires { n * 5 + 5 ≤ length nodes.now }
     ensures { result ≡ node_record nodes.now n }
 {
-    let at = n * 5;
-    match nodes[at] {
-        0 => NodeRecord::Identity,
-        1 => NodeRecord::Letter {
-            qubit: nodes[at + 1] as usize,
-            letter: nodes[at + 2],
-        },
-        _ => NodeRecord::Product {
-            left: factor_at(nodes, at + 1),
-            right: factor_at(nodes, at + 3),
-        },
-    }
+    node_at(nodes, n).into()
 }
 
-pub fn operation_at(operations: &[u32], i: usize) -> OperationRecord
+// The numbers of operation i.
+pub fn operation_at(operations: &[u32], i: usize) -> OperationNumbers
     requires { i * 6 + 6 ≤ length operations.now }
-    ensures { result ≡ operation_record operations.now i }
+    ensures { result ≡ operation_numbers operations.now i }
 {
     let at = i * 6;
-    OperationRecord {
-        kind: operations[at].into(),
+    OperationNumbers {
+        kind: operations[at],
         node: operations[at + 1],
         phase: operations[at + 2],
         angle: operations[at + 3],
         outcome: operations[at + 4],
         target: operations[at + 5],
     }
+}
+
+// Operation i.
+pub fn operation(operations: &[u32], i: usize) -> OperationRecord
+    requires { i * 6 + 6 ≤ length operations.now }
+    ensures { result ≡ operation_record operations.now i }
+{
+    operation_at(operations, i).into()
 }
 
 pub fn row_at(rows: &[u32], i: usize) -> RowRecord
@@ -139,7 +205,7 @@ impl<'a> Records<'a> {
         requires { n * 5 + 5 ≤ length self.nodes.now }
         ensures { result ≡ node_record self.entry.nodes.now n }
     {
-        node_at(self.nodes, n)
+        node(self.nodes, n)
     }
 
     // Operation i.
@@ -147,7 +213,7 @@ impl<'a> Records<'a> {
         requires { i * 6 + 6 ≤ length self.operations.now }
         ensures { result ≡ operation_record self.entry.operations.now i }
     {
-        operation_at(self.operations, i)
+        operation(self.operations, i)
     }
 
     // Frame row i.

@@ -123,7 +123,7 @@ pub fn record_of(operations: &[u32], x: Tagged) -> OperationResult
             target: NO_OUTCOME,
         };
     }
-    let o = records::operation_at(operations, x.tag as usize - 1);
+    let o = records::operation(operations, x.tag as usize - 1);
     barrier_record(o, x)
 }
 

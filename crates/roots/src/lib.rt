@@ -48,7 +48,7 @@ fn link_operation(operations: &[u32], numbers: &mut [u32], u: usize, i: usize)
     requires { OperationPre operations.now numbers.old u i }
     ensures { InFront numbers.old u i (operation_record operations.now i).node numbers.new }
 {
-    let node = records::operation_at(operations, i).node as usize;
+    let node = records::operation(operations, i).node as usize;
     link(numbers, u, i, node);
 }
 
@@ -101,7 +101,7 @@ fn use_children(nodes: &[u32], numbers: &mut [u32], u: usize, n: usize)
     requires { UsePre nodes.now numbers.old u n }
     ensures { ChildrenUsed nodes.now numbers.old u n numbers.new }
 {
-    let NodeRecord::Product { left, right } = records::node_at(nodes, n) else {
+    let NodeRecord::Product { left, right } = records::node(nodes, n) else {
         return;
     };
     if store::read(&numbers[..], u, USES, n) == 0 {

@@ -10,8 +10,8 @@ use std::io;
 // Letters a and b on two qubits.
 fn word(a: Letter, b: Letter) -> [u64; 2] {
     let mut w = [0u64; 4];
-    letter::put_letter(&mut w, 0, 1, 0, a);
-    letter::put_letter(&mut w, 2, 1, 1, b);
+    letter::write_letter(&mut w, 0, 1, 0, a);
+    letter::write_letter(&mut w, 2, 1, 1, b);
     product::product_in(&mut w, 0, 2, 0, 1);
     [w[0], w[1]]
 }
@@ -70,7 +70,7 @@ fn show_bucket(rt: &impl Print, q: usize) -> io::Result<()>
 {
     let l = pauli::width(65);
     let mut w = [0u64; 4];
-    letter::put_letter(&mut w, 0, l, q, X);
+    letter::write_letter(&mut w, 0, l, q, X);
     let s = support::support_signature(&w, l);
     println!(rt; "qubit {q} in bucket {}", s.trailing_zeros())
 }

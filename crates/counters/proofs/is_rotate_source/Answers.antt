@@ -8,5 +8,5 @@ use Rattle.counters.proofs.is_rotate_source.Goals as goal
 
 pub returns : goal.returns
 returns c =
-    let o = c.operation_at in
+    let o = c.operation in
     c.eq.ensures ∙ rotate_source o.result ∙ ap (λ (x : OperationRecord). is_rotate (operation_said x).kind) o.ensures

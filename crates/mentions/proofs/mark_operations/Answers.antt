@@ -11,7 +11,7 @@ pub loop-i-preserved : goal.loop-i-preserved
 loop-i-preserved c = (
   omega arith,
   search rules,
-  marked_next c.requires (omega arith) c.loop-i.invariant.2 c.operation_at-node.result
-      c.operation_at-node.ensures
+  marked_next c.requires (omega arith) c.loop-i.invariant.2 c.operation-node.result
+      c.operation-node.ensures
       c.write.ensures,
 )

@@ -12,15 +12,15 @@ returns-then-is_rotation c =
 pub overflow_sub-x : goal.overflow_sub-x
 overflow_sub-x c = omega (arith, barrier_tag _ c.is_rotation.ensures c.if-is_rotation.false)
 
-pub operation_at-o-requires : goal.operation_at-o-requires
-operation_at-o-requires c = (c.requires (barrier_tag _ c.is_rotation.ensures c.if-is_rotation.false)).long
+pub operation-o-requires : goal.operation-o-requires
+operation-o-requires c = (c.requires (barrier_tag _ c.is_rotation.ensures c.if-is_rotation.false)).long
 
 pub barrier_record-requires : goal.barrier_record-requires
 barrier_record-requires c =
     let b = c.requires (barrier_tag _ c.is_rotation.ensures c.if-is_rotation.false) in
-    rw c.operation_at-o.ensures (b.kind, b.angle)
+    rw c.operation-o.ensures (b.kind, b.angle)
 
 pub returns : goal.returns
 returns c =
-    barrier_record_lem _ _ _ _ (barrier_tag _ c.is_rotation.ensures c.if-is_rotation.false) c.operation_at-o.ensures
+    barrier_record_lem _ _ _ _ (barrier_tag _ c.is_rotation.ensures c.if-is_rotation.false) c.operation-o.ensures
     c.barrier_record.ensures

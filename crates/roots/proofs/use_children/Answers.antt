@@ -4,7 +4,7 @@ use Rattle.roots.specs.UseLaws.{leaf_used, unused, second_add, both_used}
 use Rattle.roots.proofs.use_children.Goals as goal
 
 pub returns-in_default : goal.returns-in_default
-returns-in_default c = leaf_used _ _ _ _ c.node_at.ensures c.in_default.not-Product
+returns-in_default c = leaf_used _ _ _ _ c.node.ensures c.in_default.not-Product
 
 pub returns-then-read-eq0 : goal.returns-then-read-eq0
 returns-then-read-eq0 c = unused _ _ _ _ (sym c.read.ensures ∙ c.if-read-eq0.true)

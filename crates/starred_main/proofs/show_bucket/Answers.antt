@@ -3,9 +3,9 @@ use Rattle.std.proofs.Common.{◌≡◌, arith}
 use Rattle.pauli.specs.Word.{width}
 use Rattle.starred_main.proofs.show_bucket.Goals as goal
 
-pub put_letter-requires : goal.put_letter-requires
+pub write_letter-requires : goal.write_letter-requires
 unfolding width
-put_letter-requires g c =
+write_letter-requires g c =
     let two : c.width-l.result ≡ 2 = c.width-l.ensures in
     (omega (arith, two), omega (arith, two, c.requires))
 

@@ -1,19 +1,26 @@
--- Each of the eight remainders stands for its signed angle, by one test over them. Assumes nothing.
-use Rattle.std.proofs.Common.{ℕ, ◌%◌, Bool, cond, pos, ◌-ℤ◌, to_z, of_z, w8, arith}
-use Rattle.std.specs.Int.Signed.{le_z}
+-- The table's rule, by one test over its eight entries. Assumes nothing.
+use mathlib.Core.List.{List, [], ◌∷◌}
+use mathlib.Core.Bool.{Bool}
+use Prim.Native.Nat.{ℕ, ◌%◌}
+use lib.IntN.{ℤ, pos, negsuc}
+use lib.ListN.{get_or}
+use mir.Syntax.{w8}
+use mir.Val.{to_z, of_z}
 use Rattle.angle.specs.Angle.{pick, signed_angle}
-use Rattle.store.specs.Table.{below, eq_z, eq_z→eq}
+use Rattle.store.specs.Table.{at, eq_z, eq_z→eq}
+use native.Mathlib.Omega.{arith}
 use Rattle.angle.proofs.PauliAngle.signed_eighths.Goals as goal
 
-right : ℕ → Bool
+table : List ℤ
+table = pos 0 ∷ pos 1 ∷ pos 2 ∷ pos 3 ∷ pos 4 ∷ negsuc 2 ∷ negsuc 1 ∷ negsuc 0 ∷ []
+
+-- an entry, as the machine holds it, is the signed angle of its place
+right : ℕ → ℤ → Bool
 unfolding signed_angle pick
-right k =
-    cond (le_z (to_z w8 k) (pos 4)) (eq_z (to_z w8 k) (signed_angle k)) (eq_z (to_z w8 (of_z w8 (to_z w8 k -ℤ pos 8))) (signed_angle k))
+right k x = eq_z (to_z w8 (of_z w8 x)) (signed_angle k)
 
-pub returns-then-k-le4 : goal.returns-then-k-le4
-unfolding right signed_angle pick
-returns-then-k-le4 c = let k = c.args.self.0 % 8 in eq_z→eq _ _ (rw c.if-k-le4.true at (below right 8 tt k (omega arith)))
-
-pub returns-else-k-le4 : goal.returns-else-k-le4
-unfolding right signed_angle pick
-returns-else-k-le4 c = let k = c.args.self.0 % 8 in eq_z→eq _ _ (rw c.if-k-le4.false at (below right 8 tt k (omega arith)))
+pub returns : goal.returns
+unfolding table right signed_angle pick
+returns c =
+    let k = c.args.self.0 % 8 in
+    eq_z→eq (to_z w8 (of_z w8 (get_or table k (pos 0)))) (signed_angle k) (at right (pos 0) table tt k (omega arith))

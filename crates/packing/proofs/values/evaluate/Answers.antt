@@ -1,6 +1,4 @@
 -- Three kinds of nodes: the scratch word is zeros, a letter, or a product. Assumes nothing.
-use Rattle.std.proofs.Common.{◌∙◌}
-use Rattle.letter.specs.Letters.{single_numbered}
 use Rattle.packing.specs.ValueLaws.{evaluated_identity, evaluated_letter}
 use Rattle.packing.proofs.values.evaluate.Goals as goal
 
@@ -10,4 +8,4 @@ returns-in-Identity c =
 
 pub returns-in-Letter : goal.returns-in-Letter
 returns-in-Letter c =
-    evaluated_letter _ _ _ _ _ _ c.scratch_at-at.ensures c.in-Letter.is (c.put_letter.ensures ∙ rw (c.into.ensures, single_numbered))
+    evaluated_letter _ _ _ _ _ _ c.scratch_at-at.ensures c.in-Letter.is c.put_letter.ensures
